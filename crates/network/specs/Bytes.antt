@@ -1,0 +1,42 @@
+-- Document 01, "Bytes": numbers of several bytes, low byte first, two's complement, and marks.
+use mathlib.Core.Bool.{Bool, _&&_}
+use mathlib.Core.List.{List, [], _∷_}
+use Prim.Native.Nat.{ℕ, suc, _+_, _*_, _/_, _%_, zero}
+use lib.Dec.{eqb}
+use lib.IntN.{ℤ}
+use lib.ListN.{getD}
+use mir.Syntax.{w16}
+use mir.Val.{ofZ, toZ}
+
+-- the byte at an index; 0 past the end
+abbrev pub byteAt : List ℕ → ℕ → ℕ
+byteAt bs i = getD bs i 0
+
+-- the number of two bytes
+abbrev pub u16At : List ℕ → ℕ → ℕ
+u16At bs i = byteAt bs i + byteAt bs (i + 1) * 256
+
+-- the number of four bytes
+abbrev pub u32At : List ℕ → ℕ → ℕ
+u32At bs i = u16At bs i + u16At bs (i + 2) * 65536
+
+-- the number that sixteen bits mean in two's complement: u below 32,768, and u - 65,536 from there on
+unfoldable pub signed : ℕ → ℤ
+signed u = toZ w16 u
+
+-- the signed number of two bytes
+abbrev pub i16At : List ℕ → ℕ → ℤ
+i16At bs i = signed (u16At bs i)
+
+-- the sixteen bits that mean z in two's complement
+unfoldable pub bitsOf : ℤ → ℕ
+bitsOf z = ofZ w16 z
+
+-- the k low bytes of a number, low byte first
+abbrev pub littleEndian : ℕ → ℕ → List ℕ
+littleEndian zero n = []
+littleEndian (suc k) n = n % 256 ∷ littleEndian k (n / 256)
+
+-- the mark at an index is this one, exactly
+abbrev pub markAt : List ℕ → ℕ → List ℕ → Bool
+markAt bs i mark = eqb (byteAt bs i) (byteAt mark 0) && eqb (byteAt bs (i + 1)) (byteAt mark 1)

@@ -1,0 +1,37 @@
+-- Document 01, "Fetching plan r": numbers 12 and 13, and the link bytes of the plan as a part of the list.
+use mathlib.Core.Bool.{Bool, _||_, cond, not}
+use mathlib.Core.List.{List, []}
+use Prim.Native.Nat.{ℕ, _+_, _*_}
+use lib.Dec.{eqb, ltb}
+use lib.ListN.{drop, length, take}
+use Rattle.network.specs.Limits.{maxCeilings, maxPlans, maxTree}
+use Rattle.network.specs.Bytes.{byteAt, markAt, u16At}
+use Rattle.network.specs.PlanList.{headMark, headSize, planMark, planSize}
+
+-- what a list head says: the plan count, t, and p
+abbrev pub countIn : List ℕ → ℕ
+countIn list = u16At list 2
+
+abbrev pub treeSizeIn : List ℕ → ℕ
+treeSizeIn list = byteAt list 8
+
+abbrev pub ceilingsIn : List ℕ → ℕ
+ceilingsIn list = byteAt list 9
+
+-- where plan r's record starts; its link bytes start 10 bytes later, at 20 + r × (10 + t)
+abbrev pub planStart : List ℕ → ℕ → ℕ
+planStart list r = headSize + r * planSize (treeSizeIn list)
+
+-- the list is damaged, whichever plan is asked for
+unfoldable pub damaged : List ℕ → Bool
+damaged list =
+    ltb (length list) headSize || not (markAt list 0 headMark) || ltb maxPlans (countIn list) || ltb maxTree (treeSizeIn list)
+    || ltb maxCeilings (ceilingsIn list) || ltb (length list) (planStart list (countIn list))
+
+-- the number: 12 if the list is damaged, then 13 if r is not below the plan count, then 12 if plan r's mark is wrong, and else 0
+unfoldable pub fetchNumber : List ℕ → ℕ → ℕ
+fetchNumber list r = cond (damaged list) 12 (cond (ltb r (countIn list)) (cond (markAt list (planStart list r) planMark) 0 12) 13)
+
+-- the t link bytes of plan r, a part of the list; an empty part if the number is not 0
+unfoldable pub fetchLinks : List ℕ → ℕ → List ℕ
+fetchLinks list r = cond (eqb (fetchNumber list r) 0) (take (treeSizeIn list) (drop (planStart list r + 10) list)) []

@@ -1,0 +1,20 @@
+-- Document 01 as definitions. In the document's order:
+-- its numbers
+pub mod Limits
+-- the yard and its plans: stations, links, trees, cost vectors, the best tree under ceilings
+pub mod Yard
+-- the walk: positions, solved count, allowance, the list
+pub mod Walk
+-- bytes: numbers, two's complement, marks; arrays filled record by record; the survey; the plan list
+pub mod Bytes
+pub mod Column
+pub mod Survey
+pub mod PlanList
+-- when the planner declines: the first of several refusals, numbers 1 to 8, then the calls with 9, 10, 11, 14
+pub mod Checked
+pub mod Refusals
+pub mod Calls
+-- fetching: 12, 13
+pub mod Fetching
+-- printing
+pub mod Printing

@@ -1,0 +1,34 @@
+-- The numbers of document 01, each named once.
+use Prim.Native.Nat.{ℕ, _*_, _-_}
+
+-- stations: 1 to 24
+abbrev pub maxStations : ℕ
+maxStations = 24
+
+-- links: 0 to 40
+abbrev pub maxLinks : ℕ
+maxLinks = 40
+
+-- p, the number of ceiling costs: 0 to 2
+abbrev pub maxCeilings : ℕ
+maxCeilings = 2
+
+-- k, the rank of a ceiling cost: 1 to 3
+abbrev pub maxRank : ℕ
+maxRank = 3
+
+-- s, the sum cost of a link: 0 to 1,000,000
+abbrev pub maxSum : ℕ
+maxSum = 1_000_000
+
+-- t, the links of a tree: at most 23
+abbrev pub maxTree : ℕ
+maxTree = maxStations - 1
+
+-- M, the number of positions, and so the plans of a list: at most 1,600
+abbrev pub maxPlans : ℕ
+maxPlans = maxLinks * maxLinks
+
+-- what the program takes of standard input, in bytes
+abbrev pub maxInput : ℕ
+maxInput = 4096

@@ -1,0 +1,74 @@
+-- Document 01, "When the planner declines": numbers 1 to 8, which a survey alone decides, in the table's order and with their places.
+use Prim.Native.Nat.{ℕ, _+_, _-_, _*_, _%_}
+use mathlib.Core.Bool.{Bool, not, _&&_, _||_}
+use mathlib.Core.List.{List}
+use lib.ListN.{length}
+use lib.Dec.{leb, ltb, eqb}
+use Rattle.network.specs.Limits.{maxCeilings, maxLinks, maxRank, maxStations, maxSum}
+use Rattle.network.specs.Bytes.{byteAt, markAt, u16At}
+use Rattle.network.specs.Survey.{ceilingsIn, layoutOf, linkCount, linkMark, linkStart, stationsIn, sumIn}
+use Rattle.network.specs.Checked.{refuseIf, _orElse_, firstRefusal}
+use Rattle.network.specs.declared.Checked.{Checked}
+use Rattle.network.specs.declared.Layout.{Layout}
+
+-- x is not from low to high
+abbrev pub outside : ℕ → ℕ → ℕ → Bool
+outside x low high = ltb x low || ltb high x
+
+-- 1: under a yard record, or the rest no multiple of a link record
+unfoldable pub badLength : Layout → ℕ → Bool
+badLength l len = ltb len (l .yard) || not (eqb ((len - l .yard) % l .link) 0)
+
+-- 6, of the k of ceiling j, from 0: a present k is 1 to 3 and never above t, so below n; an absent k is 0
+abbrev pub badRank : ℕ → ℕ → ℕ → ℕ → Bool
+badRank n p j k = (ltb j p && (outside k 1 maxRank || leb n k)) || (leb p j && not (eqb k 0))
+
+-- 6: a k against its rule, or both above 1
+abbrev pub badRanks : ℕ → ℕ → ℕ → ℕ → Bool
+badRanks n p k1 k2 = badRank n p 0 k1 || badRank n p 1 k2 || (ltb 1 k1 && ltb 1 k2)
+
+-- 7, of the link record at an index: an end is not below n, or both are equal
+abbrev pub badEnds : List ℕ → ℕ → ℕ → Bool
+badEnds s at n = leb n (byteAt s (at + 2)) || leb n (byteAt s (at + 3)) || eqb (byteAt s (at + 2)) (byteAt s (at + 3))
+
+-- 8: the cost of ceiling j, from 0, is not 0 though that ceiling is absent
+abbrev pub absentCost : List ℕ → ℕ → ℕ → ℕ → Bool
+absentCost s at p j = leb p j && not (eqb (u16At s (at + 8 + 2 * j)) 0)
+
+-- 8: s is over 1,000,000, or an absent ceiling's cost is not 0
+abbrev pub badCosts : List ℕ → ℕ → ℕ → Bool
+badCosts s at p = ltb maxSum (sumIn s at) || absentCost s at p 0 || absentCost s at p 1
+
+-- the yard record of a survey with m links: its mark, 3, 4, 5, 6, all at place 0
+unfoldable pub yardChecked : List ℕ → Layout → ℕ → Checked
+yardChecked s l m =
+    refuseIf (not (l .known)) 2 0
+    orElse refuseIf (outside (stationsIn s) 1 maxStations) 3 0
+    orElse refuseIf (ltb maxLinks m) 4 0
+    orElse refuseIf (ltb maxCeilings (ceilingsIn s)) 5 0
+    orElse refuseIf (badRanks (stationsIn s) (ceilingsIn s) (byteAt s 4) (byteAt s 5)) 6 0
+
+-- the link record at an index, with n stations and p ceilings: its mark, 7, 8
+unfoldable pub linkChecked : List ℕ → ℕ → ℕ → ℕ → ℕ → Checked
+linkChecked s at n p place =
+    refuseIf (not (markAt s at linkMark)) 2 place
+    orElse refuseIf (badEnds s at n) 7 place
+    orElse refuseIf (badCosts s at p) 8 place
+
+-- link i of a survey: its place is the link number plus 1
+abbrev pub linkCheckedAt : List ℕ → Layout → ℕ → Checked
+linkCheckedAt s l i = linkChecked s (linkStart l i) (stationsIn s) (ceilingsIn s) (i + 1)
+
+-- the m link records, link by link from 0
+abbrev pub linksChecked : List ℕ → Layout → ℕ → Checked
+linksChecked s l m = firstRefusal (linkCheckedAt s l) m
+
+-- the whole survey: 1, the yard record, then the links
+unfoldable pub checkedWith : Layout → List ℕ → Checked
+checkedWith l s =
+    refuseIf (badLength l (length s)) 1 0
+    orElse (yardChecked s l (linkCount l s) orElse linksChecked s l (linkCount l s))
+
+-- a survey's first refusal; a survey is accepted if this is `Fine`
+abbrev pub checkedOf : List ℕ → Checked
+checkedOf s = checkedWith (layoutOf s) s

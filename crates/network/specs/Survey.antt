@@ -1,0 +1,78 @@
+-- Document 01, "Bytes": the survey, which is one yard record and then link records only, and the network that its bytes say.
+use mathlib.Core.Bool.{cond, false, true}
+use mathlib.Core.List.{List, [], _∷_}
+use Prim.Native.Nat.{ℕ, _+_, _-_, _*_, _/_, _%_}
+use lib.IntN.{ℤ, pos}
+use lib.ListN.{length}
+use Rattle.network.specs.Limits.{maxCeilings, maxLinks}
+use Rattle.network.specs.Bytes.{byteAt, i16At, markAt, u32At}
+use Rattle.network.specs.Column.{column}
+use Rattle.network.specs.declared.Layout.{Layout}
+use Rattle.network.specs.declared.Network.{Network}
+
+-- the mark of the yard record, 59 44, and of a link record, 4C 4B
+abbrev pub yardMark : List ℕ
+yardMark = 0x59 ∷ 0x44 ∷ []
+
+abbrev pub linkMark : List ℕ
+linkMark = 0x4C ∷ 0x4B ∷ []
+
+-- the record sizes that go with the yard mark, and those by which a survey of no known mark is read
+abbrev pub plain : Layout
+plain = record { known = true; yard = 6; link = 12 }
+
+abbrev pub unknown : Layout
+unknown = record { known = false; yard = 6; link = 12 }
+
+-- the first two bytes say which
+unfoldable pub layoutOf : List ℕ → Layout
+layoutOf s = cond (markAt s 0 yardMark) plain unknown
+
+-- how many link records follow the yard record
+abbrev pub linkCount : Layout → List ℕ → ℕ
+linkCount l s = (length s - l .yard) / l .link
+
+-- where link record i starts
+abbrev pub linkStart : Layout → ℕ → ℕ
+linkStart l i = l .yard + i * l .link
+
+-- ---- the fields of the yard record: mark, n, p, k1, k2
+
+abbrev pub stationsIn : List ℕ → ℕ
+stationsIn s = byteAt s 2
+
+abbrev pub ceilingsIn : List ℕ → ℕ
+ceilingsIn s = byteAt s 3
+
+abbrev pub ranksIn : List ℕ → List ℕ
+ranksIn s = byteAt s 4 ∷ byteAt s 5 ∷ []
+
+-- ---- the fields of a link record that starts at an index: mark, two stations, s, c1, c2
+
+abbrev pub endIn : List ℕ → ℕ → ℕ → ℕ
+endIn s at j = byteAt s (at + 2 + j)
+
+abbrev pub sumIn : List ℕ → ℕ → ℕ
+sumIn s at = u32At s (at + 4)
+
+abbrev pub costIn : List ℕ → ℕ → ℕ → ℤ
+costIn s at j = i16At s (at + 8 + 2 * j)
+
+-- ---- the network
+
+-- The network of the yard record and the first m link records: entry q of a column with two entries a link is entry q % 2 of link q / 2.
+unfoldable pub networkWith : Layout → List ℕ → ℕ → Network
+networkWith l s m =
+    record {
+      n = stationsIn s;
+      p = ceilingsIn s;
+      k = ranksIn s;
+      m = m;
+      ends = column (2 * maxLinks) 0 (λ q. endIn s (linkStart l (q / 2)) (q % 2)) (2 * m);
+      sums = column maxLinks 0 (λ i. sumIn s (linkStart l i)) m;
+      costs = column (maxCeilings * maxLinks) (pos 0) (λ q. costIn s (linkStart l (q / maxCeilings)) (q % maxCeilings)) (maxCeilings * m);
+    }
+
+-- the network of a survey
+abbrev pub networkOf : List ℕ → Network
+networkOf s = networkWith (layoutOf s) s (linkCount (layoutOf s) s)

@@ -1,0 +1,45 @@
+// The data model that all code shares. What the values mean, and document 01 as definitions, is in specs/.
+
+// A yard: n stations, p ceilings with their ranks k, and m links. Link e joins the stations ends[2 * e] and ends[2 * e + 1], has the sum
+// cost sums[e], and costs[2 * e + i] is its cost by ceiling i. Entries past the links and ranks of absent ceilings are 0.
+pub struct Network {
+    pub n: u8,
+    pub p: u8,
+    pub k: [u8; 2],
+    pub m: usize,
+    pub ends: [u8; 80],
+    pub sums: [u32; 40],
+    pub costs: [i16; 80],
+}
+
+// The costs of a plan: the sum, and the ceiling costs, 0 where a ceiling is absent.
+pub struct Costs {
+    pub sum: u32,
+    pub y1: i16,
+    pub y2: i16,
+}
+
+// The number of a refusal, and its place: 0 for the yard record, the link number plus 1 for a link.
+pub struct Refusal {
+    pub number: u8,
+    pub place: u8,
+}
+
+// The reply to a ceilings question, or of the judge of a drawn tree.
+pub enum Answer {
+    Plan(Costs),
+    Refused(Refusal),
+}
+
+// What a check finds: nothing, or the first refusal.
+pub enum Checked {
+    Fine,
+    Refused(Refusal),
+}
+
+// Which yard record a survey has: whether its mark is known, and how many bytes the yard record and a link record take.
+pub struct Layout {
+    pub known: bool,
+    pub yard: usize,
+    pub link: usize,
+}

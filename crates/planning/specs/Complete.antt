@@ -1,0 +1,145 @@
+-- A set of exceptional links, completed by Kruskal's method over the normal links, is the best tree with these exceptional links: what the search
+-- of `kmax` asks of a completion. Assumes nothing.
+use mathlib.Core.Bool.{Bool, true, false, _&&_, not}
+use mathlib.Core.List.{List, map, _++_, List·Memᴰ·append-cases, Memᴰ·append-left, Sublistᴰ}
+use mathlib.Core.Logic.{_↔_, ⊎-elim}
+use mathlib.Core.Option.{some, Option·some-injective, Option·none-ne-some}
+use mathlib.Core.Path.{_≡_, sym, subst}
+use Prim.Native.Nat.{ℕ, _-_, _<_}
+use native.Mathlib.Omega.{arith}
+use lib.Dec.{eqb}
+use lib.IntN.{ℤ}
+use lib.ListN.{length}
+use borrow.Author.Tests.{not-true, eqb-true, eq-eqb}
+use Rattle.order.specs.Test.{by-test, clash, left, right}
+use Rattle.order.specs.Lists.{_∈_, _⊆_, filter, filter-mem, mem-filter, sublist-⊆}
+use Rattle.order.specs.Perm.{Perm, pairwise-filter, perm-split, perm-sym, perm-⊆}
+use Rattle.order.specs.Order.{Less, dictionary, orderℕ, orderℤ, pairLe, pairs}
+use Rattle.order.specs.Sorted.{Sorted, ascending, mem-numbers, mem-sort, numbers-mem, numbers-rising, rising-unique, sort-mem, sort-rising, sort-sorted, sublist-rising}
+use Rattle.order.specs.Least.{ranked}
+use Rattle.spanning.specs.Tree.{Forest, SpanningTree, identity, isForest}
+use Rattle.spanning.specs.Size.{isForest-iff}
+use Rattle.spanning.specs.Rising.{RisingIn, rising-range}
+use Rattle.spanning.specs.Ties.{tieWeight}
+use Rattle.spanning.specs.Best.{added, added-among, best-spans, best-tree, byCost, byCost-weight, forest-apart, whole, whole-below, whole-tree}
+use Rattle.spanning.specs.Listing.{ascending-listed, listing-iff, spanningTrees}
+use Rattle.kmax.specs.Ceilings.{exceptional}
+use Rattle.kmax.specs.Search.{Completes}
+use Rattle.planning.specs.Graph.{Graph, Sound, completed, links, normals, total, under}
+
+module _ (G : Graph) (S : Sound G) where
+  open Graph G using (n, m, ends, s, cost, ks)
+
+  -- the completion succeeds exactly where X and the added links are a spanning tree, and gives that in rising order
+  module _ (cs X : List ℕ) (below-cs : (c : ℕ) → c ∈ cs → c < m) (below-X : (c : ℕ) → c ∈ X → c < m) where
+    spans : SpanningTree n (map ends (whole ends cs X)) ↔ (Forest identity (map ends X) × (length (whole ends cs X) ≡ n - 1))
+    spans = whole-tree ends n m (S .stations) (S .within) cs X below-cs below-X
+
+    pub completed-some : (ts : List ℕ) → completed G cs X ≡ some ts → SpanningTree n (map ends (whole ends cs X)) × (ts ≡ ascending (whole ends cs X))
+    unfolding completed
+    completed-some ts e =
+        let us : List ℕ = whole ends cs X in
+        let f : Bool = isForest identity (map ends X) in
+        by-test {P = SpanningTree n (map ends us) × (ts ≡ ascending us)} (f && eqb (length us) (n - 1))
+        (λ k. (
+          spans .1 (isForest-iff identity (map ends X) .0 (left f (eqb (length us) (n - 1)) k), eqb-true (length us) (n - 1) (right f (eqb (length us) (n - 1)) k)),
+          sym (Option·some-injective (ascending us) ts (rw k at e)),
+        ))
+        (λ k. absurd (Option·none-ne-some ts (rw k at e)))
+
+    pub completed-tree : SpanningTree n (map ends (whole ends cs X)) → completed G cs X ≡ some (ascending (whole ends cs X))
+    unfolding completed
+    completed-tree t =
+        let r = spans .0 t in
+        rw (isForest-iff identity (map ends X) .1 (r .0), eq-eqb (length (whole ends cs X)) (n - 1) (r .1))
+
+  -- the completion of `kmax`'s search, under the bounds bs
+  module _ (bs : List ℤ) where
+    abbrev odd : ℕ → Bool
+    odd = exceptional orderℤ (under G bs)
+
+    abbrev candidates : List ℕ
+    candidates = byCost s (normals G bs)
+
+    link-below : (c : ℕ) → c ∈ links G → c < m
+    link-below c k = let r = numbers-mem m 0 c k in omega arith
+
+    candidate : (c : ℕ) → c ∈ candidates → (c < m) × (odd c ≡ false)
+    candidate c k =
+        let r = filter-mem (λ c. not (odd c)) (links G) (sort-mem (pairs orderℕ orderℕ) (ranked s (λ c. c)) (normals G bs) k) in
+        (link-below c (r .0), not-true (odd c) (r .1))
+
+    candidates-sorted : Sorted orderℕ (tieWeight s m) candidates
+    candidates-sorted =
+        rw (byCost-weight s m (normals G bs) (λ c k. link-below c (filter-mem (λ c. not (odd c)) (links G) k .0))) (sort-sorted orderℕ (tieWeight s m) (normals G bs))
+
+    -- the completion of X is a tree whose exceptional links are X
+    sound : (X ts : List ℕ) → Sublistᴰ X (filter odd (links G)) → completed G candidates X ≡ some ts
+        → (ts ∈ spanningTrees ends n m) × (filter odd ts ≡ X)
+    sound X ts sub e = (subst (λ (us : List ℕ). us ∈ spanningTrees ends n m) (sym (c .1)) listed, rw (c .1) same)
+      where
+        us : List ℕ
+        us = whole ends candidates X
+
+        X-odd : (x : ℕ) → x ∈ X → (x < m) × (odd x ≡ true)
+        X-odd x k = let r = filter-mem odd (links G) (sublist-⊆ sub x k) in (link-below x (r .0), r .1)
+
+        below : (t : ℕ) → t ∈ us → t < m
+        below = whole-below ends n m (S .stations) (S .within) candidates X (λ c k. candidate c k .0) (λ x k. X-odd x k .0)
+
+        c : SpanningTree n (map ends us) × (ts ≡ ascending us)
+        c = completed-some candidates X (λ c k. candidate c k .0) (λ x k. X-odd x k .0) ts e
+
+        listed : ascending us ∈ spanningTrees ends n m
+        listed = ascending-listed ends n m (S .stations) (S .within) us below (c .0)
+
+        to : (x : ℕ) → x ∈ filter odd (ascending us) → x ∈ X
+        to x k =
+            let r = filter-mem odd (ascending us) k in
+            ⊎-elim
+            (λ i. i)
+            (λ i. clash (r .1) (candidate x (added-among ends n m (S .stations) (S .within) candidates X (λ c k. candidate c k .0) (λ x k. X-odd x k .0) x i) .1))
+            (List·Memᴰ·append-cases X (sort-mem orderℕ (λ x. x) us (r .0)))
+
+        from : (x : ℕ) → x ∈ X → x ∈ filter odd (ascending us)
+        from x k = mem-filter odd (mem-sort orderℕ (λ x. x) (Memᴰ·append-left (added ends candidates X) k)) (X-odd x k .1)
+
+        same : filter odd (ascending us) ≡ X
+        same =
+            rising-unique orderℕ (λ x. x) (filter odd (ascending us)) X
+            (pairwise-filter odd (λ x y. Less orderℕ x y) (ascending us) (sort-rising orderℕ (λ x. x) us (forest-apart ends identity us (c .0 .forest))))
+            (sublist-rising orderℕ (λ x. x) sub (pairwise-filter odd (λ x y. Less orderℕ x y) (links G) (numbers-rising m 0))) to from
+
+    -- and no tree whose exceptional links are X is better
+    optimal : (X ts : List ℕ) → ts ∈ spanningTrees ends n m → filter odd ts ≡ X
+        → (us : List ℕ) × (completed G candidates X ≡ some us) × (pairLe orderℤ (dictionary orderℕ) (total G us, us) (total G ts, ts) ≡ true)
+    optimal X ts k q = (
+      ascending (whole ends candidates X),
+      completed-tree candidates X (λ c i. candidate c i .0) X-below
+          (best-spans ends n m (S .stations) (S .within) candidates X (λ c i. candidate c i .0) X-below s candidates-sorted ts rest (listed .0) (listed .1) split among),
+      best-tree ends n m (S .stations) (S .within) candidates X (λ c i. candidate c i .0) X-below s candidates-sorted ts rest (listed .0) (listed .1) split among,
+    )
+      where
+        rest : List ℕ
+        rest = filter (λ c. not (odd c)) ts
+
+        listed : RisingIn 0 m ts × SpanningTree n (map ends ts)
+        listed = listing-iff ends n m (S .stations) (S .within) ts .0 k
+
+        below : (t : ℕ) → t ∈ ts → t < m
+        below t i = rising-range 0 m ts (listed .0) t i .1
+
+        split : Perm ts (X ++ rest)
+        split = subst (λ (Y : List ℕ). Perm ts (Y ++ rest)) q (perm-split odd ts)
+
+        X-below : (x : ℕ) → x ∈ X → x < m
+        X-below x i = below x (perm-⊆ (perm-sym split) x (Memᴰ·append-left rest i))
+
+        among : rest ⊆ candidates
+        among x i =
+            let r = filter-mem (λ c. not (odd c)) ts i in
+            let h = below x (r .0) in
+            mem-sort (pairs orderℕ orderℕ) (ranked s (λ c. c)) (mem-filter (λ c. not (odd c)) (mem-numbers m 0 x (omega arith) (omega arith)) (r .1))
+
+    pub completes : Completes orderℤ (under G bs) (pairs orderℤ (dictionary orderℕ)) (ranked (total G) (λ ts. ts)) (completed G candidates) (links G) (spanningTrees ends n m)
+    completes = record { sound = sound; optimal = optimal }

@@ -1,0 +1,101 @@
+-- A graph of stations and links with costs, its spanning trees with their sums and k-max costs as a problem of `frontier`, and the search that
+-- finds the best tree under ceilings without going through all trees. All of it computes on closed data.
+use mathlib.Core.Bool.{cond, _&&_, not}
+use mathlib.Core.List.{List, [], _∷_, map}
+use mathlib.Core.Option.{Option, none, some}
+use Prim.Native.Nat.{ℕ, suc, _-_, _≤_, _<_}
+use lib.Dec.{eqb}
+use lib.IntN.{ℤ, pos}
+use lib.ListN.{length}
+use Rattle.order.specs.Lists.{_∈_, distinct, filter, numbersFrom}
+use Rattle.order.specs.Perm.{sum}
+use Rattle.order.specs.Order.{dictionary, equal, orderℕ, orderℤ, pairs, reverse}
+use Rattle.order.specs.Sorted.{ascending, sort}
+use Rattle.order.specs.Least.{ranked}
+use Rattle.spanning.specs.Labelling.{Edge}
+use Rattle.spanning.specs.Tree.{Within, identity, isForest}
+use Rattle.spanning.specs.Best.{byCost, whole}
+use Rattle.spanning.specs.Listing.{spanningTrees}
+use Rattle.frontier.specs.Frontier.{Problem}
+use Rattle.kmax.specs.KMax.{kmax}
+use Rattle.kmax.specs.Ceilings.{Ceiling, ceilings, exceptional, slackOf}
+use Rattle.kmax.specs.Subsets.{subsets}
+use Rattle.kmax.specs.Search.{searchIn}
+
+-- n stations and m links, both numbered from 0. The link c joins two stations, has the sum cost s c, and costs `cost i c` by ceiling i; ks has
+-- the rank k of each ceiling.
+pub record Graph : Type 0 where
+  pub n : ℕ
+  pub m : ℕ
+  pub ends : ℕ → Edge
+  pub s : ℕ → ℕ
+  pub cost : ℕ → ℕ → ℤ
+  pub ks : List ℕ
+
+-- what a survey is checked for: there is a station, links join stations, and no rank exceeds the number of links of a tree
+pub record Sound (G : Graph) : Type 0 where
+  pub stations : 0 < G .n
+  pub within : (c : ℕ) → c < G .m → Within (G .n) (G .ends c)
+  pub ranks : (k : ℕ) → k ∈ G .ks → (0 < k) × (k ≤ G .n - 1)
+
+module _ (G : Graph) where
+  open Graph G using (n, m, ends, s, cost, ks)
+
+  abbrev pub links : List ℕ
+  links = numbersFrom m 0
+
+  -- ---- the problem
+
+  -- the sum of a tree
+  abbrev pub total : List ℕ → ℤ
+  total ts = pos (sum s ts)
+
+  -- the ceiling costs i, i + 1, .. of a tree, of the ranks js
+  abbrev pub costsFrom : ℕ → List ℕ → List ℕ → List ℤ
+  costsFrom i [] ts = []
+  costsFrom i (k ∷ js) ts = kmax orderℤ k (map (cost i) ts) (pos 0) ∷ costsFrom (suc i) js ts
+
+  -- the different values of ceiling i over all links, in falling order; and those of each ceiling
+  abbrev pub valuesAt : ℕ → List ℤ
+  valuesAt i = sort (reverse orderℤ) (λ v. v) (distinct (equal orderℤ) (map (cost i) links))
+
+  abbrev pub valuesFrom : ℕ → List ℕ → List (List ℤ)
+  valuesFrom i [] = []
+  valuesFrom i (k ∷ js) = valuesAt i ∷ valuesFrom (suc i) js
+
+  -- the spanning trees in dictionary order, by sum and ceiling costs
+  abbrev pub problem : Problem ℤ (List ℕ)
+  problem = record {
+    order = orderℤ;
+    solutions = spanningTrees ends n m;
+    objective = total;
+    ceilings = costsFrom 0 ks;
+    values = valuesFrom 0 ks;
+  }
+
+  -- ---- the search
+
+  -- the ceilings with the bounds bs; the links that exceed one of them, the exceptional ones, and the others, the normal ones
+  abbrev pub under : List ℤ → List (Ceiling ℤ)
+  under bs = ceilings cost 0 ks bs
+
+  abbrev pub exceptionals : List ℤ → List ℕ
+  exceptionals bs = filter (exceptional orderℤ (under bs)) links
+
+  abbrev pub normals : List ℤ → List ℕ
+  normals bs = filter (λ c. not (exceptional orderℤ (under bs) c)) links
+
+  -- X contracted and completed by candidates of cs: each link of X must join two components in turn, and with those added there must be n - 1 links
+  unfoldable pub completed : List ℕ → List ℕ → Option (List ℕ)
+  completed cs X =
+      let ts : List ℕ = whole ends cs X in
+      let tree : Option (List ℕ) = some (ascending ts) in
+      cond (isForest identity (map ends X) && eqb (length ts) (n - 1)) tree none
+
+  -- the best, by sum and then dictionary order, of the completions of the admissible sets among Xs
+  abbrev pub searchSets : List ℤ → List ℕ → List (List ℕ) → Option (List ℕ)
+  searchSets bs cs Xs = searchIn orderℤ (under bs) (pairs orderℤ (dictionary orderℕ)) (ranked total (λ ts. ts)) (completed cs) Xs
+
+  -- the best tree under the bounds bs: over all sets of at most Σ (k - 1) exceptional links, completed by the normal links by cost, then number
+  abbrev pub searchTree : List ℤ → Option (List ℕ)
+  searchTree bs = searchSets bs (byCost s (normals bs)) (subsets (slackOf ks) (exceptionals bs))

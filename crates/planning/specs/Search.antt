@@ -1,0 +1,101 @@
+-- THE THEOREM: the search over sets of exceptional links finds the best tree under the ceilings, for any number of stations, links and ceilings.
+-- It may go over the links that one run of Kruskal's method keeps of the normal ones. Assumes nothing.
+use mathlib.Core.Bool.{Bool, cond, _&&_}
+use mathlib.Core.List.{List, [], _∷_, map, _++_}
+use mathlib.Core.Option.{Option, none, some}
+use mathlib.Core.Path.{_≡_, refl, ap, _∙_, fun-ext}
+use Prim.Native.Nat.{ℕ, suc, _-_, _≤_, _<_}
+use native.Mathlib.Nat.{suc-inj, zero-add}
+use native.Mathlib.Omega.{arith}
+use lib.Dec.{eqb}
+use lib.IntN.{ℤ, pos}
+use lib.ListN.{length, length-map}
+use Rattle.order.specs.Lists.{_∈_}
+use Rattle.order.specs.Order.{dictionary, orderℕ, orderℤ, pairs}
+use Rattle.order.specs.Sorted.{ascending}
+use Rattle.order.specs.Least.{least-ext, ranked}
+use Rattle.spanning.specs.Tree.{identity, isForest, mergeAll-keeps}
+use Rattle.spanning.specs.Kruskal.{greedy-forest, greedy-⊆, kruskal, kruskal-again, kruskal-greedy}
+use Rattle.spanning.specs.Count.{forest-few}
+use Rattle.spanning.specs.Rising.{rising-sublist}
+use Rattle.spanning.specs.Best.{byCost, edges-within}
+use Rattle.spanning.specs.Listing.{listing-iff, listing-length, listing-sorted, spanningTrees}
+use Rattle.frontier.specs.Dominance.{leAll}
+use Rattle.frontier.specs.Frontier.{Picks, best, picks-length}
+use Rattle.kmax.specs.KMax.{kmax}
+use Rattle.kmax.specs.Ceilings.{ceilings, ceilings-ranked, ceilings-slack, meets, slackOf}
+use Rattle.kmax.specs.Subsets.{subsets}
+use Rattle.kmax.specs.Search.{Candidates, Trees, search-leftmost, searchIn, subsets-candidates}
+use Rattle.planning.specs.Graph.{Graph, Sound, completed, costsFrom, exceptionals, links, normals, problem, searchSets, searchTree, total, under, valuesFrom}
+use Rattle.planning.specs.Complete.{completes}
+
+module _ (G : Graph) where
+  open Graph G using (n, m, ends, s, cost, ks)
+
+  -- to fit under bounds is to fit under the ceilings with these bounds
+  pub fits-under : (i : ℕ) (js : List ℕ) (bs : List ℤ) → length bs ≡ length js → (ts : List ℕ)
+      → meets orderℤ (ceilings cost i js bs) (pos 0) ts ≡ leAll orderℤ (costsFrom G i js ts) bs
+  fits-under i [] [] l ts = refl
+  fits-under i [] (b ∷ bs) l ts = absurd (omega arith)
+  fits-under i (k ∷ js) [] l ts = absurd (omega arith)
+  fits-under i (k ∷ js) (b ∷ bs) l ts =
+      ap (λ (t : Bool). orderℤ .le (kmax orderℤ k (map (cost i) ts) (pos 0)) b && t) (fits-under (suc i) js bs (suc-inj l) ts)
+
+  -- the trees are what the search of `kmax` asks for
+  trees-ranked : Sound G → (bs : List ℤ) → Trees (under G bs) (links G) (spanningTrees ends n m)
+  trees-ranked S bs =
+      record {
+        subsequence = λ ts k. rising-sublist m 0 m ts (zero-add m) (listing-iff ends n m (S .stations) (S .within) ts .0 k .0);
+        ranks = λ ts k. ceilings-ranked cost (length ts) 0 ks bs (λ j q.
+            let r = S .ranks j q in
+            let l = listing-length ends n m ts k in
+            (r .0, omega arith));
+      }
+
+  -- ---- a shorter list of candidates
+
+  -- the candidates that Kruskal's method keeps with nothing joined: at most n - 1
+  abbrev pub base : List ℕ → List ℕ
+  base cs = kruskal ends identity cs
+
+  pub base-few : Sound G → (cs : List ℕ) → ((c : ℕ) → c ∈ cs → c < m) → length (base cs) ≤ n - 1
+  base-few S cs below =
+      let g = kruskal-greedy ends identity cs in
+      let w = edges-within ends n m (S .stations) (S .within) (base cs) (λ c k. below c (greedy-⊆ ends g c k)) in
+      omega (arith, forest-few n (S .stations) (map ends (base cs)) w (greedy-forest ends g), length-map (base cs) ends)
+
+  pub completed-base : (cs X : List ℕ) → completed G (base cs) X ≡ completed G cs X
+  unfolding completed
+  completed-base cs X =
+      ap (λ (more : List ℕ). cond (isForest identity (map ends X) && eqb (length (X ++ more)) (n - 1)) (some (ascending (X ++ more))) none)
+      (kruskal-again ends cs (mergeAll-keeps identity (map ends X)))
+
+  -- ---- the theorem
+
+  -- However the sets of exceptional links are listed, the search finds the best tree: the one of least sum that fits, and of these the first in
+  -- dictionary order
+  pub search-sets : Sound G → (bs : List ℤ) → length bs ≡ length ks → (Xs : List (List ℕ)) → Candidates (exceptionals G bs) (slackOf ks) Xs
+      → searchSets G bs (byCost s (normals G bs)) Xs ≡ best (problem G) bs
+  search-sets S bs l Xs Cs =
+      search-leftmost orderℤ (pos 0) (under G bs) orderℤ (total G) (dictionary orderℕ) (λ ts. ts) (links G) (spanningTrees ends n m)
+      (trees-ranked S bs) (completes G S bs) (slackOf ks) (ceilings-slack cost 0 ks bs) Xs Cs (listing-sorted ends n m)
+      ∙ least-ext orderℤ (total G) (meets orderℤ (under G bs) (pos 0)) (λ ts. leAll orderℤ (costsFrom G 0 ks ts) bs) (spanningTrees ends n m)
+      (λ ts k. fits-under 0 ks bs l ts)
+
+  -- so does the search with the base for the normal links,
+  pub search-base : (bs : List ℤ) (cs : List ℕ) (Xs : List (List ℕ)) → searchSets G bs (base cs) Xs ≡ searchSets G bs cs Xs
+  search-base bs cs Xs =
+      ap (λ (complete : List ℕ → Option (List ℕ)). searchIn orderℤ (under G bs) (pairs orderℤ (dictionary orderℕ)) (ranked (total G) (λ ts. ts)) complete Xs)
+      (fun-ext (completed-base cs))
+
+  -- the search through all sets in the order of `subsets`,
+  pub search-best : Sound G → (bs : List ℤ) → length bs ≡ length ks → searchTree G bs ≡ best (problem G) bs
+  search-best S bs l = search-sets S bs l (subsets (slackOf ks) (exceptionals G bs)) (subsets-candidates (exceptionals G bs) (slackOf ks))
+
+  -- and the search at every position of the walk
+  values-length : (i : ℕ) (js : List ℕ) → length (valuesFrom G i js) ≡ length js
+  values-length i [] = refl
+  values-length i (k ∷ js) = ap suc (values-length (suc i) js)
+
+  pub search-picks : Sound G → {bs : List ℤ} → Picks bs (problem G .values) → searchTree G bs ≡ best (problem G) bs
+  search-picks S {bs} p = search-best S bs (picks-length p ∙ values-length 0 ks)

@@ -18,3 +18,5 @@ pub mod Calls
 pub mod Fetching
 -- printing
 pub mod Printing
+-- the yards worked through, P1 to P12
+pub mod Worked

@@ -1,0 +1,158 @@
+-- Document 01, "Yards worked through": P1 to P12 in one table, from survey bytes to list bytes, and the theorem that every row is right. It is
+-- computed from the definitions.
+use mathlib.Core.Bool.{cond}
+use mathlib.Core.List.{List, [], _∷_, _++_, List·Memᴰ·cases-cons, List·Memᴰ·not-nil}
+use mathlib.Core.Logic.{⊎-elim}
+use mathlib.Core.Path.{_≡_, refl, subst⁻¹}
+use Prim.Native.Nat.{ℕ, _-_}
+use lib.IntN.{ℤ, pos, negsuc}
+use lib.ListN.{length, replicate}
+use Rattle.order.specs.Lists.{_∈_, numbersFrom}
+use Rattle.order.specs.Order.{orderℤ}
+use Rattle.spanning.specs.Labelling.{crosses, merge}
+use Rattle.spanning.specs.Tree as tree
+use Rattle.spanning.specs.Kruskal.{kruskal}
+use Rattle.spanning.specs.Choose.{choose, chooseFrom}
+use Rattle.spanning.specs.Listing.{isListed, spanningTrees}
+use Rattle.kmax.specs.KMax.{kmax}
+use Rattle.network.specs.Limits.{maxPlans}
+use Rattle.network.specs.Walk.{plans, solvedCount, walked}
+use Rattle.network.specs.Bytes.{bitsOf, littleEndian, signed}
+use Rattle.network.specs.Column.{column}
+use Rattle.network.specs.Survey.{layoutOf, linkMark, networkOf, networkWith, yardMark}
+use Rattle.network.specs.PlanList.{bufferNeed, headMark, join, planMark}
+use Rattle.network.specs.Checked.{firstRefusal, refuseIf, _orElse_}
+use Rattle.network.specs.Refusals.{badLength, checkedWith, linkChecked, yardChecked}
+use Rattle.network.specs.Calls.{Reply, asked, askedChecked, bestTree, drawnChecked, ifFine, judged, listAfter, listChecked, listStatus, reply, roomChecked, status, treeAfter}
+use Rattle.network.specs.Printing.{printed}
+use Rattle.network.specs.declared.Refusal.{Refusal}
+
+-- ---- the rows
+
+-- A question with its answer.
+pub data Row : Type 0 where
+  -- the list call with enough allowance, into a buffer of the bytes it needs that held other bytes: the plans' links, the solved count, the list
+  lists : (survey : List ℕ) (links : List (List ℕ)) (count need : ℕ) (list : List ℕ) → Row
+  -- the list call with this allowance: its reply
+  allows : (survey : List ℕ) (allowance size : ℕ) → Refusal → Row
+  -- the ceilings question into a tree buffer: the reply, and the buffer after it
+  asks : (survey : List ℕ) (b1 b2 : ℤ) (buffer : List ℕ) → Reply → List ℕ → Row
+  -- a drawn tree, and the reply
+  draws : (survey drawn : List ℕ) → Reply → Row
+  -- the k-th largest of some figures
+  ranks : (k : ℕ) → List ℤ → ℤ → Row
+  -- standard input, and what the program prints
+  prints : (input output : List ℕ) → Row
+
+-- what the list call gives a survey: the promised plans, which the walk leaves too, the solved count, the buffer's need, the reply and every byte
+pub record Lists (s : List ℕ) (links : List (List ℕ)) (count need : ℕ) (list : List ℕ) : Type 0 where
+  pub promised : plans (networkOf s) ≡ links
+  pub by-walk : walked (networkOf s) ≡ links
+  pub counted : solvedCount (networkOf s) ≡ count
+  pub needed : bufferNeed (networkOf s) ≡ need
+  pub succeeds : listStatus s maxPlans need ≡ record { number = 0; place = 0 }
+  pub bytes : listAfter s maxPlans (replicate need 0xFF) ≡ list ++ replicate (need - length list) 0
+
+-- the answer of a row is the one that the definitions give
+abbrev pub Right : Row → Type 0
+Right (lists s links count need list) = Lists s links count need list
+Right (allows s allowance size r) = listStatus s allowance size ≡ r
+Right (asks s b1 b2 buffer r after) = (asked s b1 b2 (length buffer) ≡ r) × (treeAfter s b1 b2 buffer ≡ after)
+Right (draws s drawn r) = judged s drawn ≡ r
+Right (ranks k vs v) = kmax orderℤ k vs (pos 0) ≡ v
+Right (prints input output) = printed input ≡ output
+
+-- ---- bytes as document 01 writes them
+
+abbrev one : {A : Type 0} → A → List A
+one a = a ∷ []
+
+abbrev two : {A : Type 0} → A → A → List A
+two a b = a ∷ b ∷ []
+
+abbrev yard : ℕ → ℕ → ℕ → ℕ → List (List ℕ) → List ℕ
+yard n p k1 k2 links = yardMark ++ (n ∷ p ∷ k1 ∷ k2 ∷ []) ++ join links
+
+abbrev link : ℕ → ℕ → ℕ → ℕ → ℕ → List ℕ
+link a b s c1 c2 = linkMark ++ (a ∷ b ∷ []) ++ (littleEndian 4 s ++ (littleEndian 2 c1 ++ littleEndian 2 c2))
+
+abbrev list : ℕ → ℕ → ℕ → ℕ → List (List ℕ) → List ℕ
+list count solved t p records = headMark ++ (littleEndian 2 count ++ (littleEndian 4 solved ++ (t ∷ p ∷ []))) ++ join records
+
+abbrev plan : ℕ → ℕ → ℕ → List ℕ → List ℕ
+plan s y1 y2 links = planMark ++ (littleEndian 4 s ++ (littleEndian 2 y1 ++ littleEndian 2 y2)) ++ links
+
+abbrev costs : ℕ → ℤ → ℤ → Reply
+costs s y1 y2 = record { number = 0; place = 0; values = pos s ∷ y1 ∷ y2 ∷ [] }
+
+abbrev refused : ℕ → ℕ → Reply
+refused number place = record { number = number; place = place; values = [] }
+
+-- Survey A, with k1; A with second costs; the two links of P4 and P5; P6; P7
+abbrev A : ℕ → List ℕ
+A k1 = yard 3 1 k1 0 (link 0 1 4 7 0 ∷ link 1 2 3 2 0 ∷ link 0 2 1 9 0 ∷ [])
+
+abbrev A₂ : List ℕ
+A₂ = yard 3 2 1 1 (link 0 1 4 7 1 ∷ link 1 2 3 2 6 ∷ link 0 2 1 9 3 ∷ [])
+
+abbrev pair : ℕ → ℕ → List ℕ
+pair x y = yard 2 1 1 0 (link 0 1 5 x 0 ∷ link 0 1 5 y 0 ∷ [])
+
+abbrev single : List ℕ
+single = yard 1 0 0 0 []
+
+abbrev bare : List ℕ
+bare = yard 2 1 1 0 []
+
+-- plans 2 solved 3 / 4 9 links 1 2 / 7 7 links 0 1
+abbrev outputA : List ℕ
+outputA =
+    0x70 ∷ 0x6C ∷ 0x61 ∷ 0x6E ∷ 0x73 ∷ 0x20 ∷ 0x32 ∷ 0x20 ∷ 0x73 ∷ 0x6F ∷ 0x6C ∷ 0x76 ∷ 0x65 ∷ 0x64 ∷ 0x20 ∷ 0x33 ∷ 0x0A
+    ∷ 0x34 ∷ 0x20 ∷ 0x39 ∷ 0x20 ∷ 0x6C ∷ 0x69 ∷ 0x6E ∷ 0x6B ∷ 0x73 ∷ 0x20 ∷ 0x31 ∷ 0x20 ∷ 0x32 ∷ 0x0A
+    ∷ 0x37 ∷ 0x20 ∷ 0x37 ∷ 0x20 ∷ 0x6C ∷ 0x69 ∷ 0x6E ∷ 0x6B ∷ 0x73 ∷ 0x20 ∷ 0x30 ∷ 0x20 ∷ 0x31 ∷ 0x0A ∷ []
+
+-- P1 (the list of 34 bytes in the 46 that the buffer needs, and the whole output) to P12 (two rows)
+pub table : List Row
+table =
+    lists (A 1) (two (two 1 2) (two 0 1)) 3 46 (list 2 3 2 1 (two (plan 4 9 0 (two 1 2)) (plan 7 7 0 (two 0 1))))
+    ∷ prints (A 1) outputA
+    ∷ lists (A 2) (one (two 1 2)) 1 46 (list 1 1 2 1 (one (plan 4 2 0 (two 1 2))))
+    ∷ lists A₂ (two 1 2 ∷ two 0 2 ∷ two 0 1 ∷ []) 6 118 (list 3 6 2 2 (plan 4 9 6 (two 1 2) ∷ plan 5 9 3 (two 0 2) ∷ plan 7 7 6 (two 0 1) ∷ []))
+    ∷ lists (pair 3 8) (one (one 0)) 1 32 (list 1 1 1 1 (one (plan 5 3 0 (one 0))))
+    ∷ lists (pair 8 3) (one (one 1)) 2 32 (list 1 2 1 1 (one (plan 5 3 0 (one 1))))
+    ∷ lists single (one []) 1 20 (list 1 1 0 0 (one (plan 0 0 0 [])))
+    ∷ lists bare [] 0 10 (list 0 0 1 1 [])
+    ∷ asks (A 1) (pos 8) (pos 0) (two 0xFF 0xFF) (costs 7 (pos 7) (pos 0)) (two 0 1)
+    ∷ asks (A 1) (pos 6) (pos 0) (two 0xFF 0xFF) (refused 14 0) (two 0xFF 0xFF)
+    ∷ draws (A 1) (two 0 2) (costs 5 (pos 9) (pos 0))
+    ∷ ranks 2 (pos 5 ∷ negsuc 2 ∷ pos 5 ∷ []) (pos 5)
+    ∷ allows (A 1) 3 46 (record { number = 0; place = 0 })
+    ∷ allows (A 1) 2 46 (record { number = 10; place = 0 })
+    ∷ []
+
+-- ---- the theorem
+
+-- every member has the property
+infixr 5 _▸_
+data Every {A : Type 0} (P : A → Type 0) : List A → Type 0 where
+  done : Every P []
+  _▸_ : {x : A} {l : List A} → P x → Every P l → Every P (x ∷ l)
+
+every : {A : Type 0} (P : A → Type 0) {l : List A} → Every P l → (x : A) → x ∈ l → P x
+every P done x m = absurd (List·Memᴰ·not-nil m)
+every P (h ▸ r) x m = ⊎-elim (λ q. subst⁻¹ P q h) (λ n. every P r x n) (List·Memᴰ·cases-cons m)
+
+-- every row of the table is right
+pub table-right : (r : Row) → r ∈ table → Right r
+unfolding table spanningTrees choose chooseFrom tree.isTree tree.isTreeFrom tree.isForest tree.isOneComponent crosses merge numbersFrom isListed signed bitsOf column layoutOf networkWith badLength checkedWith linkChecked yardChecked firstRefusal refuseIf _orElse_ reply status ifFine judged drawnChecked asked askedChecked bestTree treeAfter roomChecked listChecked listStatus listAfter printed
+table-right = every Right (
+    record { promised = refl; by-walk = refl; counted = refl; needed = refl; succeeds = refl; bytes = refl }
+    ▸ refl
+    ▸ record { promised = refl; by-walk = refl; counted = refl; needed = refl; succeeds = refl; bytes = refl }
+    ▸ record { promised = refl; by-walk = refl; counted = refl; needed = refl; succeeds = refl; bytes = refl }
+    ▸ record { promised = refl; by-walk = refl; counted = refl; needed = refl; succeeds = refl; bytes = refl }
+    ▸ record { promised = refl; by-walk = refl; counted = refl; needed = refl; succeeds = refl; bytes = refl }
+    ▸ record { promised = refl; by-walk = refl; counted = refl; needed = refl; succeeds = refl; bytes = refl }
+    ▸ record { promised = refl; by-walk = refl; counted = refl; needed = refl; succeeds = refl; bytes = refl }
+    ▸ (refl, refl) ▸ (refl, refl) ▸ refl ▸ refl ▸ refl ▸ refl ▸ done
+    )

@@ -20,3 +20,6 @@ pub mod Fetching
 pub mod Printing
 -- the yards worked through, P1 to P12
 pub mod Worked
+-- theorems: what holds of an accepted survey's bytes, and of its network
+pub mod Accepted
+pub mod NetworkFine

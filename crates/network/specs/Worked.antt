@@ -1,6 +1,5 @@
 -- Document 01, "Yards worked through": P1 to P12 in one table, from survey bytes to list bytes, and the theorem that every row is right. It is
 -- computed from the definitions.
-use mathlib.Core.Bool.{cond}
 use mathlib.Core.List.{List, [], _∷_, _++_, List·Memᴰ·cases-cons, List·Memᴰ·not-nil}
 use mathlib.Core.Logic.{⊎-elim}
 use mathlib.Core.Path.{_≡_, refl, subst⁻¹}
@@ -11,7 +10,6 @@ use Rattle.order.specs.Lists.{_∈_, numbersFrom}
 use Rattle.order.specs.Order.{orderℤ}
 use Rattle.spanning.specs.Labelling.{crosses, merge}
 use Rattle.spanning.specs.Tree as tree
-use Rattle.spanning.specs.Kruskal.{kruskal}
 use Rattle.spanning.specs.Choose.{choose, chooseFrom}
 use Rattle.spanning.specs.Listing.{isListed, spanningTrees}
 use Rattle.kmax.specs.KMax.{kmax}

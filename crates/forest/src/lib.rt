@@ -1,0 +1,81 @@
+// The groups of stations already joined, as a value: joining two stations hands back the next value.
+ghost use mathlib.Core.Path.{_≡_};
+ghost use Rattle.spanning.specs.Labelling.{crosses};
+ghost use Rattle.spanning.specs.LabelList.{labelOf, replaced};
+ghost use Rattle.forest.specs.Groups.{apart, joined, link};
+
+// A leader for each station: two stations with one leader are in one group.
+pub struct Forest {
+    pub leader: [u8; 24],
+}
+
+// The leader that x becomes once the group of `old` is led by `new`.
+fn relabel(x: u8, old: u8, new: u8) -> u8
+    ensures { λ r. ⌜ r ≡ replaced new old x ⌝ }
+{
+    if x == old { new } else { x }
+}
+
+impl Forest {
+    // No links: each station leads itself.
+    pub fn new() -> Forest
+        ensures { λ r. ⌜ r ≡ apart ⌝ }
+    {
+        Forest {
+            leader: [
+                0,
+                1,
+                2,
+                3,
+                4,
+                5,
+                6,
+                7,
+                8,
+                9,
+                10,
+                11,
+                12,
+                13,
+                14,
+                15,
+                16,
+                17,
+                18,
+                19,
+                20,
+                21,
+                22,
+                23,
+            ],
+        }
+    }
+
+    // The leader of a station's group; a station past the last is alone.
+    pub fn find(self, v: u8) -> u8
+        ensures { λ r. ⌜ r ≡ labelOf (self .leader) v ⌝ }
+    {
+        let at = v as usize;
+        if at < 24 { self.leader[at] } else { v }
+    }
+
+    // Whether stations a and b are in different groups.
+    pub fn joins(self, a: u8, b: u8) -> bool
+        ensures { λ r. ⌜ r ≡ crosses (labelOf (self .leader)) (link a b) ⌝ }
+    {
+        self.find(a) != self.find(b)
+    }
+
+    // The groups of a and b made one.
+    pub fn join(self, a: u8, b: u8) -> Forest
+        ensures { λ r. ⌜ r ≡ joined self a b ⌝ }
+    {
+        let new = self.find(a);
+        let old = self.find(b);
+        let mut leader = self.leader;
+        for i in 0..24 {
+            leader[i] = relabel(leader[i], old, new);
+        }
+        Forest { leader }
+    }
+}

@@ -20,6 +20,9 @@ pub mod Fetching
 pub mod Printing
 -- the yards worked through, P1 to P12
 pub mod Worked
--- theorems: what holds of an accepted survey's bytes, and of its network
+-- theorems: what the definitions mean, what holds of an accepted survey's bytes and of its network
+pub mod Meaning
 pub mod Accepted
 pub mod NetworkFine
+-- demand 3
+pub mod Promise

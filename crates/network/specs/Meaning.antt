@@ -1,0 +1,99 @@
+-- What the definitions of Yard.antt mean: the test of a tree says that a list of links connects all stations and has no ring, and dominance
+-- and the best tree are what document 01 calls so.
+use mathlib.Core.Bool.{Bool, true, false, _&&_, not}
+use mathlib.Core.List.{List, map}
+use mathlib.Core.Logic.{_↔_}
+use mathlib.Core.Option.{none, some}
+use mathlib.Core.Path.{_≡_}
+use Prim.Native.Nat.{ℕ, _≤_}
+use lib.Dec.{leb}
+use lib.IntN.{ℤ, pos}
+use lib.ListN.{length}
+use borrow.Author.Tests.{le-leb, leb-true, not-true}
+use Rattle.order.specs.Test.{clash, fails, left, right, both}
+use Rattle.order.specs.Lists.{_∈_, first}
+use Rattle.order.specs.Order.{dictionary, dictionaryLe, equal→≡, le-refl, orderℕ, orderℤ, ≡→equal}
+use Rattle.order.specs.Sorted.{Rising, first-lowest}
+use Rattle.order.specs.Least.{least-first}
+use Rattle.spanning.specs.Joined.{spanning-iff}
+use Rattle.spanning.specs.Listing.{isListed-iff, listing-iff, listing-length, listing-sorted}
+use Rattle.frontier.specs.Dominance.{leAll, same}
+use Rattle.frontier.specs.Best.{best-none, best-some}
+use Rattle.planning.specs.Graph.{Sound, searchTree}
+use Rattle.planning.specs.Search.{search-best}
+use Rattle.network.specs.Yard.{Tree, best, dominates, ends, fits, graph, isTree, ranks, treeSize, treeSum, trees, yard}
+use Rattle.network.specs.declared.Network.{Network}
+
+-- v dominates w: no entry of v is above that of w, and v differs from w
+pub dominates-iff : (v w : List ℤ) → (dominates v w ≡ true) ↔ ((leAll orderℤ v w ≡ true) × ¬ (v ≡ w))
+dominates-iff v w = (
+  λ h. (
+    left (leAll orderℤ v w) (not (same orderℤ v w)) h,
+    λ e. clash (≡→equal (dictionary orderℤ) v w e) (not-true (same orderℤ v w) (right (leAll orderℤ v w) (not (same orderℤ v w)) h)),
+  ),
+  λ h. both (h .0) (rw (fails (same orderℤ v w) (λ e. h .1 (equal→≡ (dictionary orderℤ) v w e)))),
+)
+
+module _ (net : Network) (sound : Sound (graph net)) where
+  -- `trees` has the trees, all of them,
+  pub trees-iff : (ts : List ℕ) → (ts ∈ trees net) ↔ Tree net ts
+  trees-iff ts = (
+    λ m.
+        let r = listing-iff (ends net) (net .n) (net .m) (sound .stations) (sound .within) ts .0 m in
+        let j = spanning-iff (net .n) (map (ends net) ts) .0 (r .1) in
+        record { rising = r .0; connects = j .0; no-ring = j .1 },
+    λ t.
+        listing-iff (ends net) (net .n) (net .m) (sound .stations) (sound .within) ts .1
+        (t .rising, spanning-iff (net .n) (map (ends net) ts) .1 (t .connects, t .no-ring)),
+  )
+
+  -- each with t links,
+  pub tree-size : (ts : List ℕ) → Tree net ts → length ts ≡ treeSize net
+  tree-size ts t = listing-length (ends net) (net .n) (net .m) ts (trees-iff ts .1 t)
+
+  -- once, in dictionary order
+  pub trees-rising : Rising (dictionary orderℕ) (λ ts. ts) (trees net)
+  trees-rising = listing-sorted (ends net) (net .n) (net .m)
+
+  -- the test of a drawn tree
+  pub isTree-iff : (ts : List ℕ) → (isTree net ts ≡ true) ↔ Tree net ts
+  isTree-iff ts = (
+    λ e. trees-iff ts .0 (isListed-iff (ends net) (net .n) (net .m) ts .0 e),
+    λ t. isListed-iff (ends net) (net .n) (net .m) ts .1 (trees-iff ts .1 t),
+  )
+
+  -- the best tree under ceilings: a tree that fits, of the least sum among those that fit, and of these the first
+  pub record Best (bs : List ℤ) (ts : List ℕ) : Type 0 where
+    pub tree : Tree net ts
+    pub fitting : fits net bs ts ≡ true
+    pub least : (us : List ℕ) → Tree net us → fits net bs us ≡ true → treeSum net ts ≤ treeSum net us
+    pub foremost : (us : List ℕ) → Tree net us → fits net bs us ≡ true → treeSum net us ≤ treeSum net ts → dictionaryLe orderℕ ts us ≡ true
+
+  pub best-found : (bs : List ℤ) (ts : List ℕ) → best net bs ≡ some ts → Best bs ts
+  best-found bs ts e =
+      let b = best-some (yard net) bs ts e in
+      record {
+        tree = trees-iff ts .0 (b .member);
+        fitting = b .passes;
+        least = λ us t f. leb-true (treeSum net ts) (treeSum net us) (b .lowest us (trees-iff us .1 t) f);
+        foremost = λ us t f l.
+            first-lowest (dictionary orderℕ) (λ xs. xs) near ts (trees net) trees-rising leftmost us (trees-iff us .1 t) (both f (le-leb (treeSum net us) (treeSum net ts) l));
+      }
+    where
+      -- a tree that fits at no higher sum
+      near : List ℕ → Bool
+      near us = fits net bs us && leb (treeSum net us) (treeSum net ts)
+
+      leftmost : first near (trees net) ≡ some ts
+      leftmost =
+          least-first orderℤ (λ us. pos (treeSum net us)) (fits net bs) near (trees net) ts e
+          (both (best-some (yard net) bs ts e .passes) (le-refl orderℕ (treeSum net ts)))
+          (λ us k. (left (fits net bs us) (leb (treeSum net us) (treeSum net ts)) k, right (fits net bs us) (leb (treeSum net us) (treeSum net ts)) k))
+
+  -- none is reported only if no tree fits
+  pub best-missing : (bs : List ℤ) → best net bs ≡ none → (ts : List ℕ) → Tree net ts → fits net bs ts ≡ false
+  best-missing bs e ts t = best-none (yard net) bs e (trees-iff ts .1 t)
+
+  -- the search over sets of exceptional links, each completed by Kruskal's method, finds the best tree
+  pub search-finds : (bs : List ℤ) → length bs ≡ length (ranks net) → searchTree (graph net) bs ≡ best net bs
+  search-finds bs l = search-best (graph net) sound bs l

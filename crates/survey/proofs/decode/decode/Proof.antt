@@ -1,0 +1,46 @@
+-- `survey::decode::decode` meets its contract. Each array is what its function ensures.
+-- Assumes nothing.
+use borrow.Author.Needs.{needs}
+use Rattle.network.specs.Survey.{networkWith}
+use Rattle.survey.proofs.decode.decode.Statement.{statement}
+use Rattle.survey.proofs.decode.decode.Tie as tie
+
+shared-slice-read-n : tie.Need-shared-slice-read-n
+shared-slice-read-n c = search needs
+
+shared-slice-read-p : tie.Need-shared-slice-read-p
+shared-slice-read-p c = search needs
+
+shared-slice-read-k1 : tie.Need-shared-slice-read-k1
+shared-slice-read-k1 c = search needs
+
+shared-slice-read-k2 : tie.Need-shared-slice-read-k2
+shared-slice-read-k2 c = search needs
+
+decode-ends-requires : tie.Need-decode-ends-requires
+decode-ends-requires c κs = search needs
+
+decode-sums-requires : tie.Need-decode-sums-requires
+decode-sums-requires c κs = search needs
+
+decode-costs-requires : tie.Need-decode-costs-requires
+decode-costs-requires c κs = search needs
+
+returns : tie.Need-returns
+unfolding networkWith
+returns c =
+    let sums = c .before in
+    rw (c .decode-costs .ensures, sums .decode-sums .ensures, sums .before .decode-ends .ensures)
+
+pub decode-spec : {M : Type 1} → statement M
+decode-spec =
+    tie.close
+    (tie.spec
+    shared-slice-read-n
+    shared-slice-read-p
+    shared-slice-read-k1
+    shared-slice-read-k2
+    decode-ends-requires
+    decode-sums-requires
+    decode-costs-requires
+    returns)

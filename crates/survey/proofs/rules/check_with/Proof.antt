@@ -1,0 +1,71 @@
+-- `survey::rules::check_with` meets its contract. The tests in their order; what a passed test says gives the next one its room.
+-- Assumes nothing.
+use borrow.Author.Needs.{needs}
+use mathlib.Core.Path.{sym, _∙_}
+use native.Mathlib.Omega.{arith}
+use Rattle.network.specs.Accepted.{whole-records, whole}
+use Rattle.network.specs.Checked.{refuseIf, _orElse_}
+use Rattle.network.specs.Refusals.{checkedWith}
+use Rattle.survey.proofs.rules.check_with.Statement.{statement}
+use Rattle.survey.proofs.rules.check_with.Tie as tie
+
+bad-length-requires : tie.Need-bad-length-requires
+bad-length-requires c κs = search needs
+
+refuse-if-requires : tie.Need-refuse-if-requires
+refuse-if-requires c κs = search needs
+
+returns : tie.Need-returns
+unfolding checkedWith refuseIf _orElse_
+returns c = c .refuse-if .ensures ∙ rw (sym (c .before .before .bad-length .ensures) ∙ c .before .if1 .taken)
+
+sub-m : tie.Need-sub-m
+sub-m c = omega (arith, whole-records _ _ (sym (c .before .bad-length .ensures) ∙ c .if1 .left))
+
+div-m : tie.Need-div-m
+div-m c = search needs
+
+check-yard-requires : tie.Need-check-yard-requires
+check-yard-requires c κs = omega (arith, whole-records _ _ (sym (c .before .bad-length .ensures) ∙ c .if1 .left))
+
+enum-told : tie.Need-enum-told
+enum-told c = search needs
+
+enum-told-2 : tie.Need-enum-told-2
+enum-told-2 c = search needs
+
+check-links-requires : tie.Need-check-links-requires
+check-links-requires c κs =
+    let tested = c .before .before .before in
+    let start = tested .before .before .before in
+    whole _ _ (start .pre) (sym (tested .before .bad-length .ensures) ∙ tested .if1 .left) (sym (c .before .before .check-yard .ensures) ∙ c .enum-told2 .given .1)
+
+returns-2 : tie.Need-returns-2
+unfolding checkedWith refuseIf _orElse_
+returns-2 c =
+    let yard = c .before .before in
+    rw (sym (yard .before .before .bad-length .ensures) ∙ yard .before .if1 .left, ← yard .check-yard .ensures, c .enum-told .given .1)
+
+returns-3 : tie.Need-returns-3
+unfolding checkedWith refuseIf _orElse_
+returns-3 c =
+    let told = c .before in
+    let yard = told .before .before in
+    rw (sym (yard .before .before .bad-length .ensures) ∙ yard .before .if1 .left, ← yard .check-yard .ensures, told .enum-told2 .given .1)
+    (c .check-links .ensures)
+
+pub check-with-spec : {M : Type 1} → statement M
+check-with-spec =
+    tie.close
+    (tie.spec
+    bad-length-requires
+    refuse-if-requires
+    returns
+    sub-m
+    div-m
+    check-yard-requires
+    enum-told
+    enum-told-2
+    check-links-requires
+    returns-2
+    returns-3)

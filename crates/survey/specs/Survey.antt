@@ -1,0 +1,59 @@
+-- What reading a survey gives: its check, and its network where it is accepted.
+use mathlib.Core.List.{List}
+use mathlib.Core.Path.{_≡_, ap, _∙_}
+use Prim.Native.Nat.{ℕ, _*_, _/_, _%_}
+use lib.IntN.{ℤ, pos}
+use lib.ListN.{replicate}
+use Rattle.network.specs.Limits.{maxCeilings, maxLinks}
+use Rattle.network.specs.Column.{column}
+use Rattle.network.specs.Survey.{costIn, endIn, layoutOf, linkCount, linkStart, networkOf, networkWith, sumIn}
+use Rattle.network.specs.Refusals.{checkedOf, checkedWith}
+use Rattle.network.specs.Calls.{ifFine}
+use Rattle.network.specs.declared.Checked.the-variants.{Fine}
+use Rattle.network.specs.declared.Layout.{Layout}
+use Rattle.network.specs.declared.Network.{Network}
+use Rattle.survey.specs.declared.Survey.{Survey}
+
+-- ---- the columns of a network, as far as count entries are decoded
+
+abbrev pub endsIn : Layout → List ℕ → ℕ → List ℕ
+endsIn l s count = column (2 * maxLinks) 0 (λ q. endIn s (linkStart l (q / 2)) (q % 2)) count
+
+abbrev pub sumsIn : Layout → List ℕ → ℕ → List ℕ
+sumsIn l s count = column maxLinks 0 (λ i. sumIn s (linkStart l i)) count
+
+abbrev pub costsIn : Layout → List ℕ → ℕ → List ℤ
+costsIn l s count = column (maxCeilings * maxLinks) (pos 0) (λ q. costIn s (linkStart l (q / maxCeilings)) (q % maxCeilings)) count
+
+-- ---- the survey
+
+-- what stands for the network of a survey that is refused
+unfoldable pub noNetwork : Network
+noNetwork =
+    record {
+      n = 0;
+      p = 0;
+      k = replicate 2 0;
+      m = 0;
+      ends = replicate (2 * maxLinks) 0;
+      sums = replicate maxLinks 0;
+      costs = replicate (maxCeilings * maxLinks) (pos 0);
+    }
+
+-- a survey read in a layout
+unfoldable pub surveyWith : Layout → List ℕ → Survey
+surveyWith l s = record { checked = checkedWith l s; network = ifFine (checkedWith l s) (networkWith l s (linkCount l s)) noNetwork }
+
+-- a survey in the layout that its mark says
+unfoldable pub surveyOf : List ℕ → Survey
+surveyOf s = surveyWith (layoutOf s) s
+
+-- ---- what a caller has of it
+
+pub read-checked : (s : List ℕ) (r : Survey) → r ≡ surveyOf s → r .checked ≡ checkedOf s
+unfolding surveyOf surveyWith
+read-checked s r e = ap (λ (x : Survey). x .checked) e
+
+pub read-network : (s : List ℕ) (r : Survey) → r ≡ surveyOf s → checkedOf s ≡ Fine → r .network ≡ networkOf s
+unfolding surveyOf surveyWith ifFine
+read-network s r e fine = ap (λ (x : Survey). x .network) e ∙ rw fine

@@ -1,0 +1,26 @@
+// The first refusal of several checks.
+use network::Checked;
+use network::Refusal;
+ghost use mathlib.Core.Path.{_≡_};
+ghost use Rattle.network.specs.Checked.{refuseIf, _orElse_};
+
+// The refusal where `bad` holds.
+pub fn refuse_if(bad: bool, number: u8, place: u8) -> Checked
+    ensures { λ r. ⌜ r ≡ refuseIf bad number place ⌝ }
+{
+    if bad {
+        Checked::Refused(Refusal { number, place })
+    } else {
+        Checked::Fine
+    }
+}
+
+// What was found so far, and if that is nothing, the refusal where `bad` holds.
+pub fn or_refuse_if(so_far: Checked, bad: bool, number: u8, place: u8) -> Checked
+    ensures { λ r. ⌜ r ≡ «so_far» orElse refuseIf bad number place ⌝ }
+{
+    match so_far {
+        Checked::Refused(_) => so_far,
+        Checked::Fine => refuse_if(bad, number, place),
+    }
+}

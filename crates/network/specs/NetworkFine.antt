@@ -14,7 +14,7 @@ use Rattle.planning.specs.Graph.{Sound}
 use Rattle.network.specs.Limits.{maxCeilings, maxLinks, maxRank, maxStations, maxSum}
 use Rattle.network.specs.Bytes.{byteAt, signed, u16At}
 use Rattle.network.specs.Column.{column, column-at, column-length}
-use Rattle.network.specs.Survey.{ceilingsIn, costIn, endIn, layoutOf, linkCount, linkStart, networkOf, networkWith, sumIn}
+use Rattle.network.specs.Survey.{ceilingsIn, costIn, costsIn, endIn, endsIn, layoutOf, linkCount, linkStart, networkOf, networkWith, sumIn, sumsIn}
 use Rattle.network.specs.Refusals.{absentCost, badRank, badRanks, checkedOf, outside}
 use Rattle.network.specs.Yard.{graph}
 use Rattle.network.specs.Accepted.{Accepted, accepted, below-two, layout-roomy, or-false}
@@ -49,7 +49,7 @@ absent-zero : (s : List ℕ) (at p j : ℕ) → absentCost s at p j ≡ false �
 absent-zero s at p j e h = eqb-true _ _ (not-false _ (rw (le-leb p j h) at e))
 
 pub network-fine : (s : List ℕ) (l : Layout) → Accepted s l → NetworkFine (networkWith l s (linkCount l s))
-unfolding networkWith signed
+unfolding networkWith endsIn sumsIn costsIn signed
 network-fine s l fine =
     let m = linkCount l s in
     let few : m ≤ maxLinks = fine .yard .few-links in

@@ -60,7 +60,19 @@ costIn s at j = i16At s (at + 8 + 2 * j)
 
 -- ---- the network
 
--- The network of the yard record and the first m link records: entry q of a column with two entries a link is entry q % 2 of link q / 2.
+-- the ends of the links, as far as `count` of them are read: entry q is end q % 2 of link q / 2
+unfoldable pub endsIn : Layout → List ℕ → ℕ → List ℕ
+endsIn l s count = column (2 * maxLinks) 0 (λ q. endIn s (linkStart l (q / 2)) (q % 2)) count
+
+-- their sum costs
+unfoldable pub sumsIn : Layout → List ℕ → ℕ → List ℕ
+sumsIn l s count = column maxLinks 0 (λ i. sumIn s (linkStart l i)) count
+
+-- their ceiling costs: entry q is cost q % 2 of link q / 2
+unfoldable pub costsIn : Layout → List ℕ → ℕ → List ℤ
+costsIn l s count = column (maxCeilings * maxLinks) (pos 0) (λ q. costIn s (linkStart l (q / maxCeilings)) (q % maxCeilings)) count
+
+-- the network of the yard record and the first m link records
 unfoldable pub networkWith : Layout → List ℕ → ℕ → Network
 networkWith l s m =
     record {
@@ -68,9 +80,9 @@ networkWith l s m =
       p = ceilingsIn s;
       k = ranksIn s;
       m = m;
-      ends = column (2 * maxLinks) 0 (λ q. endIn s (linkStart l (q / 2)) (q % 2)) (2 * m);
-      sums = column maxLinks 0 (λ i. sumIn s (linkStart l i)) m;
-      costs = column (maxCeilings * maxLinks) (pos 0) (λ q. costIn s (linkStart l (q / maxCeilings)) (q % maxCeilings)) (maxCeilings * m);
+      ends = endsIn l s (2 * m);
+      sums = sumsIn l s m;
+      costs = costsIn l s (maxCeilings * m);
     }
 
 -- the network of a survey

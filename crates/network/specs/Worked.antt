@@ -17,7 +17,7 @@ use Rattle.network.specs.Limits.{maxPlans}
 use Rattle.network.specs.Walk.{plans, solvedCount, walked}
 use Rattle.network.specs.Bytes.{bitsOf, littleEndian, signed}
 use Rattle.network.specs.Column.{column}
-use Rattle.network.specs.Survey.{layoutOf, linkMark, networkOf, networkWith, yardMark}
+use Rattle.network.specs.Survey.{costsIn, endsIn, layoutOf, linkMark, networkOf, networkWith, sumsIn, yardMark}
 use Rattle.network.specs.PlanList.{bufferNeed, headMark, join, planMark}
 use Rattle.network.specs.Checked.{firstRefusal, refuseIf, _orElse_}
 use Rattle.network.specs.Refusals.{badLength, checkedWith, linkChecked, yardChecked}
@@ -142,7 +142,7 @@ every P (h ▸ r) x m = ⊎-elim (λ q. subst⁻¹ P q h) (λ n. every P r x n) 
 
 -- every row of the table is right
 pub table-right : (r : Row) → r ∈ table → Right r
-unfolding table spanningTrees choose chooseFrom tree.isTree tree.isTreeFrom tree.isForest tree.isOneComponent crosses merge numbersFrom isListed signed bitsOf column layoutOf networkWith badLength checkedWith linkChecked yardChecked firstRefusal refuseIf _orElse_ reply status ifFine judged drawnChecked asked askedChecked bestTree treeAfter roomChecked listChecked listStatus listAfter printed
+unfolding table endsIn sumsIn costsIn spanningTrees choose chooseFrom tree.isTree tree.isTreeFrom tree.isForest tree.isOneComponent crosses merge numbersFrom isListed signed bitsOf column layoutOf networkWith badLength checkedWith linkChecked yardChecked firstRefusal refuseIf _orElse_ reply status ifFine judged drawnChecked asked askedChecked bestTree treeAfter roomChecked listChecked listStatus listAfter printed
 table-right = every Right (
     record { promised = refl; by-walk = refl; counted = refl; needed = refl; succeeds = refl; bytes = refl }
     ▸ refl

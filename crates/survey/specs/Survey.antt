@@ -1,31 +1,17 @@
 -- What reading a survey gives: its check, and its network where it is accepted.
 use mathlib.Core.List.{List}
 use mathlib.Core.Path.{_≡_, ap, _∙_}
-use Prim.Native.Nat.{ℕ, _*_, _/_, _%_}
-use lib.IntN.{ℤ, pos}
+use Prim.Native.Nat.{ℕ, _*_}
+use lib.IntN.{pos}
 use lib.ListN.{replicate}
 use Rattle.network.specs.Limits.{maxCeilings, maxLinks}
-use Rattle.network.specs.Column.{column}
-use Rattle.network.specs.Survey.{costIn, endIn, layoutOf, linkCount, linkStart, networkOf, networkWith, sumIn}
+use Rattle.network.specs.Survey.{layoutOf, linkCount, networkOf, networkWith}
 use Rattle.network.specs.Refusals.{checkedOf, checkedWith}
 use Rattle.network.specs.Calls.{ifFine}
 use Rattle.network.specs.declared.Checked.the-variants.{Fine}
 use Rattle.network.specs.declared.Layout.{Layout}
 use Rattle.network.specs.declared.Network.{Network}
 use Rattle.survey.specs.declared.Survey.{Survey}
-
--- ---- the columns of a network, as far as count entries are decoded
-
-abbrev pub endsIn : Layout → List ℕ → ℕ → List ℕ
-endsIn l s count = column (2 * maxLinks) 0 (λ q. endIn s (linkStart l (q / 2)) (q % 2)) count
-
-abbrev pub sumsIn : Layout → List ℕ → ℕ → List ℕ
-sumsIn l s count = column maxLinks 0 (λ i. sumIn s (linkStart l i)) count
-
-abbrev pub costsIn : Layout → List ℕ → ℕ → List ℤ
-costsIn l s count = column (maxCeilings * maxLinks) (pos 0) (λ q. costIn s (linkStart l (q / maxCeilings)) (q % maxCeilings)) count
-
--- ---- the survey
 
 -- what stands for the network of a survey that is refused
 unfoldable pub noNetwork : Network

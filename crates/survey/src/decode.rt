@@ -6,9 +6,9 @@ use network::Layout;
 use network::Network;
 ghost use mathlib.Core.Path.{_≡_};
 ghost use Prim.Native.Nat.{_*_};
-ghost use Rattle.network.specs.Survey.{networkWith};
+ghost use Rattle.network.specs.Survey.{costsIn, endsIn, networkWith, sumsIn};
 ghost use Rattle.network.specs.Accepted.{Whole};
-ghost use Rattle.survey.specs.Survey.{endsIn, sumsIn, costsIn, noNetwork};
+ghost use Rattle.survey.specs.Survey.{noNetwork};
 
 // The ends of the m links, two for each.
 fn decode_ends(s: &[u8], l: Layout, m: usize) -> [u8; 80]

@@ -1,7 +1,7 @@
 -- `survey::decode::decode` meets its contract. Each array is what its function ensures.
 -- Assumes nothing.
 use borrow.Author.Needs.{needs}
-use Rattle.network.specs.Survey.{networkWith}
+use Rattle.network.specs.Survey.{costsIn, endsIn, networkWith, sumsIn}
 use Rattle.survey.proofs.decode.decode.Statement.{statement}
 use Rattle.survey.proofs.decode.decode.Tie as tie
 
@@ -27,7 +27,7 @@ decode-costs-requires : tie.Need-decode-costs-requires
 decode-costs-requires c κs = search needs
 
 returns : tie.Need-returns
-unfolding networkWith
+unfolding networkWith endsIn sumsIn costsIn
 returns c =
     let sums = c .before in
     rw (c .decode-costs .ensures, sums .decode-sums .ensures, sums .before .decode-ends .ensures)

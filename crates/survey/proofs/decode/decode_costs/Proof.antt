@@ -7,7 +7,7 @@ use mir.Syntax.{w16}
 use mir.ValLaws.{toZ-ofZ}
 use native.Mathlib.Omega.{arith}
 use Rattle.network.specs.Column.{column, column-more}
-use Rattle.survey.specs.Survey.{costsIn}
+use Rattle.network.specs.Survey.{costsIn}
 use Rattle.survey.proofs.decode.decode_costs.Statement.{statement}
 use Rattle.survey.proofs.decode.decode_costs.Tie as tie
 
@@ -18,7 +18,7 @@ abbrev μ-loop : tie.MeasureT-loop
 μ-loop s l m costs₀ q₀ costs q = 2 * m - q
 
 loop-holds : tie.Need-loop-holds Inv-loop μ-loop
-unfolding column
+unfolding costsIn column
 loop-holds c = (search needs, refl)
 
 mul-loop : tie.Need-mul-loop Inv-loop μ-loop
@@ -52,6 +52,7 @@ loop-less : tie.Need-loop-less Inv-loop μ-loop
 loop-less c = search needs
 
 loop-again : tie.Need-loop-again Inv-loop μ-loop
+unfolding costsIn
 loop-again c =
     let head = c .before .before .before in
     (search needs, rw (head .loop .inv .1, toZ-ofZ w16 (c .read-i16 .result) (search needs), c .read-i16 .ensures, c .before .link-start .ensures .0) (sym (column-more _ _ _ _)))

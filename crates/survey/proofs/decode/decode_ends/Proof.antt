@@ -5,7 +5,7 @@ use borrow.Author.Needs.{needs}
 use mathlib.Core.Path.{_≡_, refl, sym}
 use native.Mathlib.Omega.{arith}
 use Rattle.network.specs.Column.{column, column-more}
-use Rattle.survey.specs.Survey.{endsIn}
+use Rattle.network.specs.Survey.{endsIn}
 use Rattle.survey.proofs.decode.decode_ends.Statement.{statement}
 use Rattle.survey.proofs.decode.decode_ends.Tie as tie
 
@@ -16,7 +16,7 @@ abbrev μ-loop : tie.MeasureT-loop
 μ-loop s l m ends₀ q₀ ends q = 2 * m - q
 
 loop-holds : tie.Need-loop-holds Inv-loop μ-loop
-unfolding column
+unfolding endsIn column
 loop-holds c = (search needs, refl)
 
 mul-loop : tie.Need-mul-loop Inv-loop μ-loop
@@ -44,6 +44,7 @@ loop-less : tie.Need-loop-less Inv-loop μ-loop
 loop-less c = search needs
 
 loop-again : tie.Need-loop-again Inv-loop μ-loop
+unfolding endsIn
 loop-again c =
     let head = c .before .before .before in
     (search needs, rw (head .loop .inv .1, c .before .link-start .ensures .0) (sym (column-more _ _ _ _)))

@@ -5,7 +5,7 @@ use borrow.Author.Needs.{needs}
 use mathlib.Core.Path.{_≡_, refl, sym}
 use native.Mathlib.Omega.{arith}
 use Rattle.network.specs.Column.{column, column-more}
-use Rattle.survey.specs.Survey.{sumsIn}
+use Rattle.network.specs.Survey.{sumsIn}
 use Rattle.survey.proofs.decode.decode_sums.Statement.{statement}
 use Rattle.survey.proofs.decode.decode_sums.Tie as tie
 
@@ -16,7 +16,7 @@ abbrev μ-loop : tie.MeasureT-loop
 μ-loop s l m sums₀ i₀ sums i = m - i
 
 loop-holds : tie.Need-loop-holds Inv-loop μ-loop
-unfolding column
+unfolding sumsIn column
 loop-holds c = (search needs, refl)
 
 link-start-requires : tie.Need-link-start-requires Inv-loop μ-loop
@@ -41,6 +41,7 @@ loop-less : tie.Need-loop-less Inv-loop μ-loop
 loop-less c = search needs
 
 loop-again : tie.Need-loop-again Inv-loop μ-loop
+unfolding sumsIn
 loop-again c =
     let head = c .before .before .before in
     (search needs, rw (head .loop .inv .1, c .read-u32 .ensures, c .before .link-start .ensures .0) (sym (column-more _ _ _ _)))

@@ -17,4 +17,3 @@ returns c = (refl, inside (c .pre .0) _ (c .pre .1))
 
 pub link-start-spec : {M : Type 1} → statement M
 link-start-spec = tie.close (tie.spec mul-result add-result returns)
--- x

@@ -1,0 +1,2 @@
+fn main() {}
+mod yard;

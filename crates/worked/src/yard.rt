@@ -68,14 +68,19 @@ impl Yard {
     }
 }
 
+// The station after a, round n stations.
+fn next(a: u8, n: u8) -> u8 {
+    if a < n {
+        let b = a + 1;
+        return if b < n { b } else { 0 };
+    }
+    0
+}
+
 // Link i of a chain through n stations and round again: sum cost i + 1, ceiling costs i and 0.
 fn chain_link(yard: Yard, n: u8, i: u8) -> Yard {
-    if n == 0 {
-        return yard;
-    }
-    let a = i % n;
-    let b = if a + 1 < n { a + 1 } else { 0 };
-    yard.link(a, b, i as u32 + 1, i as i16, 0)
+    let a = if i < n { i } else { i - n };
+    yard.link(a, next(a, n), i as u32 + 1, i as i16, 0)
 }
 
 // A yard of n stations and m links along a chain.

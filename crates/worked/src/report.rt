@@ -1,0 +1,32 @@
+// One line for each case: what it is, and the reply.
+use console::number;
+use console::signed;
+use console::text;
+use network::Answer;
+use network::Costs;
+use network::Refusal;
+
+// `refused N at P`
+pub fn refusal(r: Refusal) {
+    text(b"refused ");
+    number(r.number as u64);
+    text(b" at ");
+    number(r.place as u64);
+}
+
+// The sum, y1 and y2.
+fn costs(v: Costs) {
+    number(v.sum as u64);
+    text(b" ");
+    signed(v.y1);
+    text(b" ");
+    signed(v.y2);
+}
+
+// The costs, or the refusal.
+pub fn answer(a: Answer) {
+    match a {
+        Answer::Plan(v) => costs(v),
+        Answer::Refused(r) => refusal(r),
+    }
+}

@@ -1,6 +1,6 @@
 -- What reading a survey gives: its check, and its network where it is accepted.
 use mathlib.Core.List.{List}
-use mathlib.Core.Path.{_≡_, ap, _∙_}
+use mathlib.Core.Path.{_≡_, sym, ap, _∙_}
 use Prim.Native.Nat.{ℕ, _*_}
 use lib.IntN.{pos}
 use lib.ListN.{replicate}
@@ -8,6 +8,7 @@ use Rattle.network.specs.Limits.{maxCeilings, maxLinks}
 use Rattle.network.specs.Survey.{layoutOf, linkCount, networkOf, networkWith}
 use Rattle.network.specs.Refusals.{checkedOf, checkedWith}
 use Rattle.network.specs.Calls.{ifFine}
+use Rattle.network.specs.NetworkFine.{NetworkFine, survey-fine}
 use Rattle.network.specs.declared.Checked.the-variants.{Fine}
 use Rattle.network.specs.declared.Layout.{Layout}
 use Rattle.network.specs.declared.Network.{Network}
@@ -40,6 +41,15 @@ pub read-checked : (s : List ℕ) (r : Survey) → r ≡ surveyOf s → r .check
 unfolding surveyOf surveyWith
 read-checked s r e = ap (λ (x : Survey). x .checked) e
 
-pub read-network : (s : List ℕ) (r : Survey) → r ≡ surveyOf s → checkedOf s ≡ Fine → r .network ≡ networkOf s
+-- the network of an accepted survey
+pub record Read (s : List ℕ) (net : Network) : Type 0 where
+  pub accepted : checkedOf s ≡ Fine
+  pub network : net ≡ networkOf s
+  pub fine : NetworkFine net
+
+pub read-accepted : (s : List ℕ) (r : Survey) → r ≡ surveyOf s → r .checked ≡ Fine → Read s (r .network)
 unfolding surveyOf surveyWith ifFine
-read-network s r e fine = ap (λ (x : Survey). x .network) e ∙ rw fine
+read-accepted s r e q =
+    let ok : checkedOf s ≡ Fine = sym (read-checked s r e) ∙ q in
+    let is : r .network ≡ networkOf s = ap (λ (x : Survey). x .network) e ∙ rw ok in
+    record { accepted = ok; network = is; fine = rw is (survey-fine s ok) }

@@ -1,0 +1,2 @@
+-- the judge of a drawn tree
+pub mod Judge

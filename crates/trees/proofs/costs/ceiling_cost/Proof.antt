@@ -1,0 +1,31 @@
+-- A present ceiling has the k-th largest of the figures, an absent one 0.
+use mathlib.Core.Path.{_≡_, _∙_, ap}
+use native.Mathlib.Omega.{arith}
+use borrow.Author.Needs.{needs}
+use lib.ListN.{length}
+use mir.Syntax.{w16}
+use mir.Val.{SFits}
+use mir.Facts.{toZ-ofZ}
+use Rattle.trees.specs.TreeCosts.{ceiling-absent, ceiling-present, figures-count}
+use Rattle.trees.proofs.costs.ceiling_cost.Statement.{statement}
+use Rattle.trees.proofs.costs.ceiling_cost.Tie as tie
+
+figures-of-requires : tie.Need-figures-of-requires
+figures-of-requires c κs = search needs
+
+kth-largest-requires : tie.Need-kth-largest-requires
+kth-largest-requires c κs =
+    let size : c .figures-of .result .count ≡ length (c .before .before .before .args .links .now) = ap (λ f. f .count) (c .figures-of .ensures) ∙ figures-count _ _ _ in
+    let rank = c .before .before .before .pre .rank (c .before .if1 .taken) in
+    (rank .0, omega arith, omega arith)
+
+returns : tie.Need-returns
+returns c =
+    let f : SFits w16 (c .kth-largest .result) = search needs in
+    rw (toZ-ofZ f) (ceiling-present _ _ _ _ _ (c .before .figures-of .ensures) (c .kth-largest .ensures) (c .before .before .if1 .taken) (c .before .before .before .before .pre .figures .few))
+
+returns-2 : tie.Need-returns-2
+returns-2 c = ceiling-absent _ _ _ _ _ (c .if1 .left)
+
+pub ceiling-cost-spec : {M : Type 1} → statement M
+ceiling-cost-spec = tie.close (tie.spec figures-of-requires kth-largest-requires returns returns-2)

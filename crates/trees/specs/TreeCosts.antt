@@ -115,7 +115,7 @@ module _ (costs : List ℤ) (i : ℕ) (ts : List ℕ) where
 
 -- the figures are the costs of the links
 pub figures-in : (costs : List ℤ) (i : ℕ) (ts : List ℕ) → length ts ≤ maxTree → figuresIn (figuresOf costs i ts) ≡ map (costAt costs i) ts
-unfolding figuresOf figuresUpTo
+unfolding figuresIn figuresOf figuresUpTo
 figures-in costs i ts h =
     let f : ℕ → ℤ = λ q. costAt costs i (getD ts q 0) in
     let whole = column-length maxTree (pos 0) f (length ts) in

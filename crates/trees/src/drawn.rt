@@ -8,10 +8,10 @@ ghost use Rattle.network.specs.Yard.{isTree};
 ghost use Rattle.trees.specs.Drawn.{drawing, drawsForest};
 
 // The links so far: the groups that they join, the least number that the next one may have, and whether each of them kept to the rules.
-pub struct Drawn {
-    pub groups: Forest,
-    pub low: usize,
-    pub fine: bool,
+struct Drawn {
+    groups: Forest,
+    low: usize,
+    fine: bool,
 }
 
 // The station at an index; 0 past the end.

@@ -1,5 +1,7 @@
 // Yards for the reader of surveys and the judge of a drawn tree.
 use crate::report::answer;
+use crate::report::item;
+use crate::report::list;
 use crate::yard::Yard;
 use crate::yard::chain;
 use crate::yard::survey_a;
@@ -8,131 +10,378 @@ use planner::judge;
 
 // The links 0 to 23, of which the first t are a tree of a chain of t + 1 stations.
 const LINKS: [u8; 24] = [
-    0, 1, 2, 3, 4, 5, 6, 7, 8, 9, 10, 11, 12, 13, 14, 15, 16, 17, 18, 19, 20, 21, 22, 23,
+    0,
+    1,
+    2,
+    3,
+    4,
+    5,
+    6,
+    7,
+    8,
+    9,
+    10,
+    11,
+    12,
+    13,
+    14,
+    15,
+    16,
+    17,
+    18,
+    19,
+    20,
+    21,
+    22,
+    23,
 ];
 
-// The judge's reply to links drawn in a survey.
-fn show(name: &[u8], yard: Yard, drawn: &[u8]) {
-    let bytes = yard.bytes;
-    let len = yard.len;
-    text(name);
+// Lengths that survey A is cut to.
+const LENGTHS: [u8; 11] = [0, 1, 2, 3, 4, 5, 6, 17, 18, 19, 42];
+
+// An index of survey A, and another byte there: the marks, n, p, k1, k2, and both ends, s, c1, c2 of link 1.
+const CHANGES: [u8; 30] = [
+    0,
+    0x58,
+    1,
+    0x45,
+    6,
+    0x4B,
+    31,
+    0x4D,
+    2,
+    2,
+    3,
+    0,
+    4,
+    2,
+    4,
+    3,
+    5,
+    1,
+    20,
+    2,
+    21,
+    3,
+    24,
+    0x0F,
+    25,
+    1,
+    27,
+    0xFF,
+    28,
+    1,
+];
+
+// Chains: n, p, k1, k2, the number of links, and how many of them are drawn.
+const CHAINS: [u8; 126] = [
+    0,
+    0,
+    0,
+    0,
+    0,
+    0,
+    1,
+    0,
+    0,
+    0,
+    0,
+    0,
+    24,
+    1,
+    1,
+    0,
+    23,
+    23,
+    25,
+    1,
+    1,
+    0,
+    24,
+    24,
+    24,
+    1,
+    1,
+    0,
+    40,
+    23,
+    24,
+    1,
+    1,
+    0,
+    41,
+    23,
+    5,
+    2,
+    1,
+    1,
+    4,
+    4,
+    5,
+    3,
+    1,
+    1,
+    4,
+    4,
+    3,
+    1,
+    2,
+    0,
+    2,
+    2,
+    3,
+    1,
+    3,
+    0,
+    2,
+    2,
+    5,
+    1,
+    3,
+    0,
+    4,
+    4,
+    5,
+    1,
+    4,
+    0,
+    4,
+    4,
+    5,
+    1,
+    0,
+    0,
+    4,
+    4,
+    5,
+    2,
+    2,
+    1,
+    4,
+    4,
+    5,
+    2,
+    1,
+    3,
+    4,
+    4,
+    5,
+    2,
+    2,
+    2,
+    4,
+    4,
+    5,
+    0,
+    1,
+    0,
+    4,
+    4,
+    5,
+    1,
+    1,
+    1,
+    4,
+    4,
+    25,
+    1,
+    1,
+    0,
+    41,
+    23,
+    24,
+    3,
+    1,
+    0,
+    41,
+    23,
+    24,
+    3,
+    4,
+    0,
+    23,
+    23,
+];
+
+// One link between two stations: its ends, s, c1 and c2.
+const FIRST: [u8; 14] = [0, 1, 0, 0, 2, 0, 0, 0, 0, 0, 0, 0, 0, 0];
+
+const SECOND: [u8; 14] = [1, 0, 0, 2, 1, 1, 1, 1, 1, 1, 1, 1, 1, 0];
+
+const SUMS: [u32; 14] = [5, 5, 5, 5, 5, 1000000, 1000001, 5, 5, 5, 5, 5, 5, 1000001];
+
+const COST1: [i16; 14] = [3, 3, 3, 3, 3, 3, 3, -32768, -1, 0, 32767, 3, 3, 3];
+
+const COST2: [i16; 14] = [0, 0, 0, 0, 0, 0, 0, 0, 0, 0, 0, 1, -32768, 0];
+
+// Links drawn in survey A: how many, and three of which that many count. P10 is the first.
+const DRAWN: [u8; 40] = [
+    2,
+    0,
+    2,
+    0,
+    2,
+    0,
+    1,
+    0,
+    2,
+    1,
+    2,
+    0,
+    0,
+    0,
+    0,
+    0,
+    1,
+    0,
+    0,
+    0,
+    3,
+    0,
+    1,
+    2,
+    2,
+    2,
+    0,
+    0,
+    2,
+    1,
+    1,
+    0,
+    2,
+    0,
+    3,
+    0,
+    2,
+    0,
+    255,
+    0,
+];
+
+// Links drawn in a yard with a ring, whose links cost 5, -3, 4 and 5. P11 is the second.
+const TRIPLES: [u8; 16] = [3, 0, 1, 2, 3, 0, 1, 3, 3, 0, 2, 3, 3, 1, 2, 3];
+
+// The judge's reply to links drawn in a survey, the first `len` of the bytes.
+fn judge_in(bytes: &[u8], len: usize, drawn: &[u8]) {
     text(b": ");
-    if len <= 512 {
+    if len <= bytes.len() {
         answer(judge(&bytes[..len], drawn));
     }
     text(b"\n");
 }
 
-// A chain of n stations, drawn whole.
-fn show_chain(name: &[u8], yard: Yard, n: usize) {
-    if 0 < n {
-        if n <= 24 {
-            show(name, yard, &LINKS[..n - 1]);
-        }
+fn show(yard: Yard, drawn: &[u8]) {
+    let bytes = yard.bytes;
+    judge_in(&bytes, yard.len, drawn);
+}
+
+// Survey A cut to a length.
+fn lengths() {
+    let cases: &[u8] = &LENGTHS;
+    for i in 0..cases.len() {
+        item(b"length ", cases[i]);
+        show(survey_a(1).cut(cases[i]), &[0u8, 2]);
     }
 }
 
-// Numbers 1 and 2: lengths and marks.
-fn records() {
-    let a = survey_a(1);
-    let drawn = [0u8, 2];
-    show(b"length 0", a.cut(0), &drawn);
-    show(b"length 1", a.cut(1), &drawn);
-    show(b"length 2", a.cut(2), &drawn);
-    show(b"length 3", a.cut(3), &drawn);
-    show(b"length 4", a.cut(4), &drawn);
-    show(b"length 5", a.cut(5), &drawn);
-    show(b"length 6", a.cut(6), &drawn);
-    show(b"length 17", a.cut(17), &drawn);
-    show(b"length 18", a.cut(18), &drawn);
-    show(b"length 19", a.cut(19), &drawn);
-    show(b"length 42", a, &drawn);
-    show(b"yard mark 58 44", a.set(0, 0x58), &drawn);
-    show(b"yard mark 59 45", a.set(1, 0x45), &drawn);
-    show(b"link mark 4B 4B at link 0", a.set(6, 0x4B), &drawn);
-    show(b"link mark 4C 4D at link 2", a.set(31, 0x4D), &drawn);
+// Survey A with another byte.
+fn change(at: u8, byte: u8) {
+    item(b"byte ", at);
+    item(b" is ", byte);
+    show(survey_a(1).set(at, byte), &[0u8, 2]);
 }
 
-// Numbers 3 to 6: stations, links, ceilings, ranks.
-fn limits() {
-    show_chain(b"no station", chain(0, 0, 0, 0, 0), 1);
-    show_chain(b"one station", chain(1, 0, 0, 0, 0), 1);
-    show_chain(b"24 stations", chain(24, 1, 1, 0, 23), 24);
-    show_chain(b"25 stations", chain(25, 1, 1, 0, 24), 24);
-    show_chain(b"40 links", chain(24, 1, 1, 0, 40), 24);
-    show_chain(b"41 links", chain(24, 1, 1, 0, 41), 24);
-    show_chain(b"2 ceilings", chain(5, 2, 1, 1, 4), 5);
-    show_chain(b"3 ceilings", chain(5, 3, 1, 1, 4), 5);
-    show_chain(b"k = t", chain(3, 1, 2, 0, 2), 3);
-    show_chain(b"k = t + 1", chain(3, 1, 3, 0, 2), 3);
-    show_chain(b"k = 3", chain(5, 1, 3, 0, 4), 5);
-    show_chain(b"k = 4", chain(5, 1, 4, 0, 4), 5);
-    show_chain(b"k = 0 of a present ceiling", chain(5, 1, 0, 0, 4), 5);
-    show_chain(b"k1 = 2, k2 = 1", chain(5, 2, 2, 1, 4), 5);
-    show_chain(b"k1 = 1, k2 = 3", chain(5, 2, 1, 3, 4), 5);
-    show_chain(b"both k above 1", chain(5, 2, 2, 2, 4), 5);
-    show_chain(b"absent k1 not 0", chain(5, 0, 1, 0, 4), 5);
-    show_chain(b"absent k2 not 0", chain(5, 1, 1, 1, 4), 5);
-    show_chain(b"25 stations and 41 links", chain(25, 1, 1, 0, 41), 24);
-    show_chain(b"41 links and 3 ceilings", chain(24, 3, 1, 0, 41), 24);
-    show_chain(b"3 ceilings and k = 4", chain(24, 3, 4, 0, 23), 24);
+fn changes() {
+    let cases: &[u8] = &CHANGES;
+    let mut at = 0;
+    while at + 2 <= cases.len() {
+        change(cases[at], cases[at + 1]);
+        at += 2;
+    }
 }
 
-// One link between two stations, with these figures.
-fn single(name: &[u8], a: u8, b: u8, s: u32, c1: i16, c2: i16) {
-    let yard = Yard::new(2, 1, 1, 0);
-    show(name, yard.link(a, b, s, c1, c2), &LINKS[..1]);
+// The first t links of a chain drawn.
+fn show_chain(n: u8, p: u8, k1: u8, k2: u8, m: u8, t: u8) {
+    item(b"n ", n);
+    item(b" p ", p);
+    item(b" k ", k1);
+    item(b" ", k2);
+    item(b" links ", m);
+    item(b" drawn ", t);
+    let links: &[u8] = &LINKS;
+    let count = t as usize;
+    if count <= links.len() {
+        show(chain(n, p, k1, k2, m), &links[..count]);
+    }
 }
 
-// Numbers 7 and 8: ends and costs.
-fn links() {
-    single(b"ends 0 1", 0, 1, 5, 3, 0);
-    single(b"ends 1 0", 1, 0, 5, 3, 0);
-    single(b"ends 0 0", 0, 0, 5, 3, 0);
-    single(b"ends 0 2", 0, 2, 5, 3, 0);
-    single(b"ends 2 1", 2, 1, 5, 3, 0);
-    single(b"s = 1,000,000", 0, 1, 1000000, 3, 0);
-    single(b"s = 1,000,001", 0, 1, 1000001, 3, 0);
-    single(b"c1 = -32,768", 0, 1, 5, -32768, 0);
-    single(b"c1 = -1", 0, 1, 5, -1, 0);
-    single(b"c1 = 0", 0, 1, 5, 0, 0);
-    single(b"c1 = 32,767", 0, 1, 5, 32767, 0);
-    single(b"absent c2 = 1", 0, 1, 5, 3, 1);
-    single(b"absent c2 = -32,768", 0, 1, 5, 3, -32768);
-    single(b"ends 0 0 and s = 1,000,001", 0, 0, 1000001, 3, 0);
-    let two = Yard::new(2, 0, 0, 0).link(0, 1, 5, 0, 0);
-    show(b"absent c1 = 1 at link 1", two.link(0, 1, 5, 1, 0), &LINKS[..1]);
-    show(b"ends 1 1 at link 1", two.link(1, 1, 5, 0, 0), &LINKS[..1]);
+fn chains() {
+    let cases: &[u8] = &CHAINS;
+    let mut at = 0;
+    while at + 6 <= cases.len() {
+        show_chain(
+            cases[at],
+            cases[at + 1],
+            cases[at + 2],
+            cases[at + 3],
+            cases[at + 4],
+            cases[at + 5],
+        );
+        at += 6;
+    }
 }
 
-// Number 11, P10 and P11.
-fn drawn() {
-    let a = survey_a(1);
-    show(b"P10: 0 2", a, &[0u8, 2]);
-    show(b"0 1", a, &[0u8, 1]);
-    show(b"1 2", a, &[1u8, 2]);
-    show(b"1 2 with k1 = 2", survey_a(2), &[1u8, 2]);
-    show(b"nothing drawn", a, &LINKS[..0]);
-    show(b"too short", a, &[0u8]);
-    show(b"too long", a, &[0u8, 1, 2]);
-    show(b"falling", a, &[2u8, 0]);
-    show(b"repeated", a, &[1u8, 1]);
-    show(b"beyond the survey", a, &[0u8, 3]);
-    show(b"beyond every survey", a, &[0u8, 255]);
+// One link between two stations.
+fn single(i: u8) {
+    let at = i as usize;
+    if at < 14 {
+        item(b"link ", i);
+        let yard = Yard::new(2, 1, 1, 0);
+        show(
+            yard.link(FIRST[at], SECOND[at], SUMS[at], COST1[at], COST2[at]),
+            &[0u8],
+        );
+    }
+}
+
+fn singles() {
+    for i in 0..14 {
+        single(i);
+    }
+}
+
+// The first `count` links drawn.
+fn draw(yard: Yard, links: &[u8], count: u8) {
+    let n = count as usize;
+    if n <= links.len() {
+        list(b"drawn", &links[..n]);
+        show(yard, &links[..n]);
+    }
+}
+
+// Each row of a table: a count, and three links.
+fn draws(yard: Yard, cases: &[u8]) {
+    let mut at = 0;
+    while at + 4 <= cases.len() {
+        draw(yard, &cases[at + 1..at + 4], cases[at]);
+        at += 4;
+    }
+}
+
+// Four stations, with the ring 0, 1, 2.
+fn ring() -> Yard {
     let yard = Yard::new(4, 1, 2, 0);
     let yard = yard.link(0, 1, 1, 5, 0);
     let yard = yard.link(1, 2, 1, -3, 0);
     let yard = yard.link(0, 2, 1, 4, 0);
-    let yard = yard.link(2, 3, 1, 5, 0);
-    show(b"a ring", yard, &[0u8, 1, 2]);
-    show(b"P11: second largest of 5, -3, 5", yard, &[0u8, 1, 3]);
-    show(b"second largest of 5, 4, 5", yard, &[0u8, 2, 3]);
-    show(b"second largest of -3, 4, 5", yard, &[1u8, 2, 3]);
+    yard.link(2, 3, 1, 5, 0)
 }
 
 pub fn run() {
-    records();
-    limits();
-    links();
-    drawn();
+    lengths();
+    changes();
+    chains();
+    singles();
+    draws(survey_a(1), &DRAWN);
+    draws(ring(), &TRIPLES);
 }

@@ -30,3 +30,17 @@ pub fn answer(a: Answer) {
         Answer::Refused(r) => refusal(r),
     }
 }
+
+// A word and a number.
+pub fn item(word: &[u8], n: u8) {
+    text(word);
+    number(n as u64);
+}
+
+// A word, and numbers after it.
+pub fn list(word: &[u8], links: &[u8]) {
+    text(word);
+    for i in 0..links.len() {
+        item(b" ", links[i]);
+    }
+}

@@ -1,8 +1,6 @@
 // Surveys put together record by record.
 use encoding::write::bits;
 
-const SIZE: usize = 512;
-
 // The bytes of a survey, of which the first `len` count.
 pub struct Yard {
     pub bytes: [u8; 512],
@@ -50,11 +48,9 @@ impl Yard {
     }
 
     // Another byte at an index.
-    pub fn set(self, at: usize, byte: u8) -> Yard {
+    pub fn set(self, at: u8, byte: u8) -> Yard {
         let mut bytes = self.bytes;
-        if at < SIZE {
-            bytes[at] = byte;
-        }
+        bytes[at as usize] = byte;
         Yard {
             bytes,
             len: self.len,
@@ -62,9 +58,12 @@ impl Yard {
     }
 
     // Another length.
-    pub fn cut(self, len: usize) -> Yard {
+    pub fn cut(self, len: u8) -> Yard {
         let bytes = self.bytes;
-        Yard { bytes, len }
+        Yard {
+            bytes,
+            len: len as usize,
+        }
     }
 }
 

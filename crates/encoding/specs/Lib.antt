@@ -4,3 +4,5 @@ pub mod Range
 pub mod TwosComplement
 -- bytes that are written over others
 pub mod Overwrite
+-- what was written is read back
+pub mod RoundTrip

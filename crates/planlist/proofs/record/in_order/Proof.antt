@@ -1,0 +1,26 @@
+-- `planlist::record::in_order` meets its contract. The tests of the signed entries go through their bits.
+use Rattle.planlist.specs.Records.{in-order-by}
+use Rattle.planlist.proofs.Signed.{tested}
+use borrow.Author.Needs.{needs}
+use Rattle.planlist.proofs.record.in_order.Statement.{statement}
+use Rattle.planlist.proofs.record.in_order.Tie as tie
+
+le16-requires : tie.Need-le16-requires
+le16-requires c κs = search needs
+
+le16-requires-2 : tie.Need-le16-requires-2
+le16-requires-2 c κs = search needs
+
+le16-requires-3 : tie.Need-le16-requires-3
+le16-requires-3 c κs = search needs
+
+returns : tie.Need-returns
+returns c =
+    let a = c .before .before .before .before .before .before .before .before .before .before .before .before .before .args in
+    let y1 = tested (a .v .y1) (a .w .y1) (search needs) (search needs) (c .before .before .before .before .before .before .le16 .ensures) in
+    let z1 = tested (a .w .y1) (a .v .y1) (search needs) (search needs) (c .before .before .before .le162 .ensures) in
+    let y2 = tested (a .v .y2) (a .w .y2) (search needs) (search needs) (c .le163 .ensures) in
+    in-order-by (a .v) (a .w) y1 z1 y2
+
+pub in-order-spec : {M : Type 1} → statement M
+in-order-spec = tie.close (tie.spec le16-requires le16-requires-2 le16-requires-3 returns)

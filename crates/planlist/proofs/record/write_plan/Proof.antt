@@ -1,0 +1,82 @@
+-- `planlist::record::write_plan` meets its contract. Writes one after the other are one write.
+use mathlib.Core.Path.{refl, ap, _∙_}
+use mathlib.Core.List.{_++_}
+use Prim.Native.Nat.{_+_, _≤_}
+use native.Mathlib.Omega.{arith}
+use lib.IntN.{ℤ}
+use lib.ListN.{length}
+use mir.Syntax.{w16}
+use mir.ValLaws.{toZ-ofZ}
+use denote.Ref.{now}
+use Rattle.network.specs.Bytes.{bitsOf, littleEndian}
+use Rattle.network.specs.PlanList.{planMark}
+use Rattle.encoding.specs.Overwrite.{overwrite, overwrite-chain}
+use borrow.Author.Needs.{needs}
+use Rattle.planlist.proofs.record.write_plan.Statement.{statement}
+use Rattle.planlist.proofs.record.write_plan.Tie as tie
+
+slice-aggregate-copy-in : tie.Need-slice-aggregate-copy-in
+slice-aggregate-copy-in c = search needs
+
+copy-in-requires : tie.Need-copy-in-requires
+copy-in-requires c κs = search needs
+
+add-write-u32 : tie.Need-add-write-u32
+add-write-u32 c = search needs
+
+write-u32-requires : tie.Need-write-u32-requires
+write-u32-requires c κs = search needs
+
+add-write-i16 : tie.Need-add-write-i16
+add-write-i16 c = search needs
+
+write-i16-requires : tie.Need-write-i16-requires
+write-i16-requires c κs = search needs
+
+add-write-i16-2 : tie.Need-add-write-i16-2
+add-write-i16-2 c = search needs
+
+write-i16-requires-2 : tie.Need-write-i16-requires-2
+write-i16-requires-2 c κs = search needs
+
+add-copy-in : tie.Need-add-copy-in
+add-copy-in c = search needs
+
+copy-in-requires-2 : tie.Need-copy-in-requires-2
+copy-in-requires-2 c κs = search needs
+
+same-length : tie.Need-same-length
+same-length c = search needs
+
+returns : tie.Need-returns
+returns c =
+    let a = c .before .before .before .before .before .before .before .before .before .before .before .before .before .before .before .before .before .before .before .before .before .before .before .before .before .args in
+    let d = now (a .out) in
+    let i = a .at in
+    let fits : i ≤ length d = omega (arith, c .before .before .before .before .before .before .before .before .before .before .before .before .before .before .before .before .before .before .before .before .before .before .before .before .before .pre) in
+    let n = littleEndian 4 (a .v .sum) in
+    let y1 = littleEndian 2 (bitsOf (a .v .y1)) in
+    let y2 = littleEndian 2 (bitsOf (a .v .y2)) in
+    let first = c .before .before .before .before .before .before .before .before .before .before .before .write-i16 .ensures ∙ ap (λ (z : ℤ). overwrite (c .before .before .before .before .before .before .before .before .before .before .before .before .before .before .before .before .write-u32 .last .0) (i + 6) (littleEndian 2 (bitsOf z))) (toZ-ofZ w16 (a .v .y1) (search needs)) in
+    let second = c .before .before .before .before .before .before .write-i162 .ensures ∙ ap (λ (z : ℤ). overwrite (c .before .before .before .before .before .before .before .before .before .before .before .write-i16 .last .0) (i + 8) (littleEndian 2 (bitsOf z))) (toZ-ofZ w16 (a .v .y2) (search needs)) in
+    let e2 = overwrite-chain d i planMark (i + 2) n (c .before .before .before .before .before .before .before .before .before .before .before .before .before .before .before .before .write-u32 .ensures) (c .before .before .before .before .before .before .before .before .before .before .before .before .before .before .before .before .before .before .before .before .copy-in .ensures) refl fits in
+    let e3 = overwrite-chain d i (planMark ++ n) (i + 6) y1 first e2 refl fits in
+    let e4 = overwrite-chain d i (planMark ++ n ++ y1) (i + 8) y2 second e3 refl fits in
+    overwrite-chain d i (planMark ++ n ++ y1 ++ y2) (i + 10) (now (a .links)) (c .before .before .copy-in2 .ensures) e4 refl fits
+
+pub write-plan-spec : {M : Type 1} → statement M
+write-plan-spec =
+    tie.close
+    (tie.spec
+    slice-aggregate-copy-in
+    copy-in-requires
+    add-write-u32
+    write-u32-requires
+    add-write-i16
+    write-i16-requires
+    add-write-i16-2
+    write-i16-requires-2
+    add-copy-in
+    copy-in-requires-2
+    same-length
+    returns)

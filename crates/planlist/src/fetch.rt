@@ -1,0 +1,63 @@
+// Fetching one plan from the bytes of a list.
+use crate::record::HEAD_MARK;
+use crate::record::PLAN_MARK;
+use crate::record::plan_size;
+use encoding::read::mark_at;
+use encoding::read::read_u16;
+ghost use mathlib.Core.Path.{_≡_};
+ghost use mathlib.Core.Bool.{false};
+ghost use Prim.Native.Nat.{_+_, _≤_, _<_};
+ghost use lib.ListN.{length};
+ghost use Rattle.network.specs.PlanList.{planSize};
+ghost use Rattle.network.specs.Fetching.{countIn, damaged, fetchLinks, fetchNumber, planStart, treeSizeIn};
+
+// Whether the list is damaged, whichever plan is asked for.
+fn is_damaged(list: &[u8]) -> bool
+    ensures { λ r. ⌜ r ≡ damaged (now (list .entry)) ⌝ }
+{
+    if list.len() < 10 {
+        return true;
+    }
+    let count = read_u16(list, 2) as usize;
+    let t = list[8];
+    let p = list[9];
+    let need = 10 + count * plan_size(t);
+    !mark_at(list, 0, HEAD_MARK) | (1600 < count) | (23 < t) | (2 < p) | (list.len() < need)
+}
+
+// Where plan r's record starts.
+fn plan_start(list: &[u8], r: u32) -> usize
+    requires { ⌜ (damaged (now list) ≡ false) × (r < countIn (now list)) ⌝ }
+    ensures { λ at. ⌜ (at ≡ planStart (now (list .entry)) r) × (at + planSize (treeSizeIn (now (list .entry))) ≤ length (now (list .entry))) ⌝ }
+{
+    10 + (r as usize) * plan_size(list[8])
+}
+
+// The number of fetching plan r: 0 if it is found.
+pub fn fetch_number(list: &[u8], r: u32) -> u8
+    ensures { λ n. ⌜ n ≡ fetchNumber (now (list .entry)) r ⌝ }
+{
+    if is_damaged(list) {
+        return 12;
+    }
+    if r < (read_u16(list, 2) as u32) {
+        if mark_at(list, plan_start(list, r), PLAN_MARK) {
+            return 0;
+        }
+        return 12;
+    }
+    13
+}
+
+// The links of plan r, a part of the list; an empty part if it is not found.
+pub fn fetch_links<'a>(list: &'a [u8], r: u32) -> &'a [u8]
+    ensures { λ part. ⌜ now part ≡ fetchLinks (now (list .entry)) r ⌝ }
+{
+    if fetch_number(list, r) == 0 {
+        let at = plan_start(list, r);
+        let start = at + 10;
+        let end = at + plan_size(list[8]);
+        return &list[start..end];
+    }
+    &list[0..0]
+}

@@ -1,0 +1,86 @@
+// The records of a plan list, and the orders of the costs in them.
+use encoding::copy::copy_in;
+use encoding::read::read_i16;
+use encoding::read::read_u32;
+use encoding::write::write_i16;
+use encoding::write::write_u8;
+use encoding::write::write_u16;
+use encoding::write::write_u32;
+use network::Costs;
+ghost use mathlib.Core.Path.{_≡_};
+ghost use Prim.Native.Nat.{_+_, _≤_, _<_};
+ghost use lib.ListN.{length};
+ghost use lib.Signed.{leZ};
+ghost use Rattle.network.specs.PlanList.{headBytes, headSize, planBytes, planSize};
+ghost use Rattle.encoding.specs.Overwrite.{overwrite};
+ghost use Rattle.planlist.specs.Records.{atMost, costsAt, inOrder};
+
+// The marks of a list head and of a plan record.
+pub(crate) const HEAD_MARK: [u8; 2] = *b"PH";
+
+pub(crate) const PLAN_MARK: [u8; 2] = *b"PL";
+
+// The size of a plan record of t links.
+pub(crate) fn plan_size(t: u8) -> usize
+    ensures { λ r. ⌜ (r ≡ planSize t) × (r < 266) ⌝ }
+{
+    10 + (t as usize)
+}
+
+// The order of signed numbers.
+fn le16(a: i16, b: i16) -> bool
+    ensures { λ r. ⌜ r ≡ leZ a b ⌝ }
+{
+    a <= b
+}
+
+// No entry of v is above that of w.
+pub(crate) fn at_most(v: Costs, w: Costs) -> bool
+    ensures { λ r. ⌜ r ≡ atMost v w ⌝ }
+{
+    (v.sum <= w.sum) & (le16(v.y1, w.y1) & le16(v.y2, w.y2))
+}
+
+// v stands before w in dictionary order, or is the same.
+pub(crate) fn in_order(v: Costs, w: Costs) -> bool
+    ensures { λ r. ⌜ r ≡ inOrder v w ⌝ }
+{
+    (v.sum <= w.sum)
+        & (!(w.sum <= v.sum) | (le16(v.y1, w.y1) & (!le16(w.y1, v.y1) | le16(v.y2, w.y2))))
+}
+
+// The costs that the plan record at an index holds.
+pub(crate) fn costs_at(s: &[u8], at: usize) -> Costs
+    requires { ⌜ at + planSize 0 ≤ length (now s) ⌝ }
+    ensures { λ r. ⌜ r ≡ costsAt (now (s .entry)) at ⌝ }
+{
+    Costs {
+        sum: read_u32(s, at + 2),
+        y1: read_i16(s, at + 6),
+        y2: read_i16(s, at + 8),
+    }
+}
+
+// Writes a plan record.
+pub(crate) fn write_plan(out: &mut [u8], at: usize, v: Costs, links: &[u8])
+    requires { ⌜ at + planSize (length (now links)) ≤ length (now out) ⌝ }
+    ensures { λ _. ⌜ now (out .exit) ≡ overwrite (now (out .entry)) at (planBytes v (now (links .entry))) ⌝ }
+{
+    copy_in(out, at, &PLAN_MARK);
+    write_u32(out, at + 2, v.sum);
+    write_i16(out, at + 6, v.y1);
+    write_i16(out, at + 8, v.y2);
+    copy_in(out, at + 10, links);
+}
+
+// Writes a list head at the front.
+pub(crate) fn write_head(out: &mut [u8], count: u16, solved: u32, t: u8, p: u8)
+    requires { ⌜ headSize ≤ length (now out) ⌝ }
+    ensures { λ _. ⌜ now (out .exit) ≡ overwrite (now (out .entry)) 0 (headBytes count solved t p) ⌝ }
+{
+    copy_in(out, 0, &HEAD_MARK);
+    write_u16(out, 2, count);
+    write_u32(out, 4, solved);
+    write_u8(out, 8, t);
+    write_u8(out, 9, p);
+}

@@ -8,6 +8,5 @@ pub mod Walk
 pub mod Found
 pub mod Listed
 pub mod Plans
-pub mod Budget
 -- what code goes by: positions by places
 pub mod Places

@@ -4,29 +4,27 @@ use mathlib.Core.Bool.{Bool, cond, _&&_}
 use mathlib.Core.List.{List, [], _∷_, map, _++_}
 use mathlib.Core.Option.{Option, none, some}
 use mathlib.Core.Path.{_≡_, refl, ap, _∙_, fun-ext}
-use Prim.Native.Nat.{ℕ, suc, _-_, _≤_, _<_}
+use Prim.Native.Nat.{ℕ, suc, _-_}
 use native.Mathlib.Nat.{suc-inj, zero-add}
 use native.Mathlib.Omega.{arith}
 use lib.Dec.{eqb}
 use lib.IntN.{ℤ, pos}
-use lib.ListN.{length, length-map}
-use Rattle.order.specs.Lists.{_∈_}
+use lib.ListN.{length}
 use Rattle.order.specs.Order.{dictionary, orderℕ, orderℤ, pairs}
 use Rattle.order.specs.Sorted.{ascending}
 use Rattle.order.specs.Least.{least-ext, ranked}
 use Rattle.spanning.specs.Tree.{identity, isForest, mergeAll-keeps}
-use Rattle.spanning.specs.Kruskal.{greedy-forest, greedy-⊆, kruskal, kruskal-again, kruskal-greedy}
-use Rattle.spanning.specs.Count.{forest-few}
+use Rattle.spanning.specs.Kruskal.{kruskal, kruskal-again}
 use Rattle.spanning.specs.Rising.{rising-sublist}
-use Rattle.spanning.specs.Best.{byCost, edges-within}
+use Rattle.spanning.specs.Best.{byCost}
 use Rattle.spanning.specs.Listing.{listing-iff, listing-length, listing-sorted, spanningTrees}
 use Rattle.frontier.specs.Dominance.{leAll}
-use Rattle.frontier.specs.Frontier.{Picks, best, picks-length}
+use Rattle.frontier.specs.Frontier.{best}
 use Rattle.kmax.specs.KMax.{kmax}
 use Rattle.kmax.specs.Ceilings.{ceilings, ceilings-ranked, ceilings-slack, meets, slackOf}
 use Rattle.kmax.specs.Subsets.{subsets}
 use Rattle.kmax.specs.Search.{Candidates, Trees, search-leftmost, searchIn, subsets-candidates}
-use Rattle.planning.specs.Graph.{Graph, Sound, completed, costsFrom, exceptionals, links, normals, problem, searchSets, searchTree, total, under, valuesFrom}
+use Rattle.planning.specs.Graph.{Graph, Sound, completed, costsFrom, exceptionals, links, normals, problem, searchSets, searchTree, total, under}
 use Rattle.planning.specs.Complete.{completes}
 
 module _ (G : Graph) where
@@ -58,12 +56,6 @@ module _ (G : Graph) where
   abbrev pub base : List ℕ → List ℕ
   base cs = kruskal ends identity cs
 
-  pub base-few : Sound G → (cs : List ℕ) → ((c : ℕ) → c ∈ cs → c < m) → length (base cs) ≤ n - 1
-  base-few S cs below =
-      let g = kruskal-greedy ends identity cs in
-      let w = edges-within ends n m (S .stations) (S .within) (base cs) (λ c k. below c (greedy-⊆ ends g c k)) in
-      omega (arith, forest-few n (S .stations) (map ends (base cs)) w (greedy-forest ends g), length-map (base cs) ends)
-
   pub completed-base : (cs X : List ℕ) → completed G (base cs) X ≡ completed G cs X
   unfolding completed
   completed-base cs X =
@@ -91,11 +83,3 @@ module _ (G : Graph) where
   -- the search through all sets in the order of `subsets`,
   pub search-best : Sound G → (bs : List ℤ) → length bs ≡ length ks → searchTree G bs ≡ best (problem G) bs
   search-best S bs l = search-sets S bs l (subsets (slackOf ks) (exceptionals G bs)) (subsets-candidates (exceptionals G bs) (slackOf ks))
-
-  -- and the search at every position of the walk
-  values-length : (i : ℕ) (js : List ℕ) → length (valuesFrom G i js) ≡ length js
-  values-length i [] = refl
-  values-length i (k ∷ js) = ap suc (values-length (suc i) js)
-
-  pub search-picks : Sound G → {bs : List ℤ} → Picks bs (problem G .values) → searchTree G bs ≡ best (problem G) bs
-  search-picks S {bs} p = search-best S bs (picks-length p ∙ values-length 0 ks)

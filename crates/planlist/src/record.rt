@@ -1,4 +1,5 @@
 // The records of a plan list, and the orders of the costs in them.
+use encoding::compare::le16;
 use encoding::copy::copy_in;
 use encoding::read::read_i16;
 use encoding::read::read_u32;
@@ -10,7 +11,6 @@ use network::Costs;
 ghost use mathlib.Core.Path.{_≡_};
 ghost use Prim.Native.Nat.{_+_, _≤_, _<_};
 ghost use lib.ListN.{length};
-ghost use lib.Signed.{leZ};
 ghost use Rattle.network.specs.PlanList.{headBytes, headSize, planBytes, planSize};
 ghost use Rattle.encoding.specs.Overwrite.{overwrite};
 ghost use Rattle.planlist.specs.Records.{atMost, costsAt, inOrder};
@@ -25,13 +25,6 @@ pub(crate) fn plan_size(t: u8) -> usize
     ensures { λ r. ⌜ (r ≡ planSize t) × (r < 266) ⌝ }
 {
     10 + (t as usize)
-}
-
-// The order of signed numbers.
-fn le16(a: i16, b: i16) -> bool
-    ensures { λ r. ⌜ r ≡ leZ a b ⌝ }
-{
-    a <= b
 }
 
 // No entry of v is above that of w.

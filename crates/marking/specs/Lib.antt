@@ -1,0 +1,9 @@
+-- Marks of the walk's positions, for any number of ceilings whose values are in falling order.
+-- the different values of a ceiling
+pub mod Place
+pub mod Values
+pub mod Slots
+-- a box of marks, which marks it sets, what an answer settles
+pub mod Paint
+pub mod Box
+pub mod Settle

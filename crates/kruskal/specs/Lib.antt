@@ -1,0 +1,10 @@
+-- the links by cost, then number
+pub mod ByCost
+-- a loop that folds a list
+pub mod FoldTake
+-- the forest value that takes one link after another
+pub mod Tree
+-- the links that are kept
+pub mod Base
+-- what the forest value means: the theory's Kruskal
+pub mod Grown

@@ -1,0 +1,78 @@
+-- Kruskal's method as a program has it: a forest value that takes one link after another. What a walk over links needs of its input.
+use Prim.Native.Nat.{ℕ, _+_, _*_, _≤_, _<_}
+use mathlib.Core.Bool.{Bool, cond, false, true}
+use mathlib.Core.List.{List}
+use mathlib.Core.Path.{_≡_}
+use native.Mathlib.Omega.{arith}
+use lib.ListN.{length, getD, set, replicate}
+use Rattle.order.specs.Lists.{_∈_}
+use Rattle.spanning.specs.Labelling.{Edge, crosses}
+use Rattle.spanning.specs.LabelList.{labelOf}
+use Rattle.network.specs.Limits.{maxLinks, maxSum}
+use Rattle.forest.specs.Groups.{apart, joined, link}
+use Rattle.kruskal.specs.ByCost.{costOf}
+use Rattle.kruskal.specs.declared.tree.Tree.{Tree}
+
+-- the two stations that link c joins
+abbrev pub endsOf : List ℕ → ℕ → Edge
+endsOf ends c = link (getD ends (2 * c) 0) (getD ends (2 * c + 1) 0)
+
+-- no link is taken
+unfoldable pub bare : Tree
+bare = record { forest = apart; taken = replicate maxLinks false; sum = 0; count = 0 }
+
+-- the forest with link e taken
+unfoldable pub added : List ℕ → List ℕ → Tree → ℕ → Tree
+added ends sums t e =
+    record {
+      forest = joined (t .forest) (endsOf ends e .a) (endsOf ends e .b);
+      taken = set (t .taken) e true;
+      sum = t .sum + costOf sums e;
+      count = t .count + 1;
+    }
+
+-- link e is taken where it joins two groups
+unfoldable pub linked : List ℕ → List ℕ → Tree → ℕ → Tree
+linked ends sums t e = cond (crosses (labelOf (t .forest .leader)) (endsOf ends e)) (added ends sums t e) t
+
+-- ---- what a walk needs: two ends and a cost for each of the links, and no sum out of range
+
+pub record Columns (ends sums : List ℕ) : Type 0 where
+  pub ends-size : length ends ≡ 2 * maxLinks
+  pub sums-size : length sums ≡ maxLinks
+
+-- link e is one of the links, with a cost in range
+pub record Usable (sums : List ℕ) (e : ℕ) : Type 0 where
+  pub below : e < maxLinks
+  pub cheap : costOf sums e ≤ maxSum
+
+pub record Walkable (sums l : List ℕ) : Type 0 where
+  pub few : length l ≤ maxLinks
+  pub usable : (e : ℕ) → e ∈ l → Usable sums e
+
+-- a forest of at most j links
+pub record Light (j : ℕ) (t : Tree) : Type 0 where
+  pub sum-bound : t .sum ≤ j * maxSum
+  pub count-bound : t .count ≤ j
+
+-- taking a link adds at most its cost, and at most 1 to the count
+pub linked-adds : (ends sums : List ℕ) (t : Tree) (e : ℕ) {r : Tree} → r ≡ linked ends sums t e → (r .sum ≤ t .sum + costOf sums e) × (r .count ≤ t .count + 1)
+unfolding linked added
+linked-adds ends sums t e q = rw q (go (crosses (labelOf (t .forest .leader)) (endsOf ends e)))
+  where
+    go : (b : Bool) → (cond b (added ends sums t e) t .sum ≤ t .sum + costOf sums e) × (cond b (added ends sums t e) t .count ≤ t .count + 1)
+    go true = (omega arith, omega arith)
+    go false = (omega arith, omega arith)
+
+pub light-up : {i : ℕ} {t : Tree} (j : ℕ) → i ≤ j → Light i t → Light j t
+light-up j h l = record { sum-bound = omega arith; count-bound = omega arith }
+
+pub light-linked : (ends : List ℕ) {sums : List ℕ} {e : ℕ} (j : ℕ) {t r : Tree} → Usable sums e → Light j t → r ≡ linked ends sums t e → Light (j + 1) r
+light-linked ends {sums} {e} j {t} u l q =
+    let cost = u .cheap in
+    let adds = linked-adds ends sums t e q in
+    record { sum-bound = omega arith; count-bound = omega arith }
+
+pub light-bare : Light 0 bare
+unfolding bare
+light-bare = record { sum-bound = omega arith; count-bound = omega arith }

@@ -1,0 +1,111 @@
+// The best tree of a network under bounds, with the links in order of cost.
+use crate::buffer::put_links;
+use crate::ceilings::above_flags;
+use crate::ceilings::rank;
+use crate::search::Best;
+use crate::search::consider;
+use crate::search::consider_sets;
+use crate::select::exceptions;
+use crate::select::normal_links;
+use kruskal::links::base_of;
+use kruskal::tree::empty;
+use network::Network;
+ghost use mathlib.Core.Path.{_≡_};
+ghost use Prim.Native.Nat.{_-_, _≤_};
+ghost use lib.ListN.{length, take};
+ghost use Rattle.network.specs.Limits.{maxLinks};
+ghost use Rattle.network.specs.Yard.{treeSize};
+ghost use Rattle.network.specs.NetworkFine.{NetworkFine};
+ghost use Rattle.kruskal.specs.ByCost.{linkOrder};
+ghost use Rattle.kruskal.specs.Tree.{Columns, Walkable};
+ghost use Rattle.solver.specs.Select.{Cheap};
+ghost use Rattle.solver.specs.Sets.{trials};
+ghost use Rattle.solver.specs.Two.{FlagsSize, two, twoOf};
+ghost use Rattle.solver.specs.Search.{bestOf, nothing};
+ghost use Rattle.solver.specs.Tries.{searched};
+ghost use Rattle.solver.specs.Answer.{bestFound, treeLeft};
+
+// The best tree over all exception sets, with the base and the exceptions at hand.
+fn best_from(
+    ends: &[u8],
+    sums: &[u32],
+    base: &[u8],
+    goal: u8,
+    v: &[u8],
+    w: &[u8],
+    r: u8,
+    s: u8,
+    l: &[u8],
+) -> Best
+    requires { ⌜ Columns (now ends) (now sums) × Walkable (now sums) (now base) × FlagsSize (now v) (now w) × Walkable (now sums) (now l) ⌝ }
+    ensures { λ q. ⌜ q ≡ searched (now (ends .entry)) (now (sums .entry)) goal (two r (now (v .entry)) s (now (w .entry))) (now (base .entry)) nothing (trials (now (l .entry))) ⌝ }
+{
+    let start = empty();
+    let none = Best {
+        found: false,
+        sum: 0,
+        taken: [false; 40],
+    };
+    let b = consider(ends, sums, base, goal, start, (0 < r) & (0 < s), none);
+    consider_sets(ends, sums, base, goal, v, w, r, s, l, b)
+}
+
+// The best tree of m links in the given order, under ceilings with the ranks r and s and the flags v and w.
+fn best_of(
+    ends: &[u8],
+    sums: &[u32],
+    goal: u8,
+    v: &[u8],
+    w: &[u8],
+    r: u8,
+    s: u8,
+    m: usize,
+    order: &[u8],
+) -> Best
+    requires { ⌜ Columns (now ends) (now sums) × Walkable (now sums) (now order) × FlagsSize (now v) (now w) × (m ≤ maxLinks) × Cheap (now sums) m ⌝ }
+    ensures { λ q. ⌜ q ≡ bestOf (now (ends .entry)) (now (sums .entry)) goal (two r (now (v .entry)) s (now (w .entry))) m (now (order .entry)) ⌝ }
+{
+    let free = normal_links(sums, order, v, w);
+    let a = free.link;
+    let i = free.count;
+    let kept = base_of(ends, sums, &a[..i]);
+    let b = kept.link;
+    let j = kept.count;
+    let odd = exceptions(m, v, w, r, s);
+    let x = odd.link;
+    let n = odd.count;
+    best_from(ends, sums, &b[..j], goal, v, w, r, s, &x[..n])
+}
+
+// The best tree of a network under the bounds b1 and b2.
+fn best_in_order(net: Network, order: &[u8], b1: i16, b2: i16) -> Best
+    requires { ⌜ NetworkFine net × (take (net .m) (now order) ≡ linkOrder (net .sums) (net .m)) ⌝ }
+    ensures { λ q. ⌜ q ≡ bestOf (net .ends) (net .sums) (net .n - 1) (twoOf net b1 b2) (net .m) (linkOrder (net .sums) (net .m)) ⌝ }
+{
+    let p = net.p;
+    let m = net.m;
+    let k = net.k;
+    let goal = net.n - 1;
+    let ends = net.ends;
+    let sums = net.sums;
+    let costs = net.costs;
+    let r = rank(0 < p, k[0]);
+    let s = rank(1 < p, k[1]);
+    let v = above_flags(&costs, 0, 0 < p, b1);
+    let w = above_flags(&costs, 1, 1 < p, b2);
+    best_of(&ends, &sums, goal, &v, &w, r, s, m, &order[..m])
+}
+
+// Whether a tree fits under the bounds b1 and b2. The links of the best one go to the front of the buffer, whose other bytes stay.
+pub fn best_links(net: Network, order: &[u8], b1: i16, b2: i16, tree: &mut [u8]) -> bool
+    requires { ⌜ NetworkFine net × (take (net .m) (now order) ≡ linkOrder (net .sums) (net .m)) × (treeSize net ≤ length (now tree)) ⌝ }
+    ensures { λ r. ⌜ (r ≡ bestFound net b1 b2) × (now (tree .exit) ≡ treeLeft net b1 b2 (now (tree .entry))) ⌝ }
+{
+    let b = best_in_order(net, order, b1, b2);
+    if b.found {
+        let taken = b.taken;
+        put_links(tree, taken);
+        return true;
+    }
+    false
+}

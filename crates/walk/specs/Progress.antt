@@ -1,0 +1,137 @@
+-- The walk as its loop does it: what the marks and the records are when the first n positions have been visited.
+use mathlib.Core.Bool.{Bool, true, false, cond, _||_}
+use mathlib.Core.List.{List, [], _∷_, _++_, map}
+use mathlib.Core.Option.{Option, none, some}
+use mathlib.Core.Path.{_≡_, refl, sym, ap, _∙_, ap₂, subst, subst⁻¹}
+use Prim.Native.Nat.{ℕ, _+_, _≤_, _<_}
+use native.Mathlib.Omega.{arith}
+use lib.IntN.{ℤ}
+use lib.ListN.{drop, getD, getD-replicate, length, length-append, replicate}
+use Rattle.order.specs.Lists.{any-snoc}
+use Rattle.frontier.specs.Frontier.{Entry, answers, collect, covered, covers, solve}
+use Rattle.frontier.specs.Walk.{positions-length}
+use Rattle.planning.specs.Grid.{walk-lists}
+use Rattle.network.specs.Yard.{best, graph, treeSize, yard}
+use Rattle.network.specs.Walk.{positionCount, positions, solved, solvedCount, values}
+use Rattle.network.specs.PlanList.{costsOf, filled, headBytes, headSize, join, planBytes, planSize}
+use Rattle.network.specs.NetworkFine.{NetworkFine, graph-sound}
+use Rattle.network.specs.declared.Network.{Network}
+use Rattle.planlist.specs.Blocks.{blocks}
+use Rattle.planlist.specs.Records.{Writable}
+use Rattle.planlist.specs.Insertion.{insertRecord}
+use Rattle.planlist.specs.Stored.{Holds, absent, costs-padded, holds-inserted, holds-none}
+use Rattle.planlist.specs.Finished.{finished, finished-list, thenZeros}
+use Rattle.marking.specs.Settle.{Settled}
+use Rattle.marking.specs.Slots.{rank-count}
+use Rattle.walk.specs.Entries.{collect-more, entries-all, entries-fewer, entries-none, entries-skip, entries-solve, entriesAt, takeAnswer}
+
+-- a mark
+abbrev pub bit : Bool → ℕ
+bit b = cond b 1 0
+
+bit-or : (a b : Bool) → cond b 1 (bit a) ≡ bit (a || b)
+bit-or true true = refl
+bit-or true false = refl
+bit-or false true = refl
+bit-or false false = refl
+
+bit-zero : (a : Bool) → bit a ≡ 0 → a ≡ false
+bit-zero true e = absurd (omega arith)
+bit-zero false e = refl
+
+bit-one : (a : Bool) → (bit a ≡ 0 → ⊥) → a ≡ true
+bit-one true e = refl
+bit-one false e = absurd (e refl)
+
+-- ---- what solving a position does, and what holds between positions
+
+module _ (net : Network) where
+  -- the first `count` records behind the head's place are those of the plans l
+  abbrev pub Stands : ℕ → List ℕ → List (List ℕ) → Type 0
+  Stands count bs l = Holds (yard net) (costsOf net) (λ ts. ts) (absent net) (planSize (treeSize net)) count (drop headSize bs) l
+
+  -- the records with an answer's taken in
+  abbrev pub takeRecord : Option (List ℕ) → List (List ℕ) → List (List ℕ)
+  takeRecord none rs = rs
+  takeRecord (some ts) rs = insertRecord (planBytes (costsOf net ts) ts) rs
+
+  -- what solving position n does to the marks ms and to the `count` records of bs
+  pub record Visited (n : ℕ) (ms ms′ bs bs′ : List ℕ) (count count′ : ℕ) : Type 0 where
+    pub marks : Settled (yard net) n (best net (getD (positions net) n [])) ms ms′
+    pub records : blocks (planSize (treeSize net)) count′ (drop headSize bs′)
+        ≡ takeRecord (best net (getD (positions net) n [])) (blocks (planSize (treeSize net)) count (drop headSize bs))
+    pub writable : (ts : List ℕ) → best net (getD (positions net) n []) ≡ some ts → Writable (costsOf net ts)
+    pub bounded : count′ ≤ count + 1
+
+  -- the marks, the records and the counts when the entries es have been solved
+  pub record Reached (es : List (Entry ℤ (List ℕ))) (ms bs : List ℕ) (count done : ℕ) : Type 0 where
+    pub marks : (x : ℕ) → x < positionCount net → getD ms x 0 ≡ bit (covered (yard net) es (getD (positions net) x []))
+    pub records : Stands count bs (collect (yard net) [] (answers (yard net) es))
+    pub counted : done ≡ length es
+
+  -- when the first n positions have been visited
+  abbrev pub Progress : ℕ → List ℕ → List ℕ → ℕ → ℕ → Type 0
+  Progress n = Reached (entriesAt (yard net) n)
+
+  pub start : (size : ℕ) (bs : List ℕ) → positionCount net ≤ size → Progress 0 (replicate size 0) bs 0 0
+  start size bs h =
+      subst (λ (es : List (Entry ℤ (List ℕ))). Reached es (replicate size 0) bs 0 0) (sym (entries-none (yard net)))
+      (record {
+        marks = λ x g. getD-replicate size x 0 0 (omega arith);
+        records = holds-none (yard net) (costsOf net) (λ ts. ts) (absent net) (planSize (treeSize net)) (drop headSize bs);
+        counted = refl;
+      })
+
+  module _ (n : ℕ) (h : n < positionCount net) {ms bs : List ℕ} {count done : ℕ} (p : Progress n ms bs count done) where
+    inside : n < length (positions net)
+    inside = omega (arith, positions-length (values net))
+
+    -- a marked position is skipped
+    pub skip : (getD ms n 0 ≡ 0 → ⊥) → Progress (n + 1) ms bs count done
+    skip ne =
+        let seen = bit-one (covered (yard net) (entriesAt (yard net) n) (getD (positions net) n [])) (λ e. ne (p .marks n h ∙ e)) in
+        subst (λ (es : List (Entry ℤ (List ℕ))). Reached es ms bs count done) (sym (entries-skip (yard net) n inside seen)) p
+
+    module _ (e : getD ms n 0 ≡ 0) where
+      unseen : covered (yard net) (entriesAt (yard net) n) (getD (positions net) n []) ≡ false
+      unseen = bit-zero (covered (yard net) (entriesAt (yard net) n) (getD (positions net) n [])) (sym (p .marks n h) ∙ e)
+
+      -- with no more to spend there is no list
+      pub spent : done < solvedCount net
+      spent = omega (arith, p .counted, entries-fewer (yard net) n inside unseen)
+
+      -- an unmarked one is solved
+      pub step : NetworkFine net → {ms′ bs′ : List ℕ} {count′ : ℕ} → Visited n ms ms′ bs bs′ count count′ → Progress (n + 1) ms′ bs′ count′ (done + 1)
+      step fine {ms′} {bs′} {count′} v =
+          let new = solve (yard net) (getD (positions net) n []) in
+          let es = entriesAt (yard net) n in
+          subst (λ (l : List (Entry ℤ (List ℕ))). Reached l ms′ bs′ count′ (done + 1)) (sym (entries-solve (yard net) n inside unseen))
+          (record {
+            marks = λ x g. v .marks x g ∙ ap (cond (covers (yard net) new (getD (positions net) x [])) 1) (p .marks x g)
+                ∙ bit-or (covered (yard net) es (getD (positions net) x [])) (covers (yard net) new (getD (positions net) x []))
+                ∙ ap bit (sym (any-snoc (λ z. covers (yard net) z (getD (positions net) x [])) es new));
+            records = subst⁻¹ (Stands count′ bs′) (collect-more (yard net) es new) (taken (new .answer) refl (v .records));
+            counted = omega (arith, p .counted, length-append es (new ∷ []));
+          })
+        where
+          -- the answer's plan among those that stand
+          taken : (o : Option (List ℕ)) → best net (getD (positions net) n []) ≡ o
+              → blocks (planSize (treeSize net)) count′ (drop headSize bs′) ≡ takeRecord o (blocks (planSize (treeSize net)) count (drop headSize bs))
+              → Stands count′ bs′ (takeAnswer (yard net) o (collect (yard net) [] (answers (yard net) (entriesAt (yard net) n))))
+          taken none b e = record { records-are = e ∙ p .records .records-are; stored = p .records .stored }
+          taken (some ts) b e =
+              holds-inserted (yard net) (costsOf net) (λ ts. ts) (absent net) refl ts (collect (yard net) [] (answers (yard net) (entriesAt (yard net) n))) (p .records)
+              (record { writable = v .writable ts b; padded = costs-padded net ts (omega (arith, rank-count net fine, fine .few-ceilings)) }) e
+
+  -- at the end all positions are visited
+  pub finish : (n : ℕ) → positionCount net ≤ n → {ms bs : List ℕ} {count done : ℕ} → Progress n ms bs count done → Reached (solved net) ms bs count done
+  finish n h {ms} {bs} {count} {done} p =
+      subst (λ (es : List (Entry ℤ (List ℕ))). Reached es ms bs count done) (entries-all (yard net) n (omega (arith, positions-length (values net)))) p
+
+  -- THE LIST: finished, the records of the entries solved are the promised list, with zeros behind it
+  pub full : NetworkFine net → {ms bs : List ℕ} {count done : ℕ} → Reached (solved net) ms bs count done
+      → finished bs count done (treeSize net) (net .p) ≡ filled net (length bs)
+  full fine {ms} {bs} {count} {done} r =
+      finished-list (yard net) (costsOf net) (λ ts. ts) (absent net) bs done (treeSize net) (net .p) (r .records)
+      ∙ ap₂ (λ (k : ℕ) (l : List (List ℕ)). thenZeros (length bs) (headBytes (length l) k (treeSize net) (net .p) ++ join (map (λ ts. planBytes (costsOf net ts) ts) l)))
+      (r .counted) (walk-lists (graph net) (graph-sound net fine))

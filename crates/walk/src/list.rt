@@ -1,0 +1,73 @@
+// The list of plans.
+use crate::visit::solve_at;
+use kruskal::by_cost::order_links;
+use marking::values::ceiling_values;
+use network::Network;
+use network::Refusal;
+use planlist::list::clear;
+use planlist::list::finish;
+ghost use mathlib.Core.Bool.{cond};
+ghost use mathlib.Core.Path.{_≡_};
+ghost use Prim.Native.Nat.{_≤_};
+ghost use lib.ListN.{length, replicate};
+ghost use Rattle.network.specs.Calls.{status};
+ghost use Rattle.network.specs.Checked.{refuseIf};
+ghost use Rattle.network.specs.Limits.{maxLinks};
+ghost use Rattle.network.specs.NetworkFine.{NetworkFine};
+ghost use Rattle.network.specs.PlanList.{bufferNeed, filled};
+ghost use Rattle.network.specs.Walk.{passes};
+ghost use Rattle.walk.specs.Visit.{Ready};
+
+// Visits all positions, whose values are v1 and v2, and lists the plans; gives up where the allowance is spent and a position is to be solved.
+fn visit_all(
+    net: Network,
+    order: &[u8],
+    v1: &[i16],
+    v2: &[i16],
+    allowance: u32,
+    out: &mut [u8],
+) -> Refusal
+    requires { ⌜ Ready net (now order) (now v1) (now v2) × (length (now v1) ≤ maxLinks) × (length (now v2) ≤ maxLinks) × (bufferNeed net ≤ length (now out)) ⌝ }
+    ensures { λ r. ⌜ (r ≡ status (refuseIf (passes net allowance) 10 0)) × (now (out .exit) ≡ cond (passes net allowance) (replicate (length (now (out .entry))) 0) (filled net (length (now (out .entry))))) ⌝ }
+{
+    let total = v1.len() * v2.len();
+    let mut marks = [0u8; 1600];
+    let mut n = 0;
+    let mut count = 0;
+    let mut solved: u32 = 0;
+    while n < total {
+        if marks[n] == 0 {
+            if solved == allowance {
+                clear(out);
+                return Refusal {
+                    number: 10,
+                    place: 0,
+                };
+            }
+            count = solve_at(net, order, v1, v2, n, &mut marks, out, count);
+            solved += 1;
+            n += 1;
+        } else {
+            n += 1;
+        }
+    }
+    finish(out, count, solved, net.n - 1, net.p);
+    Refusal {
+        number: 0,
+        place: 0,
+    }
+}
+
+// Lists the plans of a network by the threshold walk, or gives up where it would solve more positions than allowed.
+pub fn list_plans(net: Network, allowance: u32, out: &mut [u8]) -> Refusal
+    requires { ⌜ NetworkFine net × (bufferNeed net ≤ length (now out)) ⌝ }
+    ensures { λ r. ⌜ (r ≡ status (refuseIf (passes net allowance) 10 0)) × (now (out .exit) ≡ cond (passes net allowance) (replicate (length (now (out .entry))) 0) (filled net (length (now (out .entry))))) ⌝ }
+{
+    let sums = net.sums;
+    let order = order_links(&sums, net.m);
+    let mut v1 = [0i16; 40];
+    let mut v2 = [0i16; 40];
+    let m1 = ceiling_values(net, 0, &mut v1);
+    let m2 = ceiling_values(net, 1, &mut v2);
+    visit_all(net, &order, &v1[0..m1], &v2[0..m2], allowance, out)
+}

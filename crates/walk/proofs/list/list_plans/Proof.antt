@@ -1,10 +1,14 @@
 -- `walk::list::list_plans` meets its contract: the links in order and the values of the two ceilings are what the walk sets out with.
-use mathlib.Core.Path.{ap, _∙_}
+use mathlib.Core.Path.{_≡_, ap, _∙_}
 use Prim.Native.Nat.{ℕ, _-_}
 use native.Mathlib.Nat.{sub-zero}
 use native.Mathlib.Omega.{arith}
 use borrow.Author.Needs.{needs}
-use lib.ListN.{length-take, take}
+use lib.ListN.{length, length-take, take}
+use lib.Seq.{length-take-le}
+use Rattle.network.specs.PlanList.{bufferNeed}
+use Rattle.walk.specs.Call.{room-reply, short-reply}
+use Rattle.walk.specs.Visit.{Ready, need-is}
 use Rattle.walk.proofs.list.list_plans.Statement.{statement}
 use Rattle.walk.proofs.list.list_plans.Tie as tie
 
@@ -25,6 +29,35 @@ slice-aggregate-ceiling-values-2 c = search needs
 
 ceiling-values-requires-2 : tie.Need-ceiling-values-requires-2
 ceiling-values-requires-2 c κs = search needs
+
+need-requires : tie.Need-need-requires
+need-requires c κs = search needs
+
+-- what the walk sets out with
+ready : (c : tie.After-need) → Ready (c .before .before .before .before .before .before .before .before .before .before .before .args .net) (c .before .before .before .before .before .before .before .order-links .result)
+    (take (c .before .before .before .before .before .ceiling-values .result) (c .before .before .before .before .before .ceiling-values .last .1 .1 .0))
+    (take (c .before .before .ceiling-values2 .result) (c .before .before .ceiling-values2 .last .1 .1 .0))
+ready c =
+    record {
+      fine = c .before .before .before .before .before .before .before .before .before .before .before .pre;
+      ordered = c .before .before .before .before .before .before .before .order-links .ensures;
+      first = c .before .before .before .before .before .ceiling-values .ensures .1;
+      second = c .before .before .ceiling-values2 .ensures .1;
+    }
+
+-- what was computed is what the list buffer needs
+need-known : (c : tie.After-need) → c .need .result ≡ bufferNeed (c .before .before .before .before .before .before .before .before .before .before .before .args .net)
+need-known c =
+    let l1 = c .before .before .before .before .before .ceiling-values .last .1 .1 .0 in
+    let l2 = c .before .before .ceiling-values2 .last .1 .1 .0 in
+    let n1 : length l1 ≡ 40 = search needs in
+    let n2 : length l2 ≡ 40 = search needs in
+    let r1 = c .before .before .before .before .before .ceiling-values in
+    let r2 = c .before .before .ceiling-values2 in
+    c .need .ensures ∙ need-is (ready c) _ _ (length-take-le (r1 .result) l1 (omega (arith, r1 .ensures .0))) (length-take-le (r2 .result) l2 (omega (arith, r2 .ensures .0)))
+
+returns : tie.Need-returns
+returns c = let e = need-known (c .before) in short-reply _ _ _ (omega arith)
 
 slice-aggregate-visit-all : tie.Need-slice-aggregate-visit-all
 slice-aggregate-visit-all c = search needs
@@ -49,27 +82,31 @@ part-visit-all-end-2 c = search needs
 
 visit-all-requires : tie.Need-visit-all-requires
 visit-all-requires c κs =
-    let s = c .before .before .before .before .before .before .before .before .before .before .before .before .before .before .before .before in
-    let first = c .before .before .before .before .before .before .before .before .before .before .ceiling-values in
-    let second = c .before .before .before .before .before .before .before .ceiling-values2 in
+    let d = c .before .before .before .before .before .before .before in
+    let r = ready d in
+    let e = need-known d in
+    let first = d .before .before .before .before .before .ceiling-values in
+    let second = d .before .before .ceiling-values2 in
     let l1 = first .last .1 .1 .0 in
     let l2 = second .last .1 .1 .0 in (
       record {
-        fine = s .pre .0;
-        ordered = c .before .before .before .before .before .before .before .before .before .before .before .before .order-links .ensures;
-        first = ap (λ (k : ℕ). take k l1) (sub-zero (first .result)) ∙ first .ensures .1;
-        second = ap (λ (k : ℕ). take k l2) (sub-zero (second .result)) ∙ second .ensures .1;
+        fine = r .fine;
+        ordered = r .ordered;
+        first = ap (λ (k : ℕ). take k l1) (sub-zero (first .result)) ∙ r .first;
+        second = ap (λ (k : ℕ). take k l2) (sub-zero (second .result)) ∙ r .second;
       },
       omega (arith, length-take (first .result - 0) l1, first .ensures .0),
       omega (arith, length-take (second .result - 0) l2, second .ensures .0),
-      s .pre .1,
+      omega arith,
     )
 
 same-length : tie.Need-same-length
 same-length c = search needs
 
-returns : tie.Need-returns
-returns c = search needs
+returns-2 : tie.Need-returns-2
+returns-2 c =
+    let e = need-known (c .before .before .before .before .before .before .before .before .before .before) in
+    room-reply _ _ _ _ _ (omega arith) (c .before .before .visit-all .ensures .0) (c .before .before .visit-all .ensures .1)
 
 pub list-plans-spec : {M : Type 1} → statement M
 list-plans-spec =
@@ -81,6 +118,8 @@ list-plans-spec =
     ceiling-values-requires
     slice-aggregate-ceiling-values-2
     ceiling-values-requires-2
+    need-requires
+    returns
     slice-aggregate-visit-all
     sub-visit-all
     part-visit-all-start
@@ -90,4 +129,4 @@ list-plans-spec =
     part-visit-all-end-2
     visit-all-requires
     same-length
-    returns)
+    returns-2)

@@ -1,4 +1,4 @@
--- the judge of a drawn tree
+-- what each call on a survey replies and leaves, by the inner functions' results: the judge, the ceilings question, the list call
 pub mod Judge
--- the list call
+pub mod Best
 pub mod Listing

@@ -1,19 +1,16 @@
--- The reply to a list call and the list buffer after it, by what the survey's check, the buffer and the walk say.
-use mathlib.Core.Bool.{cond}
+-- The reply to a list call and the list buffer after it, by what the survey's check and the walk say.
 use mathlib.Core.List.{List}
 use mathlib.Core.Path.{_≡_, subst}
-use Prim.Native.Nat.{ℕ, _≤_, _<_}
-use borrow.Author.Tests.{le-ltb, lt-ltb}
-use lib.ListN.{length, replicate}
-use Rattle.network.specs.Walk.{passes}
-use Rattle.network.specs.PlanList.{bufferNeed, filled}
-use Rattle.network.specs.Checked.{refuseIf, _orElse_}
+use Prim.Native.Nat.{ℕ}
+use lib.ListN.{length}
+use Rattle.network.specs.Checked.{_orElse_}
 use Rattle.network.specs.Refusals.{checkedOf}
 use Rattle.network.specs.Calls.{ifFine, listAfter, listChecked, listStatus, roomChecked, status}
-use Rattle.network.specs.declared.Checked.the-variants.{Fine, Refused}
+use Rattle.network.specs.declared.Checked.the-variants.{Refused}
 use Rattle.network.specs.declared.Network.{Network}
 use Rattle.network.specs.declared.Refusal.{Refusal}
 use Rattle.survey.specs.Survey.{Read}
+use Rattle.walk.specs.Call.{walkAfter, walkStatus}
 
 module _ (s : List ℕ) (allowance : ℕ) (buffer : List ℕ) where
   -- the survey is refused
@@ -21,27 +18,11 @@ module _ (s : List ℕ) (allowance : ℕ) (buffer : List ℕ) where
   unfolding listStatus listChecked roomChecked listAfter status ifFine _orElse_
   list-refused r e = (rw e, rw e)
 
-  module _ (net : Network) (read : Read s net) where
-    -- the buffer is below its need
-    pub list-short : length buffer < bufferNeed net
-        → (record { number = 9; place = 0 } ≡ listStatus s allowance (length buffer)) × (buffer ≡ listAfter s allowance buffer)
-    unfolding listStatus listChecked roomChecked listAfter status ifFine refuseIf _orElse_
-    list-short h =
-        let short = lt-ltb (length buffer) (bufferNeed net) h in
-        (rw (read .accepted, ← read .network, short), rw (read .accepted, ← read .network, short))
-
-    -- there is room for the list
-    room-fine : bufferNeed net ≤ length buffer → roomChecked s (length buffer) ≡ Fine
-    unfolding roomChecked refuseIf _orElse_
-    room-fine h = rw (read .accepted, ← read .network, le-ltb (length buffer) (bufferNeed net) h)
-
-    -- the walk is made
-    pub list-walked : (r : Refusal) (left : List ℕ) → bufferNeed net ≤ length buffer → r ≡ status (refuseIf (passes net allowance) 10 0)
-        → left ≡ cond (passes net allowance) (replicate (length buffer) 0) (filled net (length buffer))
-        → (r ≡ listStatus s allowance (length buffer)) × (left ≡ listAfter s allowance buffer)
-    unfolding listStatus listChecked listAfter ifFine _orElse_
-    list-walked r left h e f =
-        let fine = room-fine h in
-        let reply = subst (λ (w : Network). r ≡ status (refuseIf (passes w allowance) 10 0)) (read .network) e in
-        let bytes = subst (λ (w : Network). left ≡ cond (passes w allowance) (replicate (length buffer) 0) (filled w (length buffer))) (read .network) f in
-        (rw fine reply, rw fine bytes)
+  -- it is accepted, and the call is made on its network
+  pub list-accepted : (net : Network) → Read s net → (r : Refusal) (left : List ℕ) → r ≡ walkStatus net allowance (length buffer)
+      → left ≡ walkAfter net allowance buffer → (r ≡ listStatus s allowance (length buffer)) × (left ≡ listAfter s allowance buffer)
+  unfolding listStatus listChecked roomChecked listAfter walkStatus walkAfter _orElse_
+  list-accepted net read r left e f =
+      let reply = subst (λ (w : Network). r ≡ walkStatus w allowance (length buffer)) (read .network) e in
+      let bytes = subst (λ (w : Network). left ≡ walkAfter w allowance buffer) (read .network) f in
+      (rw (read .accepted) reply, rw (read .accepted) bytes)

@@ -1,13 +1,17 @@
 // The calls open to others. None asks anything of its caller.
+use kruskal::by_cost::order_links;
 use network::Answer;
 use network::Checked;
 use network::Refusal;
 use planlist::fetch;
+use question::solve;
 use survey::read_survey;
 use trees::costs::tree_costs;
 use trees::drawn::is_tree;
+use walk::list::list_plans;
 ghost use mathlib.Core.Path.{_≡_};
-ghost use Rattle.network.specs.Calls.{judged, says};
+ghost use lib.ListN.{length};
+ghost use Rattle.network.specs.Calls.{asked, judged, listAfter, listStatus, says, treeAfter};
 ghost use Rattle.network.specs.Fetching.{fetchLinks, fetchNumber};
 
 // The judge of a drawn tree: its costs, or the refusal. `drawn` holds its link numbers, one byte each.
@@ -29,6 +33,42 @@ pub fn judge(survey: &[u8], drawn: &[u8]) -> Answer
                 })
             }
         }
+    }
+}
+
+// The best tree under the numbers b1 and b2: its costs, with its links in the first t bytes of the tree buffer, or the refusal.
+pub fn best(survey: &[u8], b1: i16, b2: i16, tree: &mut [u8]) -> Answer
+    ensures { λ r. ⌜ (says r ≡ asked (now (survey .entry)) b1 b2 (length (now (tree .entry)))) × (now (tree .exit) ≡ treeAfter (now (survey .entry)) b1 b2 (now (tree .entry))) ⌝ }
+{
+    let read = read_survey(survey);
+    let checked = read.checked;
+    let net = read.network;
+    match checked {
+        Checked::Refused(refusal) => Answer::Refused(refusal),
+        Checked::Fine => {
+            if tree.len() < net.n as usize - 1 {
+                return Answer::Refused(Refusal {
+                    number: 9,
+                    place: 0,
+                });
+            }
+            let sums = net.sums;
+            let order = order_links(&sums, net.m);
+            solve(net, &order, b1, b2, tree)
+        }
+    }
+}
+
+// The list of plans that no other plan beats, into the list buffer, solving at most `allowance` positions: number 0 and place 0, or the refusal.
+pub fn list(survey: &[u8], allowance: u32, buffer: &mut [u8]) -> Refusal
+    ensures { λ r. ⌜ (r ≡ listStatus (now (survey .entry)) allowance (length (now (buffer .entry)))) × (now (buffer .exit) ≡ listAfter (now (survey .entry)) allowance (now (buffer .entry))) ⌝ }
+{
+    let read = read_survey(survey);
+    let checked = read.checked;
+    let net = read.network;
+    match checked {
+        Checked::Refused(refusal) => refusal,
+        Checked::Fine => list_plans(net, allowance, buffer),
     }
 }
 

@@ -1,0 +1,102 @@
+// What the program prints for a survey.
+use console::number;
+use console::signed;
+use console::text;
+use encoding::read::read_u16;
+use encoding::read::read_u32;
+use network::Answer;
+use network::Costs;
+use network::Refusal;
+use planner::fetch_links;
+use planner::fetch_number;
+use planner::judge;
+use planner::list;
+
+// The positions that may be solved.
+const ALLOWANCE: u32 = 1600;
+
+// `refused N at P`
+fn refused(r: Refusal) {
+    text(b"refused ");
+    number(r.number as u64);
+    text(b" at ");
+    number(r.place as u64);
+    text(b"\n");
+}
+
+// The sum and the present ceiling costs.
+fn costs(v: Costs, p: u8) {
+    number(v.sum as u64);
+    if 0 < p {
+        text(b" ");
+        signed(v.y1);
+    }
+    if 1 < p {
+        text(b" ");
+        signed(v.y2);
+    }
+}
+
+// A space and a link number.
+fn link(c: u8) {
+    text(b" ");
+    number(c as u64);
+}
+
+fn links(ts: &[u8]) {
+    text(b" links");
+    for i in 0..ts.len() {
+        link(ts[i]);
+    }
+    text(b"\n");
+}
+
+// The line of plan r.
+fn line(survey: &[u8], plans: &[u8], r: u32, p: u8) {
+    if fetch_number(plans, r) == 0 {
+        let ts = fetch_links(plans, r);
+        let answer = judge(survey, ts);
+        let Answer::Plan(v) = answer else {
+            return;
+        };
+        costs(v, p);
+        links(ts);
+    }
+}
+
+// `plans C solved Q`
+fn head(count: u16, solved: u32) {
+    text(b"plans ");
+    number(count as u64);
+    text(b" solved ");
+    number(solved as u64);
+    text(b"\n");
+}
+
+// The plans of a list.
+fn lines(survey: &[u8], plans: &[u8]) {
+    if 10 <= plans.len() {
+        let count = read_u16(plans, 2);
+        let p = plans[9];
+        head(count, read_u32(plans, 4));
+        for r in 0..count {
+            line(survey, plans, r as u32, p);
+        }
+    }
+}
+
+// The reply to a list call, and the plans of its list.
+fn reply(survey: &[u8], r: Refusal, plans: &[u8]) {
+    if r.number == 0 {
+        lines(survey, plans);
+    } else {
+        refused(r);
+    }
+}
+
+// The plans of a survey, or its refusal. The buffer has the most bytes that a list needs.
+pub fn plan(survey: &[u8]) {
+    let mut plans = [0u8; 52810];
+    let r = list(survey, ALLOWANCE, &mut plans);
+    reply(survey, r, &plans);
+}

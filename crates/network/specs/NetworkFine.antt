@@ -2,7 +2,8 @@
 use Prim.Native.Nat.{ℕ, _+_, _-_, _*_, _/_, _%_, _≤_, _<_}
 use mathlib.Core.Path.{_≡_, refl, sym, ap, _∙_}
 use mathlib.Core.Bool.{_&&_, _||_, false}
-use mathlib.Core.List.{List}
+use mathlib.Core.List.{List, [], _∷_}
+use native.Mathlib.Nat.{mul-le-mul-right}
 use native.Mathlib.Omega.{arith}
 use borrow.Author.Tests.{eqb-true, le-leb, leb-false, ltb-false, lt-ltb, not-false}
 use lib.Dec.{leb, ltb}
@@ -10,13 +11,16 @@ use lib.ListN.{getD, length, length-take}
 use lib.Seq.{getD-take}
 use lib.IntN.{pos}
 use Rattle.order.specs.Lists.{mem-getD}
-use Rattle.planning.specs.Graph.{Sound}
-use Rattle.network.specs.Limits.{maxCeilings, maxLinks, maxRank, maxStations, maxSum}
+use Rattle.frontier.specs.Frontier.{product}
+use Rattle.planning.specs.Graph.{Sound, valuesAt, valuesFrom}
+use Rattle.planning.specs.Grid.{values-few}
+use Rattle.network.specs.Limits.{maxCeilings, maxLinks, maxPlans, maxRank, maxStations, maxSum}
 use Rattle.network.specs.Bytes.{byteAt, signed, u16At}
 use Rattle.network.specs.Column.{column, column-at, column-length}
 use Rattle.network.specs.Survey.{ceilingsIn, costIn, costsIn, endIn, endsIn, layoutOf, linkCount, linkStart, networkOf, networkWith, sumIn, sumsIn}
 use Rattle.network.specs.Refusals.{absentCost, badRank, badRanks, checkedOf, outside}
-use Rattle.network.specs.Yard.{graph}
+use Rattle.network.specs.Yard.{graph, ranks}
+use Rattle.network.specs.Walk.{positionCount}
 use Rattle.network.specs.Accepted.{Accepted, accepted, below-two, layout-roomy, or-false}
 use Rattle.network.specs.declared.Checked.the-variants.{Fine}
 use Rattle.network.specs.declared.Layout.{Layout}
@@ -109,3 +113,18 @@ graph-sound net fine =
 
 pub survey-sound : (s : List ℕ) → checkedOf s ≡ Fine → Sound (graph (networkOf s))
 survey-sound s e = graph-sound (networkOf s) (survey-fine s e)
+
+-- M is at most 1,600
+pub position-limit : (net : Network) → NetworkFine net → positionCount net ≤ maxPlans
+position-limit net fine = go (ranks net) (omega (arith, length-take (net .p) (net .k), fine .few-ceilings))
+  where
+    few : (i : ℕ) → length (valuesAt (graph net) i) ≤ maxLinks
+    few i = omega (arith, values-few (graph net) i, fine .few-links)
+
+    go : (ks : List ℕ) → length ks ≤ maxCeilings → product (valuesFrom (graph net) 0 ks) ≤ maxPlans
+    go [] h = omega arith
+    go (k ∷ []) h = omega (arith, few 0)
+    go (k ∷ j ∷ []) h =
+        let one : length (valuesAt (graph net) 1) * 1 ≡ length (valuesAt (graph net) 1) = omega arith in
+        rw one (omega (arith, few 1, mul-le-mul-right (length (valuesAt (graph net) 1)) (few 0)))
+    go (k ∷ j ∷ l ∷ ks) h = absurd (omega arith)

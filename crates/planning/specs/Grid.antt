@@ -6,9 +6,10 @@ use Prim.Native.Nat.{ℕ, suc, _≤_, _<_}
 use native.Mathlib.Omega.{arith}
 use lib.IntN.{ℤ, pos}
 use lib.ListN.{length, length-map}
-use Rattle.order.specs.Lists.{_∈_, distinct, first-distinct, first-exists, first-mem, map-mem}
+use Rattle.order.specs.Lists.{_∈_, distinct, distinct-few, first-distinct, first-exists, first-mem, map-mem}
+use Rattle.order.specs.Perm.{perm-length}
 use Rattle.order.specs.Order.{TotalOrder, equal, equal-refl, equal→≡, orderℤ, reverse, ≡→equal}
-use Rattle.order.specs.Sorted.{distinct-apart, mem-numbers, mem-sort, sort-rising}
+use Rattle.order.specs.Sorted.{distinct-apart, mem-numbers, mem-sort, numbers-length, sort-perm, sort-rising}
 use Rattle.spanning.specs.Rising.{rising-range}
 use Rattle.spanning.specs.Listing.{listing-iff, listing-length}
 use Rattle.frontier.specs.Frontier.{OnGrid, Picks, listed, picks-cons, picks-nil, plans}
@@ -36,6 +37,12 @@ module _ (G : Graph) where
   values-fall i =
       let vs : List ℤ = map (cost i) (links G) in
       sort-rising (reverse orderℤ) (λ v. v) (distinct (equal orderℤ) vs) (distinct-apart (λ v. v) (equal orderℤ) (λ x y q. ≡→equal orderℤ y x q) vs)
+
+  -- a ceiling has no more different values than there are links
+  pub values-few : (i : ℕ) → length (valuesAt G i) ≤ m
+  values-few i =
+      let vs : List ℤ = map (cost i) (links G) in
+      omega (arith, perm-length (sort-perm (reverse orderℤ) (λ v. v) (distinct (equal orderℤ) vs)), distinct-few (equal orderℤ) vs, length-map (links G) (cost i), numbers-length m 0)
 
   pub all-fall : (i : ℕ) (js : List ℕ) → AllFalling orderℤ (valuesFrom G i js)
   all-fall i [] = all-nil

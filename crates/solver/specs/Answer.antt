@@ -13,13 +13,13 @@ use Rattle.network.specs.Calls.{isNone, linksOf}
 use Rattle.network.specs.NetworkFine.{NetworkFine}
 use Rattle.network.specs.declared.Network.{Network}
 use Rattle.kruskal.specs.ByCost.{costOf, linkOrder}
-use Rattle.solver.specs.Flags.{rising}
+use Rattle.search.specs.Flags.{rising}
 use Rattle.solver.specs.Buffer.{put-front, putAt}
-use Rattle.solver.specs.Two.{twoOf}
-use Rattle.solver.specs.Search.{bestOf}
+use Rattle.exceptions.specs.Two.{twoOf}
+use Rattle.search.specs.Search.{bestOf}
 use Rattle.solver.specs.Found.{Shows, none-shown, tree-shown}
 use Rattle.solver.specs.Best.{best-shown}
-use Rattle.solver.specs.declared.search.Best.{Best}
+use Rattle.search.specs.declared.best.Best.{Best}
 
 -- a tree fits
 unfoldable pub bestFound : Network → ℤ → ℤ → Bool

@@ -33,10 +33,10 @@ use Rattle.kruskal.specs.Tree.{endsOf}
 use Rattle.kruskal.specs.Base.{kept}
 use Rattle.kruskal.specs.Grown.{kept-kruskal}
 use Rattle.solver.specs.Filter.{filter-both, filter-ext, filter-sort}
-use Rattle.solver.specs.Sets.{trials, trials-candidates, trials-filter}
-use Rattle.solver.specs.Ceilings.{exception, normal}
-use Rattle.solver.specs.Two.{two-admitted, two-bounds, two-few, two-normal, twoOf}
-use Rattle.solver.specs.Search.{bestOf, considered, nothing}
+use Rattle.search.specs.Sets.{trials, trials-candidates, trials-filter}
+use Rattle.exceptions.specs.Ceilings.{exception, normal}
+use Rattle.exceptions.specs.Two.{two-admitted, two-bounds, two-few, two-normal, twoOf}
+use Rattle.search.specs.Search.{bestOf, considered, nothing}
 use Rattle.solver.specs.Found.{Shows, near, search-shown}
 
 -- ---- a link that is no admissible exception by itself is in no admissible set

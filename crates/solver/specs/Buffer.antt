@@ -8,7 +8,7 @@ use native.Mathlib.Numerals.{add-one}
 use native.Mathlib.Omega.{arith}
 use lib.ListN.{length, getD, set, drop, drop-of-length-le}
 use lib.Seq.{drop-cons}
-use Rattle.solver.specs.Flags.{rising}
+use Rattle.search.specs.Flags.{rising}
 
 -- a list written into a buffer from place n on
 unfoldable pub putAt : ℕ → List ℕ → List ℕ → List ℕ

@@ -34,10 +34,10 @@ use Rattle.kruskal.specs.ByCost.{costOf}
 use Rattle.kruskal.specs.Tree.{bare, endsOf, linked}
 use Rattle.kruskal.specs.Grown.{Holds, Near, bare-holds, grown-holds}
 use Rattle.kruskal.specs.declared.tree.Tree.{Tree}
-use Rattle.solver.specs.Flags.{first, first-dictionary, marks-length, marks-rising, rising}
-use Rattle.solver.specs.Ceilings.{Flagged, admitted}
-use Rattle.solver.specs.Search.{beats, considered, nothing, offered}
-use Rattle.solver.specs.declared.search.Best.{Best}
+use Rattle.search.specs.Flags.{first, first-dictionary, marks-length, marks-rising, rising}
+use Rattle.exceptions.specs.Ceilings.{Flagged, admitted}
+use Rattle.search.specs.Search.{beats, considered, nothing, offered}
+use Rattle.search.specs.declared.best.Best.{Best}
 
 -- ---- Kruskal's method keeps all of a list exactly where it is a forest
 

@@ -1,7 +1,7 @@
 // The links of the best tree, written into the caller's buffer.
 ghost use mathlib.Core.Path.{_≡_};
 ghost use Prim.Native.Nat.{_<_};
-ghost use Rattle.solver.specs.Flags.{rising};
+ghost use Rattle.search.specs.Flags.{rising};
 ghost use Rattle.solver.specs.Buffer.{next, put, putAt};
 
 // Link e is written at n where its flag is set; the place of the next link.

@@ -1,15 +1,15 @@
 // The best tree of a network under bounds, with the links in order of cost.
 use crate::buffer::put_links;
-use crate::ceilings::above_flags;
-use crate::ceilings::rank;
-use crate::search::Best;
-use crate::search::consider;
-use crate::search::consider_sets;
-use crate::select::exceptions;
-use crate::select::normal_links;
+use exceptions::ceilings::above_flags;
+use exceptions::ceilings::rank;
+use exceptions::select::exceptions;
+use exceptions::select::normal_links;
 use kruskal::links::base_of;
 use kruskal::tree::empty;
 use network::Network;
+use search::best::Best;
+use search::trials::consider;
+use search::trials::consider_sets;
 ghost use mathlib.Core.Path.{_≡_};
 ghost use Prim.Native.Nat.{_-_, _≤_};
 ghost use lib.ListN.{length, take};
@@ -18,11 +18,11 @@ ghost use Rattle.network.specs.Yard.{treeSize};
 ghost use Rattle.network.specs.NetworkFine.{NetworkFine};
 ghost use Rattle.kruskal.specs.ByCost.{linkOrder};
 ghost use Rattle.kruskal.specs.Tree.{Columns, Walkable};
-ghost use Rattle.solver.specs.Select.{Cheap};
-ghost use Rattle.solver.specs.Sets.{trials};
-ghost use Rattle.solver.specs.Two.{FlagsSize, two, twoOf};
-ghost use Rattle.solver.specs.Search.{bestOf, nothing};
-ghost use Rattle.solver.specs.Tries.{searched};
+ghost use Rattle.exceptions.specs.Select.{Cheap};
+ghost use Rattle.search.specs.Sets.{trials};
+ghost use Rattle.exceptions.specs.Two.{FlagsSize, two, twoOf};
+ghost use Rattle.search.specs.Search.{bestOf, nothing};
+ghost use Rattle.search.specs.Tries.{searched};
 ghost use Rattle.solver.specs.Answer.{bestFound, treeLeft};
 
 // The best tree over all exception sets, with the base and the exceptions at hand.

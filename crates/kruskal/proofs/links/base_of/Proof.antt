@@ -1,3 +1,4 @@
+-- The links collected, with those that will be kept of what is left, are those kept of the whole.
 use Prim.Native.Nat.{_-_, _≤_, _<_}
 use mathlib.Core.Logic.{⊎-elim}
 use mathlib.Core.Path.{_≡_, refl, sym, _∙_}
@@ -9,11 +10,6 @@ use Rattle.kruskal.specs.Base.{collect-end, collect-left, collect-start,
 use Rattle.kruskal.specs.Tree.{Usable}
 use Rattle.kruskal.proofs.links.base_of.Statement.{statement}
 use Rattle.kruskal.proofs.links.base_of.Tie as tie
-use Rattle.kruskal.proofs.links.base_of.Reads as reads
-use Rattle.kruskal.proofs.links.base_of.Lts as lts
-use Rattle.forest.proofs.Forest.join.Reads as join-reads
-use Rattle.forest.proofs.Forest.joins.Reads as joins-reads
-use Rattle.forest.proofs.Forest.new.Reads as new-reads
 
 abbrev Inv-loop : tie.InvT-loop
 Inv-loop ends sums l forest₀ link₀ n₀ k₀ k-end forest link n k = (k-end ≡ length l) × (length link ≡ 40) × (n ≤ k) × (collected ends l forest link n k ≡ kept ends forest₀ l) × (k ≤ k-end)
@@ -21,11 +17,9 @@ Inv-loop ends sums l forest₀ link₀ n₀ k₀ k-end forest link n k = (k-end 
 abbrev μ-loop : tie.MeasureT-loop
 μ-loop ends sums l forest₀ link₀ n₀ k₀ k-end forest link n k = k-end - k
 
--- src/rt:19:9
 new-requires : tie.Need-new-requires Inv-loop μ-loop
 new-requires c κs = search needs
 
--- src/rt:22:5
 -- the link at a turn
 usable : (c : tie.In-loop Inv-loop μ-loop) → let i = c .before .before .before .before .before .before .args in Usable (i .sums .now) (getD (i .l .now) (c .before .loop .k) 0)
 usable c =
@@ -36,59 +30,45 @@ usable c =
 loop-holds : tie.Need-loop-holds Inv-loop μ-loop
 loop-holds c = (refl, refl, omega arith, collect-start _ _ _ _, omega arith)
 
--- src/rt:23:17
 shared-slice-read-e : tie.Need-shared-slice-read-e Inv-loop μ-loop
 shared-slice-read-e c = search needs
 
--- src/rt:24:17
 cast-i : tie.Need-cast-i Inv-loop μ-loop
 cast-i c = let u = usable (c .before) in omega arith
 
--- src/rt:25:22
 mul-a : tie.Need-mul-a Inv-loop μ-loop
 mul-a c = let u = usable (c .before) in omega arith
 
--- src/rt:25:17
 shared-slice-read-a : tie.Need-shared-slice-read-a Inv-loop μ-loop
 shared-slice-read-a c = let u = usable (c .before .before) in omega arith
 
--- src/rt:26:22
 mul-b : tie.Need-mul-b Inv-loop μ-loop
 mul-b c = let u = usable (c .before .before) in omega arith
 
--- src/rt:26:22
 add-b : tie.Need-add-b Inv-loop μ-loop
 add-b c = let u = usable (c .before .before) in omega arith
 
--- src/rt:26:17
 shared-slice-read-b : tie.Need-shared-slice-read-b Inv-loop μ-loop
 shared-slice-read-b c = let u = usable (c .before .before .before) in omega arith
 
--- src/rt:27:12
 joins-requires : tie.Need-joins-requires Inv-loop μ-loop
 joins-requires c κs = search needs
 
--- src/rt:28:13
 join-requires : tie.Need-join-requires Inv-loop μ-loop
 join-requires c κs = search needs
 
--- src/rt:29:13
 array-write-link : tie.Need-array-write-link Inv-loop μ-loop
 array-write-link c = omega (arith, c .before .before .before .before .before .before .before .before .before .before .before .before .pre .1 .few)
 
--- src/rt:30:13
 add-n : tie.Need-add-n Inv-loop μ-loop
 add-n c = omega (arith, c .before .before .before .before .before .before .before .before .before .before .before .before .pre .1 .few)
 
--- src/rt:22:9
 add-k : tie.Need-add-k Inv-loop μ-loop
 add-k c = search needs
 
--- src/rt:22:5
 loop-less : tie.Need-loop-less Inv-loop μ-loop
 loop-less c = search needs
 
--- src/rt:22:5
 loop-again : tie.Need-loop-again Inv-loop μ-loop
 loop-again c = let v = c .before .before .before .before .before .before .loop in
     let h : v .k < length (c .before .before .before .before .before .before .before .before .before .before .before .args .l .now) = omega arith in
@@ -98,7 +78,6 @@ loop-again c = let v = c .before .before .before .before .before .before .loop i
     (λ w. (refl, rw (w .2) (v .inv .1), rw (w .3) (omega arith), rw (w .1, w .2, w .3) (collect-left _ _ _ _ _ _ _ (v .inv .3) h (sym (c .before .joins .ensures) ∙ w .0 .left)), omega arith))
     (c .if1 .came)
 
--- src/rt:15:1
 returns : tie.Need-returns Inv-loop μ-loop
 returns c = let v = c .before .loop in
     let h : length (c .before .before .before .before .before .before .args .l .now) ≤ v .k = omega arith in

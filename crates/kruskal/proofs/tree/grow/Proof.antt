@@ -1,3 +1,4 @@
+-- After k turns the four locals are the fold over the first k links.
 use Prim.Native.Nat.{ℕ, _+_, _-_, _*_, _≤_, _<_}
 use mathlib.Core.Bool.{Bool}
 use mathlib.Core.List.{List, foldl}
@@ -14,10 +15,6 @@ use Rattle.kruskal.specs.Tree.{Usable, added, linked, linked-adds}
 use Rattle.kruskal.specs.declared.tree.Tree.{Tree}
 use Rattle.kruskal.proofs.tree.grow.Statement.{statement}
 use Rattle.kruskal.proofs.tree.grow.Tie as tie
-use Rattle.kruskal.proofs.tree.grow.Reads as reads
-use Rattle.kruskal.proofs.tree.grow.Lts as lts
-use Rattle.forest.proofs.Forest.join.Reads as join-reads
-use Rattle.forest.proofs.Forest.joins.Reads as joins-reads
 
 -- the four locals as one value
 abbrev whole : Forest → List Bool → ℕ → ℕ → Tree
@@ -29,7 +26,6 @@ Inv-loop ends sums l forest₀ taken₀ sum₀ count₀ k₀ k-end forest taken 
 abbrev μ-loop : tie.MeasureT-loop
 μ-loop ends sums l forest₀ taken₀ sum₀ count₀ k₀ k-end forest taken sum count k = k-end - k
 
--- src/tree.rt:60:5
 -- the link at a turn
 usable : (c : tie.In-loop Inv-loop μ-loop) → let i = c .before .before .before .before .before .before .before .args in Usable (i .sums .now) (getD (i .l .now) (c .before .loop .k) 0)
 usable c =
@@ -40,71 +36,54 @@ usable c =
 loop-holds : tie.Need-loop-holds Inv-loop μ-loop
 loop-holds c = (omega arith, refl, search needs, refl, omega arith, omega arith)
 
--- src/tree.rt:61:17
 shared-slice-read-i : tie.Need-shared-slice-read-i Inv-loop μ-loop
 shared-slice-read-i c = search needs
 
--- src/tree.rt:61:17
 cast-i : tie.Need-cast-i Inv-loop μ-loop
 cast-i c = let u = usable (c .before) in omega arith
 
--- src/tree.rt:62:22
 mul-a : tie.Need-mul-a Inv-loop μ-loop
 mul-a c = let u = usable (c .before) in omega arith
 
--- src/tree.rt:62:17
 shared-slice-read-a : tie.Need-shared-slice-read-a Inv-loop μ-loop
 shared-slice-read-a c = let u = usable (c .before .before) in omega arith
 
--- src/tree.rt:63:22
 mul-b : tie.Need-mul-b Inv-loop μ-loop
 mul-b c = let u = usable (c .before .before) in omega arith
 
--- src/tree.rt:63:22
 add-b : tie.Need-add-b Inv-loop μ-loop
 add-b c = let u = usable (c .before .before) in omega arith
 
--- src/tree.rt:63:17
 shared-slice-read-b : tie.Need-shared-slice-read-b Inv-loop μ-loop
 shared-slice-read-b c = let u = usable (c .before .before .before) in omega arith
 
--- src/tree.rt:64:12
 joins-requires : tie.Need-joins-requires Inv-loop μ-loop
 joins-requires c κs = search needs
 
--- src/tree.rt:65:13
 join-requires : tie.Need-join-requires Inv-loop μ-loop
 join-requires c κs = search needs
 
--- src/tree.rt:66:13
 array-write-taken : tie.Need-array-write-taken Inv-loop μ-loop
 array-write-taken c = let u = usable (c .before .before .before .before .before .before) in omega arith
 
--- src/tree.rt:67:20
 mul-sum : tie.Need-mul-sum Inv-loop μ-loop
 mul-sum c = let u = usable (c .before .before .before .before .before .before) in omega arith
 
--- src/tree.rt:67:20
 shared-slice-read-sum : tie.Need-shared-slice-read-sum Inv-loop μ-loop
 shared-slice-read-sum c = let u = usable (c .before .before .before .before .before .before .before) in omega arith
 
--- src/tree.rt:67:13
 add-sum : tie.Need-add-sum Inv-loop μ-loop
 add-sum c = let u = usable (c .before .before .before .before .before .before .before) in omega (arith, c .before .before .before .before .before .before .before .before .before .before .before .before .before .before .pre .1 .few, c .before .before .before .before .before .before .before .before .before .before .before .before .before .before .pre .2)
 
--- src/tree.rt:68:13
 add-count : tie.Need-add-count Inv-loop μ-loop
 add-count c = let u = usable (c .before .before .before .before .before .before .before) in omega (arith, c .before .before .before .before .before .before .before .before .before .before .before .before .before .before .pre .1 .few, c .before .before .before .before .before .before .before .before .before .before .before .before .before .before .pre .2)
 
--- src/tree.rt:60:9
 add-k : tie.Need-add-k Inv-loop μ-loop
 add-k c = search needs
 
--- src/tree.rt:60:5
 loop-less : tie.Need-loop-less Inv-loop μ-loop
 loop-less c = search needs
 
--- src/tree.rt:60:5
 -- the turn is Kruskal's rule
 turned : (c : tie.Joined1 Inv-loop μ-loop) → let i = c .before .before .before .before .before .before .before .before .before .before .before .before .args in let v = c .before .before .before .before .before .before .loop in whole (c .if1 .forest) (c .if1 .taken) (c .if1 .sum) (c .if1 .count) ≡ linked (i .ends .now) (i .sums .now) (whole (v .forest) (v .taken) (v .sum) (v .count)) (getD (i .l .now) (v .k) 0)
 unfolding linked added
@@ -127,7 +106,6 @@ loop-again c = let v = c .before .before .before .before .before .before .loop i
     let adds = linked-adds _ _ _ _ (turned c) in
     (omega arith, refl, length-taken c, foldl-turn _ 0 _ _ _ _ _ h (v .inv .3) (turned c), omega arith, omega arith)
 
--- src/tree.rt:52:1
 returns : tie.Need-returns Inv-loop μ-loop
 returns c = let v = c .before .loop in
     let h : length (c .before .before .before .before .before .before .before .args .l .now) ≤ v .k = omega arith in

@@ -1,66 +1,49 @@
-use Rattle.kruskal.specs.Tree.{added, linked}
+-- The link joins two groups or not.
 use borrow.Author.Needs.{needs}
+use Rattle.kruskal.specs.Tree.{added, linked}
 use Rattle.kruskal.proofs.tree.link.Statement.{statement}
 use Rattle.kruskal.proofs.tree.link.Tie as tie
-use Rattle.kruskal.proofs.tree.link.Reads as reads
-use Rattle.kruskal.proofs.tree.link.Lts as lts
-use Rattle.forest.proofs.Forest.join.Reads as join-reads
-use Rattle.forest.proofs.Forest.joins.Reads as joins-reads
 
--- src/tree.rt:34:18
 mul-a : tie.Need-mul-a
 mul-a c = search needs
 
--- src/tree.rt:34:13
 shared-slice-read-a : tie.Need-shared-slice-read-a
 shared-slice-read-a c = search needs
 
--- src/tree.rt:35:18
 mul-b : tie.Need-mul-b
 mul-b c = search needs
 
--- src/tree.rt:35:18
 add-b : tie.Need-add-b
 add-b c = search needs
 
--- src/tree.rt:35:13
 shared-slice-read-b : tie.Need-shared-slice-read-b
 shared-slice-read-b c = search needs
 
--- src/tree.rt:37:8
 joins-requires : tie.Need-joins-requires
 joins-requires c κs = search needs
 
--- src/tree.rt:38:13
 join-requires : tie.Need-join-requires
 join-requires c κs = search needs
 
--- src/tree.rt:40:9
 array-write-taken : tie.Need-array-write-taken
 array-write-taken c = search needs
 
--- src/tree.rt:44:26
 mul-t20 : tie.Need-mul-t20
 mul-t20 c = search needs
 
--- src/tree.rt:44:26
 shared-slice-read-t22 : tie.Need-shared-slice-read-t22
 shared-slice-read-t22 c = search needs
 
--- src/tree.rt:44:18
 add-t23 : tie.Need-add-t23
 add-t23 c = search needs
 
--- src/tree.rt:45:20
 add-t24 : tie.Need-add-t24
 add-t24 c = search needs
 
--- src/tree.rt:41:9
 returns : tie.Need-returns
 unfolding linked added
 returns c = rw (← c .before .before .before .before .before .before .joins .ensures, c .before .before .before .before .before .if1 .taken, c .before .before .before .before .join .ensures)
 
--- src/tree.rt:29:1
 returns-2 : tie.Need-returns-2
 unfolding linked
 returns-2 c = rw (← c .before .joins .ensures, c .if1 .left)

@@ -1,82 +1,62 @@
+-- Each call is what it ensures; the bounds are read back from their bits.
 use mathlib.Core.Path.{sym, ap, _∙_}
+use borrow.Author.Needs.{needs}
 use lib.ListN.{length}
 use mir.Facts.{toZ-ofZ}
 use Rattle.kruskal.specs.ByCost.{order-length}
-use Rattle.solver.specs.Select.{walkable-order}
-use Rattle.solver.specs.Two.{flags-length}
-use Rattle.solver.specs.Tries.{assembled-network}
-use borrow.Author.Needs.{needs}
+use Rattle.exceptions.specs.Select.{walkable-order}
+use Rattle.exceptions.specs.Two.{flags-length}
+use Rattle.search.specs.Tries.{assembled-network}
 use Rattle.solver.proofs.solve.best_in_order.Statement.{statement}
 use Rattle.solver.proofs.solve.best_in_order.Tie as tie
-use Rattle.solver.proofs.solve.best_in_order.Reads as reads
-use Rattle.solver.proofs.solve.best_in_order.Lts as lts
-use Rattle.solver.proofs.ceilings.above_flags.Reads as above-flags-reads
-use Rattle.solver.proofs.ceilings.rank.Reads as rank-reads
-use Rattle.solver.proofs.solve.best_of.Reads as best-of-reads
 
--- src/solve.rt:88:16
 sub-goal : tie.Need-sub-goal
 sub-goal c = search needs
 
--- src/solve.rt:92:25
 array-read-rank : tie.Need-array-read-rank
 array-read-rank c = search needs
 
--- src/solve.rt:92:9
 rank-requires : tie.Need-rank-requires
 rank-requires c κs = search needs
 
--- src/solve.rt:93:25
 array-read-rank-2 : tie.Need-array-read-rank-2
 array-read-rank-2 c = search needs
 
--- src/solve.rt:93:9
 rank-requires-2 : tie.Need-rank-requires-2
 rank-requires-2 c κs = search needs
 
--- src/solve.rt:94:25
 slice-aggregate-above-flags : tie.Need-slice-aggregate-above-flags
 slice-aggregate-above-flags c = search needs
 
--- src/solve.rt:94:13
 above-flags-requires : tie.Need-above-flags-requires
 above-flags-requires c κs = search needs
 
--- src/solve.rt:95:25
 slice-aggregate-above-flags-2 : tie.Need-slice-aggregate-above-flags-2
 slice-aggregate-above-flags-2 c = search needs
 
--- src/solve.rt:95:13
 above-flags-requires-2 : tie.Need-above-flags-requires-2
 above-flags-requires-2 c κs = search needs
 
--- src/solve.rt:96:13
 slice-aggregate-best-of : tie.Need-slice-aggregate-best-of
 slice-aggregate-best-of c = search needs
 
--- src/solve.rt:96:20
 slice-aggregate-best-of-2 : tie.Need-slice-aggregate-best-of-2
 slice-aggregate-best-of-2 c = search needs
 
--- src/solve.rt:96:33
 slice-aggregate-best-of-3 : tie.Need-slice-aggregate-best-of-3
 slice-aggregate-best-of-3 c = search needs
 
--- src/solve.rt:96:37
 slice-aggregate-best-of-4 : tie.Need-slice-aggregate-best-of-4
 slice-aggregate-best-of-4 c = search needs
 
--- src/solve.rt:96:50
 slice-aggregate-best-of-5 : tie.Need-slice-aggregate-best-of-5
 slice-aggregate-best-of-5 c = sym (ap length (c .before .before .before .before .before .before .before .before .before .before .before .before .before .before .before .before .before .pre .1) ∙ order-length _ _)
 
--- src/solve.rt:96:5
 best-of-requires : tie.Need-best-of-requires
 best-of-requires c κs = let i = c .before .before .before .before .before .before .before .before .before .before .before .before .before .before .before .before .before in
     let fine = i .pre .0 in
     (record { ends-size = fine .lengths .1; sums-size = fine .lengths .2 }, walkable-order _ _ (fine .few-links) (fine .cheap) (i .pre .1), record { first-size = ap length (c .before .before .before .before .before .before .before .above-flags .ensures) ∙ flags-length _ _ _ _; second-size = ap length (c .before .before .before .before .before .above-flags2 .ensures) ∙ flags-length _ _ _ _ }, fine .few-links, fine .cheap)
 
--- src/solve.rt:81:1
 returns : tie.Need-returns
 returns c = let i = c .before .before .before .before .before .before .before .before .before .before .before .before .before .before .before .before .before .before in
     let f = rw (toZ-ofZ (i .fits .b1)) at (c .before .before .before .before .before .before .before .before .above-flags .ensures) in

@@ -1,0 +1,47 @@
+// The better of two trees.
+use crate::ties::first_tree;
+use kruskal::tree::Tree;
+ghost use mathlib.Core.Path.{_≡_};
+ghost use Rattle.search.specs.Search.{beats, offered};
+
+// The best tree so far, if one was found: its sum and a flag for each link.
+pub struct Best {
+    pub found: bool,
+    pub sum: u32,
+    pub taken: [bool; 40],
+}
+
+// The tree t is better than b: it has a smaller sum, or the same sum and comes first.
+fn better(b: Best, t: Tree) -> bool
+    ensures { λ r. ⌜ r ≡ beats t b ⌝ }
+{
+    if b.found {
+        if t.sum < b.sum {
+            return true;
+        }
+        if t.sum == b.sum {
+            let x = t.taken;
+            let y = b.taken;
+            return first_tree(x, y);
+        }
+        return false;
+    }
+    true
+}
+
+// t takes the place of b where it spans, that is has `goal` links, and is better.
+pub fn offer(b: Best, t: Tree, goal: u8) -> Best
+    ensures { λ r. ⌜ r ≡ offered goal b t ⌝ }
+{
+    if t.count == goal {
+        if better(b, t) {
+            let taken = t.taken;
+            return Best {
+                found: true,
+                sum: t.sum,
+                taken,
+            };
+        }
+    }
+    b
+}

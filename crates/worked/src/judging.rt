@@ -1,7 +1,7 @@
 // Yards for the reader of surveys and the judge of a drawn tree.
 use crate::report::answer;
 use crate::report::item;
-use crate::report::list;
+use crate::report::row;
 use crate::yard::Yard;
 use crate::yard::chain;
 use crate::yard::survey_a;
@@ -354,7 +354,7 @@ fn singles() {
 fn draw(yard: Yard, links: &[u8], count: u8) {
     let n = count as usize;
     if n <= links.len() {
-        list(b"drawn", &links[..n]);
+        row(b"drawn", &links[..n]);
         show(yard, &links[..n]);
     }
 }

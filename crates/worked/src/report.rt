@@ -7,7 +7,7 @@ use network::Costs;
 use network::Refusal;
 
 // `refused N at P`
-pub fn refusal(r: Refusal) {
+fn refusal(r: Refusal) {
     text(b"refused ");
     number(r.number as u64);
     text(b" at ");
@@ -38,9 +38,17 @@ pub fn item(word: &[u8], n: u8) {
 }
 
 // A word, and numbers after it.
-pub fn list(word: &[u8], links: &[u8]) {
+pub fn row(word: &[u8], links: &[u8]) {
     text(word);
     for i in 0..links.len() {
         item(b" ", links[i]);
     }
+}
+
+// The number and place of a call that only fills a buffer.
+pub fn reply(r: Refusal) {
+    text(b"number ");
+    number(r.number as u64);
+    text(b" place ");
+    number(r.place as u64);
 }

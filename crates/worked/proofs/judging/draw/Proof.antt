@@ -5,14 +5,14 @@ use borrow.Author.Needs.{needs}
 use Rattle.worked.proofs.judging.draw.Statement.{statement}
 use Rattle.worked.proofs.judging.draw.Tie as tie
 
-slice-aggregate-list : tie.Need-slice-aggregate-list
-slice-aggregate-list c = search needs
+slice-aggregate-row : tie.Need-slice-aggregate-row
+slice-aggregate-row c = search needs
 
-slice-aggregate-list-2 : tie.Need-slice-aggregate-list-2
-slice-aggregate-list-2 c = sym (length-take-le _ _ (omega arith))
+slice-aggregate-row-2 : tie.Need-slice-aggregate-row-2
+slice-aggregate-row-2 c = sym (length-take-le _ _ (omega arith))
 
-list-requires : tie.Need-list-requires
-list-requires c κs = search needs
+row-requires : tie.Need-row-requires
+row-requires c κs = search needs
 
 slice-aggregate-show : tie.Need-slice-aggregate-show
 slice-aggregate-show c = sym (length-take-le _ _ (omega arith))
@@ -30,9 +30,9 @@ pub draw-spec : {M : Type 1} → statement M
 draw-spec =
     tie.close
     (tie.spec
-    slice-aggregate-list
-    slice-aggregate-list-2
-    list-requires
+    slice-aggregate-row
+    slice-aggregate-row-2
+    row-requires
     slice-aggregate-show
     show-requires
     returns

@@ -1,16 +1,13 @@
 use Prim.Native.Nat.{_≤_, _-_}
 use borrow.Author.Needs.{needs}
-use Rattle.worked.proofs.report.list.Statement.{statement}
-use Rattle.worked.proofs.report.list.Tie as tie
+use Rattle.worked.proofs.asking.sizes.Statement.{statement}
+use Rattle.worked.proofs.asking.sizes.Tie as tie
 
 abbrev Inv-loop : tie.InvT-loop
-Inv-loop word links i₀ t4 i-end i = i ≤ i-end
+Inv-loop i₀ t2 i = i ≤ 5
 
 abbrev μ-loop : tie.MeasureT-loop
-μ-loop word links i₀ t4 i-end i = i-end - i
-
-text-requires : tie.Need-text-requires Inv-loop μ-loop
-text-requires c κs = search needs
+μ-loop i₀ t2 i = 5 - i
 
 loop-holds : tie.Need-loop-holds Inv-loop μ-loop
 loop-holds c = search needs
@@ -18,11 +15,20 @@ loop-holds c = search needs
 slice-aggregate-item : tie.Need-slice-aggregate-item Inv-loop μ-loop
 slice-aggregate-item c = search needs
 
-shared-slice-read-item : tie.Need-shared-slice-read-item Inv-loop μ-loop
-shared-slice-read-item c = search needs
+array-read-item : tie.Need-array-read-item Inv-loop μ-loop
+array-read-item c = search needs
 
 item-requires : tie.Need-item-requires Inv-loop μ-loop
 item-requires c κs = search needs
+
+survey-a-requires : tie.Need-survey-a-requires Inv-loop μ-loop
+survey-a-requires c κs = search needs
+
+array-read-ask : tie.Need-array-read-ask Inv-loop μ-loop
+array-read-ask c = search needs
+
+ask-requires : tie.Need-ask-requires Inv-loop μ-loop
+ask-requires c κs = search needs
 
 add-i : tie.Need-add-i Inv-loop μ-loop
 add-i c = search needs
@@ -36,17 +42,19 @@ loop-again c = search needs
 returns : tie.Need-returns Inv-loop μ-loop
 returns c = search needs
 
-pub list-spec : {M : Type 1} → statement M
-list-spec =
+pub sizes-spec : {M : Type 1} → statement M
+sizes-spec =
     tie.close
     (tie.spec
     Inv-loop
     μ-loop
-    text-requires
     loop-holds
     slice-aggregate-item
-    shared-slice-read-item
+    array-read-item
     item-requires
+    survey-a-requires
+    array-read-ask
+    ask-requires
     add-i
     loop-less
     loop-again

@@ -7,14 +7,11 @@ use lib.IntN.{ℤ}
 use lib.ListN.{drop, length, length-append, length-drop, replicate, take}
 use lib.Seq.{length-take-le}
 use Rattle.frontier.specs.Frontier.{Problem}
-use Rattle.network.specs.Yard.{treeSize, yard}
-use Rattle.network.specs.Walk.{plans, solvedCount}
-use Rattle.network.specs.PlanList.{costsOf, filled, headBytes, headSize, join, planSize}
+use Rattle.network.specs.PlanList.{headBytes, headSize, join, planSize}
 use Rattle.network.specs.declared.Costs.{Costs}
-use Rattle.network.specs.declared.Network.{Network}
 use Rattle.planlist.specs.Blocks.{blocks, join-blocks}
 use Rattle.planlist.specs.Records.{encode}
-use Rattle.planlist.specs.Stored.{Holds, absent, holds-count}
+use Rattle.planlist.specs.Stored.{Holds, holds-count}
 
 -- a buffer of `size` bytes that begins with these and is 0 after them
 abbrev pub thenZeros : ℕ → List ℕ → List ℕ
@@ -46,9 +43,3 @@ pub finished-list : {S : Type 0} (P : Problem ℤ S) (costs : S → Costs) (link
 unfolding finished
 finished-list P costs links pad bs solved t p {count} {l} h =
     ap₂ (λ (k : ℕ) (rs : List (List ℕ)). thenZeros (length bs) (headBytes k solved t p ++ join rs)) (holds-count P costs links pad h) (h .records-are)
-
--- the list of a yard
-pub finished-filled : (net : Network) (bs : List ℕ) {count : ℕ}
-    → Holds (yard net) (costsOf net) (λ ts. ts) (absent net) (planSize (treeSize net)) count (drop headSize bs) (plans net)
-    → finished bs count (solvedCount net) (treeSize net) (net .p) ≡ filled net (length bs)
-finished-filled net bs h = finished-list (yard net) (costsOf net) (λ ts. ts) (absent net) bs (solvedCount net) (treeSize net) (net .p) h

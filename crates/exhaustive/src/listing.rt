@@ -119,11 +119,13 @@ fn tree(yard: Yard, i: usize) -> u64 {
     NONE
 }
 
-// Every set in its place, the greatest first.
-pub fn fill(list: &mut [u64], yard: Yard) {
-    for i in 0..list.len() {
+// The trees of a yard, each in its set's place, the greatest set first.
+pub fn trees_of(yard: Yard) -> [u64; 128] {
+    let mut list = [NONE; 128];
+    for i in 0..128usize {
         list[i] = tree(yard, i);
     }
+    list
 }
 
 // How many trees a list has.

@@ -8,17 +8,17 @@ mod tally;
 mod visits;
 
 use listing::count;
-use listing::fill;
+use listing::trees_of;
 use small::Yard;
+use small::length;
 use small::make;
 use small::next;
-use small::write;
+use small::survey_of;
 use tally::Tally;
 
 // The trees of a yard, and both comparisons.
 fn compare(survey: &[u8], yard: Yard, tally: Tally) -> Tally {
-    let mut sets = [0u64; 128];
-    fill(&mut sets, yard);
+    let sets = trees_of(yard);
     let trees: &[u64] = &sets;
     let asked = questions::differences(survey, yard, trees);
     plans::compare(survey, yard, trees, tally.yard(count(trees), asked))
@@ -26,8 +26,8 @@ fn compare(survey: &[u8], yard: Yard, tally: Tally) -> Tally {
 
 // The survey of a yard.
 fn survey(yard: Yard, tally: Tally) -> Tally {
-    let mut bytes = [0u8; 90];
-    let len = write(&mut bytes, yard);
+    let bytes = survey_of(yard);
+    let len = length(yard);
     if len <= 90 {
         return compare(&bytes[..len], yard, tally);
     }

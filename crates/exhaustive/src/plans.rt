@@ -54,13 +54,15 @@ fn next_plan(trees: &[u64], from: u64) -> u64 {
 }
 
 // The plans by rising vector, and none after the last.
-fn fill_plans(plans: &mut [u64], trees: &[u64]) {
+fn plans_of(trees: &[u64]) -> [u64; 40] {
+    let mut plans = [NONE; 40];
     let mut from = 0;
-    for i in 0..plans.len() {
+    for i in 0..40usize {
         let plan = next_plan(trees, from);
         plans[i] = plan;
         from = plan / 256 + 1;
     }
+    plans
 }
 
 // The first eight bytes of a plan record: mark, sum and y1.
@@ -110,21 +112,15 @@ fn is_list(given: &[u8], plans: &[u64], head: u64, tail: u64, size: usize) -> bo
     same
 }
 
-// Whether the planner's reply to the list call has a number.
-fn replies(survey: &[u8], allowance: u32, number: u8, given: &mut [u8]) -> bool {
-    is_refusal(list(survey, allowance, given), number)
-}
-
 // 1 where the planner's reply or list differs.
 fn differs(survey: &[u8], allowance: u32, number: u8, plans: &[u64], head: u64, tail: u64) -> u64 {
     let mut given = [DIRT; ROOM];
-    let replies = replies(survey, allowance, number, &mut given);
+    let reply = list(survey, allowance, &mut given);
     let size = 10 + (tail % 256) as usize;
-    if replies & is_list(&given, plans, head, tail, size) {
-        0
-    } else {
-        1
+    if is_refusal(reply, number) & is_list(&given, plans, head, tail, size) {
+        return 0;
     }
+    1
 }
 
 // 1 where the planner does not refuse one position less, with the buffer cleared.
@@ -145,8 +141,7 @@ fn differences(survey: &[u8], yard: Yard, plans: &[u64], solved: u32) -> u64 {
 
 // The plans of a yard, and the list calls.
 pub fn compare(survey: &[u8], yard: Yard, trees: &[u64], tally: Tally) -> Tally {
-    let mut rows = [0u64; 40];
-    fill_plans(&mut rows, trees);
+    let rows = plans_of(trees);
     let plans: &[u64] = &rows;
     let d = differences(survey, yard, plans, solved(yard, trees));
     tally.list(count(plans), d)

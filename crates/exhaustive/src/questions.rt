@@ -101,28 +101,28 @@ fn allowed(yard: Yard, i: u8, bound: u8) -> u8 {
     if i < yard.p { bound / 2 } else { 7 }
 }
 
-// The planner's reply under two bounds.
-fn reply(survey: &[u8], b1: i16, b2: i16, given: &mut [u8]) -> Answer {
-    best(survey, b1, b2, given)
+// The best tree under two bounds, or none.
+fn wanted(yard: Yard, trees: &[u64], b1: u8, b2: u8) -> u64 {
+    best_of(trees, allowed(yard, 0, b1), allowed(yard, 1, b2))
 }
 
 // 1 where the planner differs in the reply, the links or the bytes past them.
-fn differs(survey: &[u8], yard: Yard, trees: &[u64], b1: u8, b2: u8) -> u64 {
+fn differs(survey: &[u8], b1: u8, b2: u8, tree: u64) -> u64 {
     let mut given = [DIRT; 8];
-    let answer = reply(survey, bound(b1), bound(b2), &mut given);
-    let tree = best_of(trees, allowed(yard, 0, b1), allowed(yard, 1, b2));
+    let answer = best(survey, bound(b1), bound(b2), &mut given);
     if agrees(answer, tree) & holds(&given, set_of(tree)) {
-        0
-    } else {
-        1
+        return 0;
     }
+    1
 }
 
 // How often the planner differs under the 256 pairs of bounds.
 pub fn differences(survey: &[u8], yard: Yard, trees: &[u64]) -> u64 {
     let mut n = 0;
     for i in 0..256u32 {
-        let d = differs(survey, yard, trees, (i / 16) as u8, (i % 16) as u8);
+        let b1 = (i / 16) as u8;
+        let b2 = (i % 16) as u8;
+        let d = differs(survey, b1, b2, wanted(yard, trees, b1, b2));
         n = wrapping_add_u64(n, d);
     }
     n

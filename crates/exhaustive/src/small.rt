@@ -181,10 +181,16 @@ fn survey_byte(yard: Yard, i: usize) -> u8 {
     byte(link_costs(yard, e), at)
 }
 
-// The survey of a yard, where there is room for seven links, and its length.
-pub fn write(survey: &mut [u8], yard: Yard) -> usize {
-    for i in 0..survey.len() {
+// The survey of a yard, with room for seven links.
+pub fn survey_of(yard: Yard) -> [u8; 90] {
+    let mut survey = [0u8; 90];
+    for i in 0..90usize {
         survey[i] = survey_byte(yard, i);
     }
+    survey
+}
+
+// How many bytes the survey has.
+pub fn length(yard: Yard) -> usize {
     6 + 12 * (yard.m as usize)
 }

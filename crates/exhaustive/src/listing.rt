@@ -70,7 +70,7 @@ fn plus(sums: u64, set: u8, s: u8, e: u8) -> u8 {
     s
 }
 
-// The sum of a set; four links have 60 at most.
+// The sum of a set; four links have 12 at most.
 fn sum(sums: u64, set: u8) -> u8 {
     let mut s = 0;
     for e in 0..7 {

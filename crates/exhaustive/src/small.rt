@@ -132,7 +132,7 @@ pub fn make(i: u32, x: u64) -> Yard {
         m: links(x, n),
         choices: byte(kind, 4),
         pairs,
-        sums: sums & 0x0F0F0F0F0F0F0F0F,
+        sums: sums & 0x0303030303030303,
         costs1: codes(costs, p > 0),
         costs2: codes(next(costs), p > 1),
     }

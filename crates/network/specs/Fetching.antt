@@ -18,9 +18,12 @@ treeSizeIn list = byteAt list 8
 abbrev pub ceilingsIn : List ℕ → ℕ
 ceilingsIn list = byteAt list 9
 
--- where plan r's record starts; its link bytes start 10 bytes later, at 20 + r × (10 + t)
+-- where plan r's record starts, and where its link bytes do: at byte 20 + r × (10 + t)
 abbrev pub planStart : List ℕ → ℕ → ℕ
 planStart list r = headSize + r * planSize (treeSizeIn list)
+
+abbrev pub linksStart : List ℕ → ℕ → ℕ
+linksStart list r = planStart list r + 10
 
 -- the list is damaged, whichever plan is asked for
 unfoldable pub damaged : List ℕ → Bool
@@ -34,4 +37,8 @@ fetchNumber list r = cond (damaged list) 12 (cond (ltb r (countIn list)) (cond (
 
 -- the t link bytes of plan r, a part of the list; an empty part if the number is not 0
 unfoldable pub fetchLinks : List ℕ → ℕ → List ℕ
-fetchLinks list r = cond (eqb (fetchNumber list r) 0) (take (treeSizeIn list) (drop (planStart list r + 10) list)) []
+fetchLinks list r = cond (eqb (fetchNumber list r) 0) (take (treeSizeIn list) (drop (linksStart list r) list)) []
+
+-- where that part starts; 0 if the number is not 0
+unfoldable pub fetchStart : List ℕ → ℕ → ℕ
+fetchStart list r = cond (eqb (fetchNumber list r) 0) (linksStart list r) 0

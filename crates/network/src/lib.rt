@@ -20,6 +20,7 @@ pub struct Costs {
 }
 
 // The number of a refusal, and its place: 0 for the yard record, the link number plus 1 for a link.
+#[repr(C)]
 pub struct Refusal {
     pub number: u8,
     pub place: u8,

@@ -16,7 +16,7 @@ use Rattle.network.specs.PlanList.{costsOf, filled, headBytes, headMark, headSi
 use Rattle.network.specs.Yard.{treeSize}
 use Rattle.network.specs.Walk.{plans, solvedCount}
 use Rattle.network.specs.Accepted.{or-false}
-use Rattle.network.specs.Fetching.{ceilingsIn, countIn, damaged, fetchLinks, fetchNumber, planStart, treeSizeIn}
+use Rattle.network.specs.Fetching.{ceilingsIn, countIn, damaged, fetchLinks, fetchNumber, fetchStart, linksStart, planStart, treeSizeIn}
 use Rattle.network.specs.declared.Costs.{Costs}
 use Rattle.network.specs.declared.Network.{Network}
 use Rattle.encoding.specs.RoundTrip.{u16-bytes}
@@ -85,13 +85,21 @@ module _ (list : List ℕ) (r : ℕ) where
       go false true c h e = (refl, h refl)
       go false false c h e = absurd (omega arith)
 
-  pub links-found : fetchNumber list r ≡ 0 → fetchLinks list r ≡ take (treeSizeIn list) (drop (planStart list r + 10) list)
+  pub links-found : fetchNumber list r ≡ 0 → fetchLinks list r ≡ take (treeSizeIn list) (drop (linksStart list r) list)
   unfolding fetchLinks
   links-found e = rw e
 
   pub links-none : (fetchNumber list r ≡ 0 → ⊥) → fetchLinks list r ≡ []
   unfolding fetchLinks
   links-none e = rw (ne-eqb (fetchNumber list r) 0 e)
+
+  pub start-found : fetchNumber list r ≡ 0 → fetchStart list r ≡ linksStart list r
+  unfolding fetchStart
+  start-found e = rw e
+
+  pub start-none : (fetchNumber list r ≡ 0 → ⊥) → fetchStart list r ≡ 0
+  unfolding fetchStart
+  start-none e = rw (ne-eqb (fetchNumber list r) 0 e)
 
 -- ---- a written list
 

@@ -9,7 +9,7 @@ ghost use mathlib.Core.Bool.{false};
 ghost use Prim.Native.Nat.{_+_, _≤_, _<_};
 ghost use lib.ListN.{length};
 ghost use Rattle.network.specs.PlanList.{planSize};
-ghost use Rattle.network.specs.Fetching.{countIn, damaged, fetchLinks, fetchNumber, planStart, treeSizeIn};
+ghost use Rattle.network.specs.Fetching.{countIn, damaged, fetchLinks, fetchNumber, fetchStart, planStart, treeSizeIn};
 
 // Whether the list is damaged, whichever plan is asked for.
 fn is_damaged(list: &[u8]) -> bool
@@ -47,6 +47,16 @@ pub fn fetch_number(list: &[u8], r: u32) -> u8
         return 12;
     }
     13
+}
+
+// Where the links of plan r start in the list; 0 if it is not found.
+pub fn fetch_start(list: &[u8], r: u32) -> usize
+    ensures { λ at. ⌜ at ≡ fetchStart (now (list .entry)) r ⌝ }
+{
+    if fetch_number(list, r) == 0 {
+        return plan_start(list, r) + 10;
+    }
+    0
 }
 
 // The links of plan r, a part of the list; an empty part if it is not found.

@@ -12,7 +12,7 @@ use walk::list::list_plans;
 ghost use mathlib.Core.Path.{_≡_};
 ghost use lib.ListN.{length};
 ghost use Rattle.network.specs.Calls.{asked, judged, listAfter, listStatus, says, treeAfter};
-ghost use Rattle.network.specs.Fetching.{fetchLinks, fetchNumber};
+ghost use Rattle.network.specs.Fetching.{fetchLinks, fetchNumber, fetchStart};
 
 // The judge of a drawn tree: its costs, or the refusal. `drawn` holds its link numbers, one byte each.
 pub fn judge(survey: &[u8], drawn: &[u8]) -> Answer
@@ -84,4 +84,11 @@ pub fn fetch_links<'a>(list: &'a [u8], r: u32) -> &'a [u8]
     ensures { λ part. ⌜ now part ≡ fetchLinks (now (list .entry)) r ⌝ }
 {
     fetch::fetch_links(list, r)
+}
+
+// Where those bytes start in the list; 0 if the number is not 0.
+pub fn fetch_start(list: &[u8], r: u32) -> usize
+    ensures { λ at. ⌜ at ≡ fetchStart (now (list .entry)) r ⌝ }
+{
+    fetch::fetch_start(list, r)
 }

@@ -1,0 +1,22 @@
+-- `capi::ranqustei_fetch` meets its contract, field by field.
+use lib.ListN.{length}
+use borrow.Author.Needs.{needs}
+use Rattle.capi.specs.Replies.{partOf}
+use Rattle.capi.proofs.ranqustei_fetch.Statement.{statement}
+use Rattle.capi.proofs.ranqustei_fetch.Tie as tie
+
+fetch-number-requires : tie.Need-fetch-number-requires
+fetch-number-requires c κs = search needs
+
+fetch-start-requires : tie.Need-fetch-start-requires
+fetch-start-requires c κs = search needs
+
+fetch-links-requires : tie.Need-fetch-links-requires
+fetch-links-requires c κs = search needs
+
+returns : tie.Need-returns
+unfolding partOf
+returns c = λ i. record { number = c .before .before .fetch-number .ensures i; start = c .before .fetch-start .ensures i; count = length (c .fetch-links .ensures i) }
+
+pub ranqustei-fetch-spec : {M : Type 1} → statement M
+ranqustei-fetch-spec = tie.close (tie.spec fetch-number-requires fetch-start-requires fetch-links-requires returns)

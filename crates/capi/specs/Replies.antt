@@ -1,0 +1,81 @@
+-- The replies of document 01 as C sees them: plain numbers in a struct.
+use mathlib.Core.List.{List}
+use mathlib.Core.Logic.{inl, inr}
+use mathlib.Core.Path.{_≡_, ap, ap₂, sym, _∙_}
+use Prim.Native.Nat.{ℕ, _+_, _≤_}
+use native.Mathlib.Omega.{arith}
+use borrow.Author.Tests.{eqb-false, eqb-true}
+use lib.Dec.{eqb}
+use lib.IntN.{ℤ, pos, negsuc}
+use lib.ListN.{drop, getD, length, length-drop, take}
+use lib.Seq.{length-take-le}
+use Rattle.order.specs.Test.{decide}
+use Rattle.network.specs.Calls.{Reply as Answered, says}
+use Rattle.network.specs.Fetching.{fetchLinks, fetchNumber, fetchStart, linksStart, treeSizeIn}
+use Rattle.network.specs.declared.Answer.{Answer}
+use Rattle.network.specs.declared.Answer.the-variants.{Plan, Refused}
+use Rattle.network.specs.declared.Costs.{Costs}
+use Rattle.network.specs.declared.Refusal.{Refusal}
+use Rattle.planlist.specs.Fetched.{found, links-found, links-none, plan-inside, start-found, start-none}
+use Rattle.capi.specs.declared.Reply.{Reply}
+use Rattle.capi.specs.declared.Part.{Part}
+
+-- value i of a reply: the plan's sum, y1 or y2; 0 where the reply is a refusal
+abbrev pub valueAt : Answered → ℕ → ℤ
+valueAt a i = getD (a .values) i (pos 0)
+
+-- a sum as a number without a sign
+unfoldable pub unsigned : ℤ → ℕ
+unsigned (pos n) = n
+unsigned (negsuc n) = 0
+
+-- the reply of the judge or of the ceilings question: number, place and the plan's costs, which are 0 on a refusal
+unfoldable pub flatReply : Answered → Reply
+flatReply a = record { number = a .number; place = a .place; sum = unsigned (valueAt a 0); y1 = valueAt a 1; y2 = valueAt a 2 }
+
+-- the reply of fetching: the number, and where the link bytes are in the list
+unfoldable pub partOf : List ℕ → ℕ → Part
+partOf list r = record { number = fetchNumber list r; start = fetchStart list r; count = length (fetchLinks list r) }
+
+-- ---- the two cases of an answer
+
+pub flat-plan : (a : Answer) (v : Costs) → a ≡ Plan v → record { number = 0; place = 0; sum = v .sum; y1 = v .y1; y2 = v .y2 } ≡ flatReply (says a)
+unfolding flatReply says unsigned
+flat-plan a v e = rw e
+
+pub flat-refused : (a : Answer) (r : Refusal) → a ≡ Refused r → record { number = r .number; place = r .place; sum = 0; y1 = pos 0; y2 = pos 0 } ≡ flatReply (says a)
+unfolding flatReply says unsigned
+flat-refused a r e = rw e
+
+-- ---- the part of a list
+
+module _ (list : List ℕ) (r : ℕ) where
+  -- plan r is found: its t link bytes stand inside the list
+  found-part : fetchNumber list r ≡ 0 → (linksStart list r + treeSizeIn list ≤ length list) × (length (fetchLinks list r) ≡ treeSizeIn list)
+  found-part e =
+      let f = found list r e in
+      let inside = plan-inside list r (f .0) (f .1) in
+      let rest = length-drop (linksStart list r) list in
+      (omega arith, ap length (links-found list r e) ∙ length-take-le (treeSizeIn list) (drop (linksStart list r) list) (omega arith))
+
+  -- the part lies inside the list
+  pub part-inside : partOf list r .start + partOf list r .count ≤ length list
+  unfolding partOf
+  part-inside =
+      elim (decide (eqb (fetchNumber list r) 0)) [
+        | inl e ↦ let n = eqb-true _ _ e in let p = found-part n in let s = start-found list r n in omega (arith, p)
+        | inr e ↦ let n = eqb-false _ _ e in let s = start-none list r n in let k = ap length (links-none list r n) in omega arith
+      ]
+
+  -- its bytes are the links of plan r
+  pub part-links : take (partOf list r .count) (drop (partOf list r .start) list) ≡ fetchLinks list r
+  unfolding partOf
+  part-links =
+      elim (decide (eqb (fetchNumber list r) 0)) [
+        | inl e ↦
+            let n = eqb-true _ _ e in
+            ap₂ (λ (k s : ℕ). take k (drop s list)) (found-part n .1) (start-found list r n) ∙ sym (links-found list r n)
+        | inr e ↦
+            let n = eqb-false _ _ e in
+            ap (λ (l : List ℕ). take (length l) (drop (fetchStart list r) list)) (links-none list r n) ∙ sym (links-none list r n)
+      ]

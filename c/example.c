@@ -1,0 +1,56 @@
+/* Every call on survey A of document 01. */
+#include "ranqustei.h"
+
+#include <stdio.h>
+
+/* Three stations, one ceiling with k = 1; links 0-1 (sum 4, cost 7), 1-2 (3, 2), 0-2 (1, 9). */
+static const uint8_t survey[] = {
+    0x59, 0x44, 3, 1, 1, 0,
+    0x4C, 0x4B, 0, 1, 4, 0, 0, 0, 7, 0, 0, 0,
+    0x4C, 0x4B, 1, 2, 3, 0, 0, 0, 2, 0, 0, 0,
+    0x4C, 0x4B, 0, 2, 1, 0, 0, 0, 9, 0, 0, 0,
+};
+
+static void print_links(const uint8_t *links, size_t count)
+{
+    for (size_t i = 0; i < count; i++)
+        printf(" %d", links[i]);
+    printf("\n");
+}
+
+static void print_reply(const char *what, ranqustei_reply reply)
+{
+    if (reply.number == 0)
+        printf("%s: sum %u, ceiling cost %d\n", what, (unsigned)reply.sum, reply.y1);
+    else
+        printf("%s: refused %d at %d\n", what, reply.number, reply.place);
+}
+
+static void list_and_fetch(void)
+{
+    static uint8_t list[RANQUSTEI_LIST_BYTES];
+    ranqustei_refusal refusal = ranqustei_list(survey, sizeof survey, RANQUSTEI_POSITIONS, list, sizeof list);
+    printf("list: number %d, place %d\n", refusal.number, refusal.place);
+    ranqustei_part part = ranqustei_fetch(list, sizeof list, 0);
+    for (uint32_t r = 0; part.number == 0; part = ranqustei_fetch(list, sizeof list, ++r)) {
+        printf("plan %u, links", (unsigned)r);
+        print_links(list + part.start, part.count);
+    }
+    printf("after the last plan: number %d\n", part.number);
+}
+
+int main(void)
+{
+    static const uint8_t drawn[] = {0, 2}, ring[] = {0, 1, 2};
+    uint8_t tree[RANQUSTEI_TREE_BYTES];
+
+    list_and_fetch();
+    print_reply("best under 8", ranqustei_best(survey, sizeof survey, 8, 0, tree, sizeof tree));
+    printf("its links");
+    print_links(tree, 2);
+    print_reply("best under 6", ranqustei_best(survey, sizeof survey, 6, 0, tree, sizeof tree));
+    print_reply("drawn 0 2", ranqustei_judge(survey, sizeof survey, drawn, sizeof drawn));
+    print_reply("drawn 0 1 2", ranqustei_judge(survey, sizeof survey, ring, sizeof ring));
+    print_reply("a survey cut short", ranqustei_judge(survey, sizeof survey - 1, drawn, sizeof drawn));
+    return 0;
+}

@@ -1,11 +1,8 @@
-// The normal links in their order, and the exceptions by number.
+// The normal links and the exceptions, in their order.
 use crate::ceilings::exceptional;
 use crate::ceilings::normal;
 use kruskal::links::Links;
-ghost use mathlib.Core.Path.{_≡_};
-ghost use Prim.Native.Nat.{_≤_};
-ghost use Rattle.order.specs.Lists.{filter, numbersFrom};
-ghost use Rattle.network.specs.Limits.{maxLinks};
+ghost use Rattle.order.specs.Lists.{filter};
 ghost use Rattle.kruskal.specs.Tree.{Walkable};
 ghost use Rattle.kruskal.specs.Base.{Holding};
 ghost use Rattle.exceptions.specs.Ceilings.{exception};
@@ -26,16 +23,17 @@ pub fn normal_links(sums: &[u32], order: &[u8], v: &[u8], w: &[u8]) -> Links
     Links { link, count: n }
 }
 
-// The exceptions among m links.
-pub fn exceptions(m: usize, v: &[u8], w: &[u8], r: u8, s: u8) -> Links
-    requires { ⌜ (m ≤ maxLinks) × FlagsSize (now v) (now w) ⌝ }
-    ensures { λ q. ⌜ Holding (filter (exception (two r (now (v .entry)) s (now (w .entry)))) (numbersFrom m 0)) q ⌝ }
+// The exceptions of an order.
+pub fn exceptions(sums: &[u32], order: &[u8], v: &[u8], w: &[u8], r: u8, s: u8) -> Links
+    requires { ⌜ Walkable (now sums) (now order) × FlagsSize (now v) (now w) ⌝ }
+    ensures { λ q. ⌜ Holding (filter (exception (two r (now (v .entry)) s (now (w .entry)))) (now (order .entry))) q ⌝ }
 {
     let mut link = [0u8; 40];
     let mut n: usize = 0;
-    for e in 0..m {
-        link[n] = e as u8;
-        n += exceptional(v, w, r, s, e);
+    for k in 0..order.len() {
+        let e = order[k];
+        link[n] = e;
+        n += exceptional(v, w, r, s, e as usize);
     }
     Links { link, count: n }
 }

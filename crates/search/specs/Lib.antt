@@ -2,6 +2,9 @@
 pub mod Flags
 -- the sets of exceptional links that are tried
 pub mod Sets
--- the search as a program has it, and its loops
+-- what a walk over links adds to a forest
+pub mod Growth
+-- the search as a program has it, the sets that cannot lead to a better tree, and the loops
 pub mod Search
+pub mod Rest
 pub mod Tries

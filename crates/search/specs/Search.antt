@@ -4,7 +4,7 @@ use mathlib.Core.Bool.{Bool, cond, true, false, _&&_, _||_}
 use mathlib.Core.List.{List, foldl}
 use lib.Dec.{eqb, ltb}
 use lib.ListN.{length, replicate}
-use Rattle.order.specs.Lists.{filter, numbersFrom}
+use Rattle.order.specs.Lists.{filter}
 use Rattle.network.specs.Limits.{maxLinks}
 use Rattle.forest.specs.Groups.{apart}
 use Rattle.kruskal.specs.Tree.{bare, linked}
@@ -34,6 +34,6 @@ module _ (ends sums : List ℕ) (goal : ℕ) (cs : List Flagged) where
       let t = foldl (linked ends sums) bare X in
       cond (eqb (t .count) (length X) && admitted cs X) (offered goal b (foldl (linked ends sums) t base)) b
 
-  -- The best tree, of m links that come in the given order. The base is what Kruskal's method keeps of the normal links.
-  unfoldable pub bestOf : ℕ → List ℕ → Best
-  bestOf m order = foldl (considered (kept ends apart (filter (normal cs) order))) nothing (trials (filter (exception cs) (numbersFrom m 0)))
+  -- The best tree, of links that come in the given order. The base is what Kruskal's method keeps of the normal links.
+  unfoldable pub bestOf : List ℕ → Best
+  bestOf order = foldl (considered (kept ends apart (filter (normal cs) order))) nothing (trials (filter (exception cs) order))

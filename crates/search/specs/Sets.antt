@@ -1,18 +1,32 @@
 -- The sets of at most two exceptional links, in the order in which they are tried. They are all that a search needs where the ranks leave
--- no more than two exceptions, and a link that is no admissible exception by itself is in no admissible set.
-use Prim.Native.Nat.{ℕ, _≤_}
+-- no more than two exceptions, and a link that is no admissible exception by itself is in no admissible set. The links may come in any order;
+-- each set is written rising.
+use Prim.Native.Nat.{ℕ, _≤_, _<_}
 use mathlib.Core.Bool.{Bool, false, cond}
-use mathlib.Core.List.{List, [], _∷_, map, _++_, List·Memᴰ·append-cases, List·Memᴰ·cases-cons, Memᴰ·append-left, Memᴰ·append-right, Memᴰ·cast, Memᴰ·map, Sublistᴰ, Sublistᴰ·slnil, Sublistᴰ·cons, Sublistᴰ·cons-cons, Sublistᴰ·nil-sublist, List·Memᴰ·head as here, List·Memᴰ·tail as there}
+use mathlib.Core.List.{List, [], _∷_, map, _++_, List·Memᴰ·append-cases, List·Memᴰ·cases-cons, List·Memᴰ·eq-of-singleton, Memᴰ·append-left, Memᴰ·append-right, Memᴰ·cast, Memᴰ·map, Sublistᴰ, Sublistᴰ·cons, Sublistᴰ·cons-cons, Sublistᴰ·nil-sublist, List·Memᴰ·head as here, List·Memᴰ·tail as there}
 use mathlib.Core.Logic.{_⊎_, inl, inr, ⊎-elim}
-use mathlib.Core.Path.{_≡_, refl, ap}
+use mathlib.Core.Path.{_≡_, refl, sym, ap, _∙_}
 use native.Mathlib.Omega.{arith}
+use borrow.Author.Tests.{le-leb, leb-false, lt-leb}
+use lib.Dec.{leb}
 use lib.ListN.{length}
 use Rattle.order.specs.Test.{by-test}
-use Rattle.order.specs.Lists.{_∈_, filter, filter-append, map-mem, sublist-⊆}
+use Rattle.order.specs.Lists.{_∈_, _⊆_, filter, filter-append, map-mem, sublist-⊆}
+use Rattle.order.specs.Order.{orderℕ}
+use Rattle.order.specs.Sorted.{Apart, Rising, sublist-rising}
+use Rattle.spanning.specs.Rising.{trichotomy}
 use Rattle.kmax.specs.Search.{Candidates}
 
+-- the lower and the higher one of two links
+unfoldable pub lower : ℕ → ℕ → ℕ
+lower x y = cond (leb x y) x y
+
+unfoldable pub higher : ℕ → ℕ → ℕ
+higher x y = cond (leb x y) y x
+
+-- the set of two links
 abbrev pub pair : ℕ → ℕ → List ℕ
-pair x y = x ∷ y ∷ []
+pair x y = lower x y ∷ higher x y ∷ []
 
 -- the sets of one and of two links
 unfoldable pub sets : List ℕ → List (List ℕ)
@@ -23,55 +37,108 @@ sets (x ∷ l) = (x ∷ []) ∷ (map (pair x) l ++ sets l)
 abbrev pub trials : List ℕ → List (List ℕ)
 trials l = [] ∷ sets l
 
+-- ---- pairs
+
+pair-below : (x y : ℕ) → x < y → pair x y ≡ x ∷ y ∷ []
+unfolding lower higher
+pair-below x y h = rw (le-leb x y (omega arith))
+
+pair-above : (x y : ℕ) → y < x → pair x y ≡ y ∷ x ∷ []
+unfolding lower higher
+pair-above x y h = rw (lt-leb x y h)
+
+pair-first : (x y : ℕ) → x ∈ pair x y
+unfolding lower higher
+pair-first x y = by-test (leb x y) (λ e. rw e (here refl)) (λ e. rw e (there (here refl)))
+
+pair-second : (x y : ℕ) → y ∈ pair x y
+unfolding lower higher
+pair-second x y = by-test (leb x y) (λ e. rw e (there (here refl))) (λ e. rw e (here refl))
+
 -- ---- they are the sets of at most two
 
 member-sublist : {x : ℕ} {l : List ℕ} → x ∈ l → Sublistᴰ (x ∷ []) l
 member-sublist {l = y ∷ l} (here e) = Sublistᴰ·cons-cons e (Sublistᴰ·nil-sublist l)
 member-sublist (there m) = Sublistᴰ·cons (member-sublist m)
 
-sets-sublist : (l X : List ℕ) → X ∈ sets l → Sublistᴰ X l
-unfolding sets
-sets-sublist [] X m = elim m [ ]
-sets-sublist (x ∷ l) X m = go (sets-sublist l X) (List·Memᴰ·cases-cons m)
+-- two links of a rising list
+rising-pair : (e : List ℕ) → Rising orderℕ (λ x. x) e → (a b : ℕ) → a < b → a ∈ e → b ∈ e → Sublistᴰ (a ∷ b ∷ []) e
+rising-pair (c ∷ e) r a b h m n = go (rising-pair e (r .1) a b h) (List·Memᴰ·cases-cons m) (List·Memᴰ·cases-cons n)
   where
-    go : (X ∈ sets l → Sublistᴰ X l) → (X ≡ x ∷ []) ⊎ (X ∈ map (pair x) l ++ sets l) → Sublistᴰ X (x ∷ l)
-    go later (inl q) = rw q (Sublistᴰ·cons-cons refl (Sublistᴰ·nil-sublist l))
-    go later (inr n) =
-        ⊎-elim
-        (λ k. let y = map-mem (pair x) l X k in rw (y .2) (Sublistᴰ·cons-cons refl (member-sublist (y .1))))
-        (λ k. Sublistᴰ·cons (later k))
-        (List·Memᴰ·append-cases (map (pair x) l) n)
+    go : (a ∈ e → b ∈ e → Sublistᴰ (a ∷ b ∷ []) e) → (a ≡ c) ⊎ (a ∈ e) → (b ≡ c) ⊎ (b ∈ e) → Sublistᴰ (a ∷ b ∷ []) (c ∷ e)
+    go later (inl p) (inl q) = absurd (omega arith)
+    go later (inl p) (inr k) = Sublistᴰ·cons-cons p (member-sublist k)
+    go later (inr k) (inl q) = let f = leb-false a c (r .0 a k) in absurd (omega arith)
+    go later (inr j) (inr k) = Sublistᴰ·cons (later j k)
 
-sublist-trials : {X l : List ℕ} → Sublistᴰ X l → length X ≤ 2 → X ∈ trials l
+module _ (e : List ℕ) (rising : Rising orderℕ (λ x. x) e) where
+  apart-pair : (x y : ℕ) → x ∈ e → y ∈ e → (y ≡ x → ⊥) → Sublistᴰ (pair x y) e
+  apart-pair x y m n d = go (trichotomy x y)
+    where
+      go : (x < y) ⊎ ((x ≡ y) ⊎ (y < x)) → Sublistᴰ (pair x y) e
+      go (inl h) = rw (pair-below x y h) (rising-pair e rising x y h m n)
+      go (inr (inl q)) = absurd (d (sym q))
+      go (inr (inr h)) = rw (pair-above x y h) (rising-pair e rising y x h n m)
+
+  sets-sublist : (l X : List ℕ) → l ⊆ e → Apart (λ x. x) l → X ∈ sets l → Sublistᴰ X e
+  unfolding sets
+  sets-sublist [] X among apart m = elim m [ ]
+  sets-sublist (x ∷ l) X among apart m = go (sets-sublist l X (λ y k. among y (there k)) (apart .1)) (List·Memᴰ·cases-cons m)
+    where
+      go : (X ∈ sets l → Sublistᴰ X e) → (X ≡ x ∷ []) ⊎ (X ∈ map (pair x) l ++ sets l) → Sublistᴰ X e
+      go later (inl q) = rw q (member-sublist (among x (here refl)))
+      go later (inr n) =
+          ⊎-elim
+          (λ k. let y = map-mem (pair x) l X k in rw (y .2) (apart-pair x (y .0) (among x (here refl)) (among (y .0) (there (y .1))) (apart .0 (y .0) (y .1))))
+          later
+          (List·Memᴰ·append-cases (map (pair x) l) n)
+
+-- each set of one and of two links is tried
+one-tried : (x : ℕ) (l : List ℕ) → x ∈ l → x ∷ [] ∈ sets l
 unfolding sets
-sublist-trials Sublistᴰ·slnil h = here refl
-sublist-trials {X} (Sublistᴰ·cons {a = y} {l₂ = l} s) h =
-    ⊎-elim (λ q. here q) (λ m. there (there (Memᴰ·append-right (map (pair y) l) m))) (List·Memᴰ·cases-cons (sublist-trials s h))
-sublist-trials (Sublistᴰ·cons-cons {l₁ = []} e s) h = there (here (λ i. e i ∷ []))
-sublist-trials (Sublistᴰ·cons-cons {b = y} {l₁ = b ∷ []} {l₂ = l} e s) h =
-    there (there (Memᴰ·append-left (sets l) (Memᴰ·cast (λ i. e i ∷ b ∷ []) (Memᴰ·map (pair y) (sublist-⊆ s b (here refl))))))
-sublist-trials (Sublistᴰ·cons-cons {l₁ = b ∷ c ∷ X} e s) h = absurd (omega arith)
+one-tried x (y ∷ l) (here e) = here (ap (λ (z : ℕ). z ∷ []) e)
+one-tried x (y ∷ l) (there m) = there (Memᴰ·append-right (map (pair y) l) (one-tried x l m))
 
-pub trials-candidates : (l : List ℕ) (r : ℕ) → r ≤ 2 → Candidates l r (trials l)
-trials-candidates l r h =
-    record {
-      sound = λ X m. ⊎-elim (λ q. rw q (Sublistᴰ·nil-sublist l)) (λ n. sets-sublist l X n) (List·Memᴰ·cases-cons m);
-      complete = λ X s k. sublist-trials s (omega arith);
-    }
+two-tried : (a b : ℕ) (l : List ℕ) → a < b → a ∈ l → b ∈ l → a ∷ b ∷ [] ∈ sets l
+unfolding sets
+two-tried a b (x ∷ l) h m n = go (two-tried a b l h) (List·Memᴰ·cases-cons m) (List·Memᴰ·cases-cons n)
+  where
+    go : (a ∈ l → b ∈ l → a ∷ b ∷ [] ∈ sets l) → (a ≡ x) ⊎ (a ∈ l) → (b ≡ x) ⊎ (b ∈ l) → a ∷ b ∷ [] ∈ sets (x ∷ l)
+    go later (inl p) (inl q) = absurd (omega arith)
+    go later (inl p) (inr k) = there (Memᴰ·append-left (sets l) (Memᴰ·cast (sym (pair-below a b h) ∙ ap (λ (z : ℕ). pair z b) p) (Memᴰ·map (pair x) k)))
+    go later (inr k) (inl q) = there (Memᴰ·append-left (sets l) (Memᴰ·cast (sym (pair-above b a h) ∙ ap (λ (z : ℕ). pair z a) q) (Memᴰ·map (pair x) k)))
+    go later (inr j) (inr k) = there (Memᴰ·append-right (map (pair x) l) (later j k))
+
+-- of the links e, in any order l
+module _ (e l : List ℕ) (rising : Rising orderℕ (λ x. x) e) (apart : Apart (λ x. x) l) (among : l ⊆ e) (all : e ⊆ l) where
+  sublist-tried : (X : List ℕ) → Sublistᴰ X e → length X ≤ 2 → X ∈ trials l
+  sublist-tried [] s h = here refl
+  sublist-tried (a ∷ []) s h = there (one-tried a l (all a (sublist-⊆ s a (here refl))))
+  sublist-tried (a ∷ b ∷ []) s h =
+      let less = leb-false b a (sublist-rising orderℕ (λ x. x) s rising .0 b (here refl)) in
+      there (two-tried a b l less (all a (sublist-⊆ s a (here refl))) (all b (sublist-⊆ s b (there (here refl)))))
+  sublist-tried (a ∷ b ∷ c ∷ X) s h = absurd (omega arith)
+
+  pub trials-candidates : (r : ℕ) → r ≤ 2 → Candidates e r (trials l)
+  trials-candidates r h =
+      record {
+        sound = λ X m. ⊎-elim (λ q. rw q (Sublistᴰ·nil-sublist e)) (λ n. sets-sublist e rising l X among apart n) (List·Memᴰ·cases-cons m);
+        complete = λ X s k. sublist-tried X s (omega arith);
+      }
 
 -- ---- links that no set that passes has
 
 module _ (passes : List ℕ → Bool) (alone : ℕ → Bool) (barred : (x : ℕ) (X : List ℕ) → alone x ≡ false → x ∈ X → passes X ≡ false) where
   pairs-barred : (x : ℕ) (l : List ℕ) → alone x ≡ false → filter passes (map (pair x) l) ≡ []
   pairs-barred x [] h = refl
-  pairs-barred x (y ∷ l) h = rw (barred x (pair x y) h (here refl)) (pairs-barred x l h)
+  pairs-barred x (y ∷ l) h = rw (barred x (pair x y) h (pair-first x y)) (pairs-barred x l h)
 
   pairs-filter : (x : ℕ) (l : List ℕ) → filter passes (map (pair x) (filter alone l)) ≡ filter passes (map (pair x) l)
   pairs-filter x [] = refl
   pairs-filter x (y ∷ l) =
       by-test (alone y)
       (λ e. rw e (ap (λ (r : List (List ℕ)). cond (passes (pair x y)) (pair x y ∷ r) r) (pairs-filter x l)))
-      (λ e. rw (e, barred y (pair x y) e (there (here refl))) (pairs-filter x l))
+      (λ e. rw (e, barred y (pair x y) e (pair-second x y)) (pairs-filter x l))
 
   sets-filter : (l : List ℕ) → filter passes (sets (filter alone l)) ≡ filter passes (sets l)
   unfolding sets

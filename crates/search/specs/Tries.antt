@@ -1,53 +1,218 @@
--- The search as the code comes to it: a set of one or of two links, and what is left of a loop over the sets at a turn.
-use Prim.Native.Nat.{ℕ, suc, _+_, _-_, _<_, _≤_}
-use mathlib.Core.Bool.{Bool, cond, true, false, and-true, and-false, _&&_}
-use mathlib.Core.List.{List, [], _∷_, map, foldl, foldl-append}
-use mathlib.Core.Path.{_≡_, refl, sym, ap, _∙_}
+-- The search as the code comes to it: the base alone, one set, and what is left of a loop over the sets at a turn.
+use Prim.Native.Nat.{ℕ, zero, suc, _+_, _-_, _≤_, _<_}
+use mathlib.Core.Bool.{Bool, cond, true, false, not, and-false, _&&_, _||_}
+use mathlib.Core.List.{List, [], _∷_, map, foldl, foldl-append, List·Memᴰ·cases-cons, List·Memᴰ·eq-of-singleton, List·Memᴰ·head as here, List·Memᴰ·tail as there}
+use mathlib.Core.Logic.{⊎-elim}
+use mathlib.Core.Path.{_≡_, refl, sym, ap, _∙_, subst}
 use native.Mathlib.Numerals.{add-one}
-use lib.Dec.{eqb, ltb}
+use native.Mathlib.Omega.{arith}
+use borrow.Author.Tests.{eq-eqb, eqb-false, leb-true, ltb-false, ltb-true, ne-eqb, not-true}
+use lib.Dec.{eqb, leb, ltb}
 use lib.IntN.{ℤ}
 use lib.ListN.{length, getD, drop, drop-of-length-le}
 use lib.Seq.{drop-cons}
-use Rattle.order.specs.Lists.{filter, numbersFrom}
+use Rattle.order.specs.Test.{by-test, fails, left, right}
+use Rattle.order.specs.Lists.{_∈_, _⊆_, filter, map-mem}
+use Rattle.order.specs.Order.{orderℕ}
+use Rattle.order.specs.Perm.{sum}
+use Rattle.order.specs.Sorted.{Sorted}
+use Rattle.network.specs.Accepted.{or-false}
+use Rattle.trees.specs.TreeCosts.{sumOf}
 use Rattle.network.specs.declared.Network.{Network}
-use Rattle.forest.specs.Groups.{apart}
-use Rattle.kruskal.specs.ByCost.{linkOrder}
-use Rattle.kruskal.specs.Tree.{bare, linked}
+use Rattle.kruskal.specs.ByCost.{costOf, linkOrder}
+use Rattle.spanning.specs.Labelling.{crosses}
+use Rattle.spanning.specs.LabelList.{labelOf}
+use Rattle.forest.specs.Groups.{apart, joined}
+use Rattle.kruskal.specs.Tree.{Light, Usable, Walkable, added, bare, endsOf, light-linked, light-up, linked}
 use Rattle.kruskal.specs.Base.{kept}
+use Rattle.kruskal.specs.Grown.{mark, marks}
 use Rattle.kruskal.specs.declared.tree.Tree.{Tree}
-use Rattle.search.specs.Sets.{pair, sets, trials}
-use Rattle.exceptions.specs.Ceilings.{Flagged, admitted, exception}
+use Rattle.exceptions.specs.Ceilings.{Flagged, admitted, exception, normal}
 use Rattle.exceptions.specs.Two.{aboveFlags, free, free-normal, rankOf, two, twoOf}
-use Rattle.search.specs.Search.{bestOf, considered, nothing, offered}
+use Rattle.search.specs.Sets.{higher, lower, pair, sets, trials}
+use Rattle.search.specs.Search.{beats, bestOf, considered, nothing, offered}
+use Rattle.search.specs.Rest.{loses-more, losesTo, losing, restOf}
 use Rattle.search.specs.declared.best.Best.{Best}
+use Rattle.search.specs.declared.rest.Rest.{Rest}
 
--- a forest completed by the base and offered, where the test holds
-unfoldable pub tried : List ℕ → List ℕ → ℕ → List ℕ → Tree → Bool → Best → Best
-tried ends sums goal base start ok b = cond ok (offered goal b (foldl (linked ends sums) start base)) b
+-- a set of exceptions completed by the base and offered, where it has no ring and the test holds
+unfoldable pub tried : List ℕ → List ℕ → ℕ → List ℕ → List ℕ → Bool → Best → Best
+tried ends sums goal base X ok b =
+    let t = foldl (linked ends sums) bare X in
+    cond (eqb (t .count) (length X) && ok) (offered goal b (foldl (linked ends sums) t base)) b
+
+module _ (ends sums : List ℕ) (goal : ℕ) (base X : List ℕ) (b : Best) where
+  pub tried-whole : (start u : Tree) (ok : Bool) (r : Best) → start ≡ foldl (linked ends sums) bare X → ok ≡ true → start .count ≡ length X
+      → u ≡ foldl (linked ends sums) start base → r ≡ offered goal b u → r ≡ tried ends sums goal base X ok b
+  unfolding tried
+  tried-whole start u ok r e k n f q = rw (← e, k, eq-eqb (start .count) (length X) n, ← f) q
+
+  pub tried-ring : (start : Tree) (ok : Bool) → start ≡ foldl (linked ends sums) bare X → (start .count ≡ length X → ⊥) → b ≡ tried ends sums goal base X ok b
+  unfolding tried
+  tried-ring start ok e n = rw (← e, ne-eqb (start .count) (length X) n)
+
+  pub tried-barred : (ok : Bool) → ok ≡ false → b ≡ tried ends sums goal base X ok b
+  unfolding tried
+  tried-barred ok k = rw (k, and-false (eqb (foldl (linked ends sums) bare X .count) (length X)))
+
+-- a walk over l adds at most all its links
+pub light-grown : (ends sums : List ℕ) (j : ℕ) (t : Tree) (l : List ℕ) → ((e : ℕ) → e ∈ l → Usable sums e) → Light j t → Light (j + length l) (foldl (linked ends sums) t l)
+light-grown ends sums j t [] u h = light-up (j + 0) (omega arith) h
+light-grown ends sums j t (e ∷ l) u h =
+    light-up (j + suc (length l)) (omega arith) (light-grown ends sums (j + 1) (linked ends sums t e) l (λ x m. u x (there m)) (light-linked ends j (u e (here refl)) h refl))
+
+-- ---- sets of one and of two links
+
+pub lower-usable : {sums : List ℕ} (x y : ℕ) → Usable sums x → Usable sums y → Usable sums (lower x y)
+unfolding lower
+lower-usable x y u w = by-test (leb x y) (λ k. rw k u) (λ k. rw k w)
+
+pub higher-usable : {sums : List ℕ} (x y : ℕ) → Usable sums x → Usable sums y → Usable sums (higher x y)
+unfolding higher
+higher-usable x y u w = by-test (leb x y) (λ k. rw k w) (λ k. rw k u)
+
+pub one-walkable : {sums : List ℕ} (x : ℕ) → Usable sums x → Walkable sums (x ∷ [])
+one-walkable x u = record { few = omega arith; usable = λ e m. rw (List·Memᴰ·eq-of-singleton m) u }
+
+pub two-walkable : {sums : List ℕ} (x y : ℕ) → Usable sums x → Usable sums y → Walkable sums (x ∷ y ∷ [])
+two-walkable {sums} x y u w =
+    record { few = omega arith; usable = λ e m. ⊎-elim (λ q. subst (Usable sums) (sym q) u) (λ k. subst (Usable sums) (sym (List·Memᴰ·eq-of-singleton k)) w) (List·Memᴰ·cases-cons m) }
+
+-- links that can be walked, in rising order of cost
+pub record InOrder (sums l : List ℕ) : Type 0 where
+  pub walkable : Walkable sums l
+  pub sorted : Sorted orderℕ (costOf sums) l
+
+-- a link is an exception, and all of a list are
+pub record Exceptional (cs : List Flagged) (x : ℕ) : Type 0 where
+  pub exceeds : exception cs x ≡ true
+
+pub record Exceptions (cs : List Flagged) (l : List ℕ) : Type 0 where
+  pub each : (x : ℕ) → x ∈ l → exception cs x ≡ true
+
+-- ---- pairs of exceptions that no ranks r and s admit
+
+-- some two exceptions are admitted
+unfoldable pub pairsFit : ℕ → ℕ → Bool
+pairsFit r s = ltb 2 r || (ltb 2 s || (ltb 1 r && ltb 1 s))
+
+module _ (r s : ℕ) (v w : List ℕ) where
+  -- an exception is above some bound, and within each rank
+  exceeding : (e : ℕ) → exception (two r v s w) e ≡ true → (0 < getD v e 0 + getD w e 0) × (getD v e 0 < r) × (getD w e 0 < s)
+  unfolding exception normal admitted
+  exceeding e h =
+      let some : eqb (getD v e 0) 0 && eqb (getD w e 0) 0 ≡ false = not-true _ (left (not (eqb (getD v e 0) 0 && eqb (getD w e 0) 0)) _ h) in
+      let within = right (not (eqb (getD v e 0) 0 && eqb (getD w e 0) 0)) _ h in
+      (by-test (eqb (getD v e 0) 0)
+      (λ k. let above = eqb-false (getD w e 0) 0 (rw k at some) in omega arith)
+      (λ k. let above = eqb-false (getD v e 0) 0 k in omega arith),
+      ltb-true (getD v e 0) r (left (ltb (getD v e 0) r) _ within),
+      ltb-true (getD w e 0) s (right (ltb (getD v e 0) r) _ within))
+
+  two-exceed : (x y : ℕ) → pairsFit r s ≡ false → exception (two r v s w) x ≡ true → exception (two r v s w) y ≡ true → admitted (two r v s w) (x ∷ y ∷ []) ≡ false
+  unfolding pairsFit admitted
+  two-exceed x y e f g =
+      fails _ (λ k.
+      let a = exceeding x f in
+      let b = exceeding y g in
+      let first : getD v x 0 + getD v y 0 < r = ltb-true _ _ (left (ltb (getD v x 0 + getD v y 0) r) _ k) in
+      let second : getD w x 0 + getD w y 0 < s = ltb-true _ _ (right (ltb (getD v x 0 + getD v y 0) r) _ k) in
+      let large = or-false (ltb 2 r) _ e in
+      let other = or-false (ltb 2 s) _ (large .1) in
+      let r2 = ltb-false 2 r (large .0) in
+      let s2 = ltb-false 2 s (other .0) in
+      by-test (ltb 1 r)
+      (λ q. let s1 = ltb-false 1 s (rw q at (other .1)) in omega (arith, a, b))
+      (λ q. let r1 = ltb-false 1 r q in omega (arith, a, b)))
+
+  pub pair-exceeds : (x y : ℕ) → pairsFit r s ≡ false → exception (two r v s w) x ≡ true → exception (two r v s w) y ≡ true → admitted (two r v s w) (pair x y) ≡ false
+  unfolding lower higher
+  pair-exceeds x y e f g = by-test (leb x y) (λ k. rw k (two-exceed x y e f g)) (λ k. rw k (two-exceed y x e g f))
+
+pair-sum : (c : ℕ → ℕ) (x y : ℕ) → sum c (pair x y) ≡ c x + c y
+unfolding lower higher
+pair-sum c x y = by-test (leb x y) (λ k. rw k (omega arith)) (λ k. rw k (omega arith))
+
+drop-among : (l : List ℕ) (i : ℕ) → drop i l ⊆ l
+drop-among l zero y m = m
+drop-among [] (suc i) y m = m
+drop-among (x ∷ l) (suc i) y m = there (drop-among l i y m)
+
+-- the rest of links in rising order of cost
+sorted-drop : (c : ℕ → ℕ) (l : List ℕ) (i : ℕ) → Sorted orderℕ c l → Sorted orderℕ c (drop i l)
+sorted-drop c l zero s = s
+sorted-drop c [] (suc i) s = s
+sorted-drop c (x ∷ l) (suc i) s = sorted-drop c l i (s .1)
+
+-- a link behind place i costs no less than the one at i
+later-dearer : (c : ℕ → ℕ) (l : List ℕ) (i y : ℕ) → Sorted orderℕ c l → i < length l → y ∈ drop i l → c (getD l i 0) ≤ c y
+later-dearer c l i y s h m =
+    let q = drop-cons l i 0 h in
+    let sorted = rw q at (sorted-drop c l i s) in
+    ⊎-elim (λ e. rw e (omega arith)) (λ k. leb-true (c (getD l i 0)) (c y) (sorted .0 y k)) (List·Memᴰ·cases-cons (rw q at m))
+
+-- ---- the base
+
+-- the base as the best tree so far, where the test holds and it has `goal` links
+unfoldable pub baseAlone : List ℕ → List ℕ → ℕ → Bool → Best
+baseAlone sums base goal ok = cond (ok && eqb (length base) goal) (record { found = true; sum = sum (costOf sums) base; taken = marks base }) nothing
+
+pub alone-found : (sums base : List ℕ) (goal : ℕ) (ok : Bool) (total : ℕ) (taken : List Bool) → ok && eqb (length base) goal ≡ true → total ≡ sumOf sums base
+    → taken ≡ marks base → record { found = true; sum = total; taken = taken } ≡ baseAlone sums base goal ok
+unfolding baseAlone sumOf
+alone-found sums base goal ok total taken k e f = rw (k, e, f)
+
+pub alone-none : (sums base : List ℕ) (goal : ℕ) (ok : Bool) → ok && eqb (length base) goal ≡ false → nothing ≡ baseAlone sums base goal ok
+unfolding baseAlone
+alone-none sums base goal ok k = rw k
+
+-- a walk over links that are kept takes them all
+pub record Took (sums : List ℕ) (t : Tree) (l : List ℕ) (u : Tree) : Type 0 where
+  pub flags : u .taken ≡ foldl mark (t .taken) l
+  pub total : u .sum ≡ t .sum + sum (costOf sums) l
+  pub size : u .count ≡ t .count + length l
+
+taken-added : (ends sums : List ℕ) (t : Tree) (e : ℕ) → crosses (labelOf (t .forest .leader)) (endsOf ends e) ≡ true → linked ends sums t e ≡ added ends sums t e
+unfolding linked
+taken-added ends sums t e c = rw c
+
+kept-walk : (ends sums : List ℕ) (t : Tree) (l : List ℕ) → Took sums t (kept ends (t .forest) l) (foldl (linked ends sums) t (kept ends (t .forest) l))
+unfolding kept added
+kept-walk ends sums t [] = record { flags = refl; total = omega arith; size = omega arith }
+kept-walk ends sums t (e ∷ l) =
+    by-test (crosses (labelOf (t .forest .leader)) (endsOf ends e))
+    (λ c.
+    let more : List ℕ = kept ends (joined (t .forest) (endsOf ends e .a) (endsOf ends e .b)) l in
+    let w = kept-walk ends sums (added ends sums t e) l in
+    let step : Took sums t (e ∷ more) (foldl (linked ends sums) (added ends sums t e) more) =
+        record { flags = w .flags; total = omega (arith, w .total); size = omega (arith, w .size) } in
+    rw c (subst (λ (u : Tree). Took sums t (e ∷ more) (foldl (linked ends sums) u more)) (sym (taken-added ends sums t e c)) step))
+    (λ c. rw c (kept-walk ends sums t l))
 
 module _ (ends sums : List ℕ) (goal : ℕ) (cs : List Flagged) (base : List ℕ) where
   -- what a list of sets leaves of the best so far
   unfoldable pub searched : Best → List (List ℕ) → Best
   searched b Xs = foldl (considered ends sums goal cs base) b Xs
 
-  pub considered-none : (b : Best) (start : Tree) (a : Bool) (r : Best) → start ≡ bare → a ≡ admitted cs [] → r ≡ tried ends sums goal base start a b
-      → r ≡ considered ends sums goal cs base b []
-  unfolding considered tried bare
-  considered-none b start a r e g q = rw (← g) (rw e at q)
-
-  pub considered-one : (b : Best) (x : ℕ) (start t : Tree) (a : Bool) (r : Best) → start ≡ bare → t ≡ linked ends sums start x → a ≡ admitted cs (x ∷ [])
-      → r ≡ tried ends sums goal base t (eqb (t .count) 1 && a) b → r ≡ considered ends sums goal cs base b (x ∷ [])
+  pub considered-tried : (b r : Best) (X : List ℕ) (ok : Bool) → ok ≡ admitted cs X → r ≡ tried ends sums goal base X ok b → r ≡ considered ends sums goal cs base b X
   unfolding considered tried
-  considered-one b x start t a r e f g q = rw (← e, ← f, ← g) q
+  considered-tried b r X ok e q = rw (← e) q
 
-  pub considered-pair : (b : Best) (x y : ℕ) (t u : Tree) (r : Best) → t ≡ linked ends sums bare x → u ≡ linked ends sums t y → admitted cs (pair x y) ≡ true
-      → r ≡ tried ends sums goal base u (eqb (u .count) 2) b → r ≡ considered ends sums goal cs base b (pair x y)
-  unfolding considered tried
-  considered-pair b x y t u r e f g q = rw (← e, ← f, g, and-true (eqb (u .count) 2)) q
+  -- the set of a link that loses
+  pub one-loses : Sorted orderℕ (costOf sums) base → (b : Best) (x : ℕ) (rest : Rest) (cost : ℕ) → rest ≡ restOf sums base goal 1 → cost ≡ costOf sums x
+      → losesTo rest cost (b .found) (b .sum) ≡ true → b ≡ considered ends sums goal cs base b (x ∷ [])
+  one-loses by-cost b x rest cost e f k =
+      losing ends sums goal cs base by-cost b (x ∷ []) (loses-more (restOf sums base goal 1) _ _ (b .found) (b .sum) (omega (arith, f)) (rw e at k))
 
-  pub inadmissible : (b : Best) (X : List ℕ) → admitted cs X ≡ false → b ≡ considered ends sums goal cs base b X
+  inadmissible : (b : Best) (X : List ℕ) → admitted cs X ≡ false → b ≡ considered ends sums goal cs base b X
   unfolding considered
   inadmissible b X g = rw (g, and-false (eqb (foldl (linked ends sums) bare X .count) (length X)))
+
+  -- sets that change nothing
+  unchanged : (b : Best) (Xs : List (List ℕ)) → ((X : List ℕ) → X ∈ Xs → b ≡ considered ends sums goal cs base b X) → searched b Xs ≡ b
+  unfolding searched
+  unchanged b [] h = refl
+  unchanged b (X ∷ Xs) h = rw (← h X (here refl)) (unchanged b Xs (λ Y m. h Y (there m)))
 
   -- ---- the sets of x and the links of l from place i on
 
@@ -62,6 +227,24 @@ module _ (ends sums : List ℕ) (goal : ℕ) (cs : List Flagged) (base : List �
   pub pairs-end : (b w : Best) (x : ℕ) (l : List ℕ) (i : ℕ) → length l ≤ i → withPairs b x l i ≡ w → b ≡ w
   unfolding withPairs searched
   pairs-end b w x l i h e = rw (drop-of-length-le l h) at e
+
+  -- where the set of x and the link at i loses, those behind it lose too
+  pub pairs-lose : Sorted orderℕ (costOf sums) base → (b w : Best) (x : ℕ) (l : List ℕ) (i : ℕ) (rest : Rest) (c d : ℕ) → Sorted orderℕ (costOf sums) l → i < length l
+      → rest ≡ restOf sums base goal 2 → c ≡ costOf sums x → d ≡ costOf sums (getD l i 0) → losesTo rest (c + d) (b .found) (b .sum) ≡ true
+      → withPairs b x l i ≡ w → b ≡ w
+  unfolding withPairs
+  pairs-lose by-cost b w x l i rest c d sorted h e f g k q = sym (unchanged b (map (pair x) (drop i l)) (λ X m.
+      let y = map-mem (pair x) (drop i l) X m in
+      let dearer = later-dearer (costOf sums) l i (y .0) sorted h (y .1) in
+      let cost = pair-sum (costOf sums) x (y .0) in
+      rw (y .2) (losing ends sums goal cs base by-cost b (pair x (y .0)) (loses-more (restOf sums base goal 2) _ _ (b .found) (b .sum) (omega (arith, f, g)) (rw e at k)))))
+      ∙ q
+
+  -- where no two of the links are admitted, they change nothing
+  pub pairs-unfit : (b : Best) (x : ℕ) (l : List ℕ) (i : ℕ) → ((y : ℕ) → y ∈ l → admitted cs (pair x y) ≡ false) → b ≡ withPairs b x l i
+  unfolding withPairs
+  pairs-unfit b x l i barred =
+      sym (unchanged b (map (pair x) (drop i l)) (λ X m. let y = map-mem (pair x) (drop i l) X m in rw (y .2) (inadmissible b (pair x (y .0)) (barred (y .0) (drop-among l i (y .0) (y .1))))))
 
   -- ---- the sets of one and two links of l from place i on
 
@@ -83,6 +266,25 @@ module _ (ends sums : List ℕ) (goal : ℕ) (cs : List Flagged) (base : List �
   unfolding withSets searched sets
   sets-end b w l i h e = rw (drop-of-length-le l h) at e
 
+  -- ---- the base alone
+
+  -- the first tree that is offered
+  offered-first : (u : Tree) → offered goal nothing u ≡ cond (eqb (u .count) goal) (record { found = true; sum = u .sum; taken = u .taken }) nothing
+  unfolding offered beats nothing
+  offered-first u = by-test (eqb (u .count) goal) (λ k. rw k) (λ k. rw k)
+
+  pub base-considered : (l : List ℕ) (ok : Bool) → base ≡ kept ends apart l → ok ≡ admitted cs [] → baseAlone sums base goal ok ≡ considered ends sums goal cs base nothing []
+  unfolding considered baseAlone bare marks
+  base-considered l ok q e =
+      let u = foldl (linked ends sums) bare base in
+      let took : Took sums bare base u = subst (λ (b : List ℕ). Took sums bare b (foldl (linked ends sums) bare b)) (sym q) (kept-walk ends sums bare l) in
+      let size : length base ≡ u .count = omega (arith, took .size) in
+      let total : sum (costOf sums) base ≡ u .sum = omega (arith, took .total) in
+      let flags : marks base ≡ u .taken = sym (took .flags) in
+      by-test ok
+      (λ k. rw (k, sym e ∙ k) ((λ i. cond (eqb (size i) goal) (record { found = true; sum = total i; taken = flags i }) nothing) ∙ sym (offered-first u)))
+      (λ k. rw (k, sym e ∙ k))
+
   -- ---- all sets
 
   pub trials-searched : (b₀ b r : Best) (l : List ℕ) → b ≡ considered ends sums goal cs base b₀ [] → r ≡ searched b (sets l) → r ≡ searched b₀ (trials l)
@@ -90,17 +292,17 @@ module _ (ends sums : List ℕ) (goal : ℕ) (cs : List Flagged) (base : List �
   trials-searched b₀ b r l e q = q ∙ ap (λ (k : Best). foldl (considered ends sums goal cs base) k (sets l)) e
 
 -- the best tree, from the normal links, the base and the exceptions
-pub assembled : (ends sums : List ℕ) (goal r s : ℕ) (v w : List ℕ) (m : ℕ) (order normals base exceptions : List ℕ) (b : Best)
-    → normals ≡ filter (free v w) order → base ≡ kept ends apart normals → exceptions ≡ filter (exception (two r v s w)) (numbersFrom m 0)
-    → b ≡ searched ends sums goal (two r v s w) base nothing (trials exceptions) → b ≡ bestOf ends sums goal (two r v s w) m order
+pub assembled : (ends sums : List ℕ) (goal r s : ℕ) (v w order normals base exceptions : List ℕ) (b : Best)
+    → normals ≡ filter (free v w) order → base ≡ kept ends apart normals → exceptions ≡ filter (exception (two r v s w)) order
+    → b ≡ searched ends sums goal (two r v s w) base nothing (trials exceptions) → b ≡ bestOf ends sums goal (two r v s w) order
 unfolding searched bestOf
-assembled ends sums goal r s v w m order normals base exceptions b e f g q = rw (← free-normal r s v w order, ← e, ← f, ← g) q
+assembled ends sums goal r s v w order normals base exceptions b e f g q = rw (← free-normal r s v w order, ← e, ← f, ← g) q
 
 -- and of a network, from its ranks, its flags and its link order
 pub assembled-network : (net : Network) (b1 b2 : ℤ) (r s : ℕ) (v w order : List ℕ) (b : Best)
     → r ≡ rankOf (ltb 0 (net .p)) (getD (net .k) 0 0) → s ≡ rankOf (ltb 1 (net .p)) (getD (net .k) 1 0)
     → v ≡ aboveFlags (net .costs) 0 (ltb 0 (net .p)) b1 → w ≡ aboveFlags (net .costs) 1 (ltb 1 (net .p)) b2 → order ≡ linkOrder (net .sums) (net .m)
-    → b ≡ bestOf (net .ends) (net .sums) (net .n - 1) (two r v s w) (net .m) order
-    → b ≡ bestOf (net .ends) (net .sums) (net .n - 1) (twoOf net b1 b2) (net .m) (linkOrder (net .sums) (net .m))
+    → b ≡ bestOf (net .ends) (net .sums) (net .n - 1) (two r v s w) order
+    → b ≡ bestOf (net .ends) (net .sums) (net .n - 1) (twoOf net b1 b2) (linkOrder (net .sums) (net .m))
 unfolding twoOf
 assembled-network net b1 b2 r s v w order b e f g h o q = rw (← e, ← f, ← g, ← h, ← o) q

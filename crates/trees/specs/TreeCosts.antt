@@ -93,7 +93,7 @@ module _ (sums l : List ℕ) where
   unfolding sumOf
   sum-end i s e h = let e′ = rw (drop-of-length-le l h) at e in omega arith
 
-sum-le : (w : ℕ → ℕ) (b : ℕ) (ts : List ℕ) → ((c : ℕ) → c ∈ ts → w c ≤ b) → sum w ts ≤ length ts * b
+pub sum-le : (w : ℕ → ℕ) (b : ℕ) (ts : List ℕ) → ((c : ℕ) → c ∈ ts → w c ≤ b) → sum w ts ≤ length ts * b
 sum-le w b [] h = omega arith
 sum-le w b (c ∷ ts) h =
     omega (arith, h c (here refl), sum-le w b ts (λ x m. h x (there m)), suc-mul (length ts) b)

@@ -21,7 +21,7 @@ fn sum_at(sums: &[u32], link: u8) -> u32
 }
 
 // The sum cost of the links.
-fn sum_of(sums: &[u32], links: &[u8]) -> u32
+pub fn sum_of(sums: &[u32], links: &[u8]) -> u32
     requires { ⌜ Below (length (now sums)) (now links) × (sumOf (now sums) (now links) < 4294967296) ⌝ }
     ensures { λ r. ⌜ r ≡ sumOf (now (sums .entry)) (now (links .entry)) ⌝ }
 {

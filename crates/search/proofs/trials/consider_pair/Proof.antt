@@ -1,27 +1,54 @@
--- The pair is admitted or not.
-use mathlib.Core.Path.{sym, _∙_}
+-- The set is tried where both links together are admitted.
+use native.Mathlib.Omega.{arith}
 use borrow.Author.Needs.{needs}
-use Rattle.kruskal.specs.Tree.{light-linked}
-use Rattle.search.specs.Tries.{considered-pair, inadmissible}
+use Rattle.kruskal.specs.Tree.{Usable}
+use Rattle.search.specs.Tries.{considered-tried, higher-usable, lower-usable, two-walkable}
 use Rattle.search.proofs.trials.consider_pair.Statement.{statement}
 use Rattle.search.proofs.trials.consider_pair.Tie as tie
 
-admits-requires : tie.Need-admits-requires
-admits-requires c κs = search needs
+lower-of-requires : tie.Need-lower-of-requires
+lower-of-requires c κs = search needs
 
-link-requires : tie.Need-link-requires
-link-requires c κs = search needs
+higher-of-requires : tie.Need-higher-of-requires
+higher-of-requires c κs = search needs
+
+slice-aggregate-consider : tie.Need-slice-aggregate-consider
+slice-aggregate-consider c = search needs
+
+-- both links
+usable : (c : tie.After-higher-of) → Usable (c .before .before .before .before .before .before .before .args .sums .now) (c .before .lower-of .result) × Usable (c .before .before .before .before .before .before .before .args .sums .now) (c .higher-of .result)
+usable c =
+    let p = c .before .before .before .before .before .before .before .pre in
+    (rw (c .before .lower-of .ensures) (lower-usable _ _ (p .3) (p .4)), rw (c .higher-of .ensures) (higher-usable _ _ (p .3) (p .4)))
+
+cast-admits : tie.Need-cast-admits
+cast-admits c = let u = usable (c .before) in record { fits = omega (arith, u .0 .below) }
+
+cast-admits-2 : tie.Need-cast-admits-2
+cast-admits-2 c = let u = usable (c .before) in record { fits = omega (arith, u .1 .below) }
+
+admits-requires : tie.Need-admits-requires
+admits-requires c κs = let u = usable (c .before) in (c .before .before .before .before .before .before .before .before .pre .2, u .0 .below, u .1 .below)
 
 consider-requires : tie.Need-consider-requires
-consider-requires c κs = let p = c .before .before .before .before .before .before .before .before .before .pre in
-    (p .0, p .1, light-linked _ 1 (p .4) (p .5) (c .before .link .ensures))
+consider-requires c κs =
+    let p = c .before .before .before .before .before .before .before .before .before .pre in
+    let u = usable (c .before .before) in
+    (p .0, p .1, two-walkable _ _ (u .0) (u .1), omega arith)
 
 returns : tie.Need-returns
-returns c = considered-pair _ _ _ _ _ _ _ _ _ _ _ (c .before .before .before .before .before .before .before .before .before .before .pre .6) (c .before .before .link .ensures) (sym (c .before .before .before .before .admits .ensures) ∙ c .before .before .before .if1 .taken) (c .consider .ensures)
-
-returns-2 : tie.Need-returns-2
-returns-2 c = inadmissible _ _ _ _ _ _ _ (sym (c .before .admits .ensures) ∙ c .if1 .left)
+returns c =
+    rw (c .before .before .before .before .lower-of .ensures, c .before .before .before .higher-of .ensures) at (considered-tried _ _ _ _ _ _ _ _ _ (c .before .admits .ensures) (c .consider .ensures))
 
 pub consider-pair-spec : {M : Type 1} → statement M
 consider-pair-spec =
-    tie.close (tie.spec admits-requires link-requires consider-requires returns returns-2)
+    tie.close
+    (tie.spec
+    lower-of-requires
+    higher-of-requires
+    slice-aggregate-consider
+    cast-admits
+    cast-admits-2
+    admits-requires
+    consider-requires
+    returns)

@@ -1,45 +1,90 @@
--- What is left to try, from place j on, leads to what the whole led to at the start.
-use Prim.Native.Nat.{_-_, _<_, _≤_}
-use mathlib.Core.Path.{_≡_, refl}
+-- What is left to try, from place j on, leads to what the whole led to at the start. Where the pair at j loses, so do those behind it.
+use Prim.Native.Nat.{ℕ, _+_, _-_, _*_, _<_, _≤_}
+use mathlib.Core.List.{List}
+use mathlib.Core.Path.{_≡_, refl, sym, _∙_}
 use native.Mathlib.Omega.{arith}
 use borrow.Author.Needs.{needs}
-use lib.ListN.{length}
+use borrow.Author.Tests.{not-true}
+use lib.ListN.{getD, length}
 use Rattle.order.specs.Lists.{getD-mem}
+use Rattle.network.specs.Limits.{maxSum}
+use Rattle.kruskal.specs.Tree.{Usable, Walkable}
 use Rattle.exceptions.specs.Two.{two}
-use Rattle.search.specs.Tries.{pairs-end, pairs-turn, withPairs}
+use Rattle.search.specs.Rest.{least-fits}
+use Rattle.search.specs.Tries.{pair-exceeds, pairs-end, pairs-lose, pairs-turn, pairs-unfit, withPairs}
 use Rattle.search.proofs.trials.consider_pairs.Statement.{statement}
 use Rattle.search.proofs.trials.consider_pairs.Tie as tie
 
 abbrev Inv-loop : tie.InvT-loop
-Inv-loop ends sums base goal v w r s t x l i best₀ j₀ j-end best j = (j-end ≡ length l) × (withPairs ends sums goal (two r v s w) base best x l j ≡ withPairs ends sums goal (two r v s w) base best₀ x l i)
+Inv-loop ends sums base goal v w r s rest x l i cost best₀ j₀ best j = withPairs ends sums goal (two r v s w) base best x l j ≡ withPairs ends sums goal (two r v s w) base best₀ x l i
 
 abbrev μ-loop : tie.MeasureT-loop
-μ-loop ends sums base goal v w r s t x l i best₀ j₀ j-end best j = j-end - j
+μ-loop ends sums base goal v w r s rest x l i cost best₀ j₀ best j = length l - j
+
+usable : (sums l : List ℕ) (j : ℕ) → Walkable sums l → j < length l → Usable sums (getD l j 0)
+usable sums l j walk h = walk .usable _ (getD-mem l j 0 h)
+
+pairs-fit-requires : tie.Need-pairs-fit-requires Inv-loop μ-loop
+pairs-fit-requires c κs = search needs
+
+returns : tie.Need-returns Inv-loop μ-loop
+returns c =
+    let p = c .before .before .before .before .before .before .before .before .pre in
+    let unfit = sym (c .before .pairs-fit .ensures) ∙ not-true _ (c .if1 .taken) in
+    pairs-unfit _ _ _ _ _ _ _ _ _ (λ y m. pair-exceeds _ _ _ _ _ y unfit (p .6 .exceeds) (p .7 .each y m))
+
+cost-of-requires : tie.Need-cost-of-requires Inv-loop μ-loop
+cost-of-requires c κs = let p = c .before .before .before .before .before .before .before .before .pre in (p .0 .sums-size, p .3)
 
 loop-holds : tie.Need-loop-holds Inv-loop μ-loop
-loop-holds c = (refl, refl)
+loop-holds c = refl
 
-shared-slice-read-consider-pair : tie.Need-shared-slice-read-consider-pair Inv-loop μ-loop
-shared-slice-read-consider-pair c = search needs
+shared-slice-read-y : tie.Need-shared-slice-read-y Inv-loop μ-loop
+shared-slice-read-y c = search needs
+
+cost-of-requires-2 : tie.Need-cost-of-requires-2 Inv-loop μ-loop
+cost-of-requires-2 c κs =
+    let i = c .before .before .before .before .before .before .before .before .before .before .before .before in
+    (i .pre .0 .sums-size, usable _ _ _ (i .pre .4 .walkable) (c .before .loop-test .taken))
+
+-- both costs are in range
+costs : (c : tie.After-cost-of2 Inv-loop μ-loop) → c .before .before .before .before .cost-of .result + c .cost-of2 .result ≤ 2 * maxSum
+costs c =
+    let p = c .before .before .before .before .before .before .before .before .before .before .before .before .before .pre in
+    omega (arith, p .3 .cheap, usable _ _ _ (p .4 .walkable) (c .before .before .loop-test .taken) .cheap, c .before .before .before .before .cost-of .ensures, c .cost-of2 .ensures)
+
+add-loses : tie.Need-add-loses Inv-loop μ-loop
+add-loses c =
+    let sums = costs c in
+    record { fits = omega arith }
+
+loses-requires : tie.Need-loses-requires Inv-loop μ-loop
+loses-requires c κs =
+    let p = c .before .before .before .before .before .before .before .before .before .before .before .before .before .pre in
+    rw (p .5) (least-fits _ _ (p .1 .walkable) _ 2 _ (costs c))
+
+returns-2 : tie.Need-returns-2 Inv-loop μ-loop
+returns-2 c =
+    let p = c .before .before .before .before .before .before .before .before .before .before .before .before .before .before .before .pre in
+    let v = c .before .before .before .before .before .loop in
+    pairs-lose _ _ _ _ _ (p .1 .sorted) _ _ _ _ _ _ _ _ (p .4 .sorted) (c .before .before .before .before .loop-test .taken) (p .5) (c .before .before .before .before .before .before .cost-of .ensures) (c .before .before .cost-of2 .ensures) (sym (c .before .loses .ensures) ∙ c .if2 .taken) (v .inv)
 
 consider-pair-requires : tie.Need-consider-pair-requires Inv-loop μ-loop
-consider-pair-requires c κs = let p = c .before .before .before .before .before .before .before .before .before .pre in
-    let h : c .before .before .loop .j < length (c .before .before .before .before .before .before .before .before .before .args .l .now) = omega arith in
-    (p .0, p .1, p .2, p .3, p .4 .usable _ (getD-mem _ _ 0 h), p .5, p .6)
+consider-pair-requires c κs =
+    let p = c .before .before .before .before .before .before .before .before .before .before .before .before .before .before .before .pre in
+    (p .0, p .1 .walkable, p .2, p .3, usable _ _ _ (p .4 .walkable) (c .before .before .before .before .loop-test .taken))
 
 add-j : tie.Need-add-j Inv-loop μ-loop
-add-j c = search needs
+add-j c = record { fits = omega (arith, c .before .before .before .before .before .loop-test .taken, c .before .before .before .before .before .before .before .before .before .before .before .before .before .before .before .before .pre .4 .walkable .few) }
 
 loop-less : tie.Need-loop-less Inv-loop μ-loop
 loop-less c = search needs
 
 loop-again : tie.Need-loop-again Inv-loop μ-loop
-loop-again c = let h : c .before .before .before .loop .j < length (c .before .before .before .before .before .before .before .before .before .before .args .l .now) = omega arith in
-    (refl, pairs-turn _ _ _ _ _ _ _ _ _ _ _ h (c .before .before .before .loop .inv .1) (c .consider-pair .ensures))
+loop-again c = pairs-turn _ _ _ _ _ _ _ _ _ _ _ (c .before .before .before .before .before .loop-test .taken) (c .before .before .before .before .before .before .loop .inv) (c .consider-pair .ensures)
 
-returns : tie.Need-returns Inv-loop μ-loop
-returns c = let h : length (c .before .before .before .before .before .before .before .before .args .l .now) ≤ c .before .loop .j = omega arith in
-    pairs-end _ _ _ _ _ _ _ _ _ _ h (c .before .loop .inv .1)
+returns-3 : tie.Need-returns-3 Inv-loop μ-loop
+returns-3 c = pairs-end _ _ _ _ _ _ _ _ _ _ (c .loop-test .left) (c .before .loop .inv)
 
 pub consider-pairs-spec : {M : Type 1} → statement M
 consider-pairs-spec =
@@ -47,10 +92,17 @@ consider-pairs-spec =
     (tie.spec
     Inv-loop
     μ-loop
+    pairs-fit-requires
+    returns
+    cost-of-requires
     loop-holds
-    shared-slice-read-consider-pair
+    shared-slice-read-y
+    cost-of-requires-2
+    add-loses
+    loses-requires
+    returns-2
     consider-pair-requires
     add-j
     loop-less
     loop-again
-    returns)
+    returns-3)

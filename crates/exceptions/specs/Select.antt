@@ -10,9 +10,9 @@ use lib.ListN.{length, getD, set, take}
 use lib.Seq.{length-take-le, take-set-le, take-suc, take-suc-set}
 use Rattle.order.specs.Lists.{count-le-length, filter, filter-append, filter-mem, length-filter, numbersFrom}
 use Rattle.order.specs.Sorted.{numbers-length, numbers-mem}
-use Rattle.network.specs.Limits.{maxLinks, maxSum}
+use Rattle.network.specs.Limits.{maxLinks}
 use Rattle.forest.specs.declared.Forest.{Forest}
-use Rattle.kruskal.specs.ByCost.{costOf, linkOrder, order-below, order-length}
+use Rattle.kruskal.specs.ByCost.{Cheap, linkOrder, order-below, order-length}
 use Rattle.kruskal.specs.Tree.{Walkable}
 use Rattle.kruskal.specs.Base.{Holding, kept, kept-among, kept-few}
 use Rattle.kruskal.specs.declared.links.Links.{Links}
@@ -64,10 +64,6 @@ module _ (p : ℕ → Bool) where
   collect-end link l n e s f = record { links = e; size = s; few = f }
 
 -- ---- collected links can be walked where all links can
-
--- the costs of m links are in range
-abbrev pub Cheap : List ℕ → ℕ → Type 0
-Cheap sums m = (e : ℕ) → e < m → costOf sums e ≤ maxSum
 
 module _ (sums : List ℕ) where
   pub walkable-filter : (p : ℕ → Bool) {l : List ℕ} → Walkable sums l → Walkable sums (filter p l)

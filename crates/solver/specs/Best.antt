@@ -28,7 +28,7 @@ use Rattle.network.specs.Yard.{best, bounds, graph, ranks}
 use Rattle.network.specs.NetworkFine.{NetworkFine, graph-sound}
 use Rattle.network.specs.declared.Network.{Network}
 use Rattle.forest.specs.Groups.{apart, apart-labels, apart-led}
-use Rattle.kruskal.specs.ByCost.{costOf, linkOrder, ordered}
+use Rattle.kruskal.specs.ByCost.{costOf, linkOrder}
 use Rattle.kruskal.specs.Tree.{endsOf}
 use Rattle.kruskal.specs.Base.{kept}
 use Rattle.kruskal.specs.Grown.{kept-kruskal}
@@ -77,7 +77,7 @@ module _ (net : Network) (fine : NetworkFine net) (b1 b2 : ℤ) where
 
   -- the program's normal links and exceptions
   normal-links : filter (normal (twoOf net b1 b2)) (linkOrder (net .sums) (net .m)) ≡ byCost (costOf (net .sums)) (normals (graph net) bs)
-  unfolding linkOrder ordered
+  unfolding linkOrder
   normal-links =
       filter-ext (normal (twoOf net b1 b2)) (λ e. not (exceptional orderℤ cs e)) (linkOrder (net .sums) (net .m))
       (λ e k. two-normal net fine b1 b2 e (link-within e (sort-mem (pairs orderℕ orderℕ) (ranked (costOf (net .sums)) (λ c. c)) (links (graph net)) k)))

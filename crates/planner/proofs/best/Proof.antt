@@ -38,7 +38,9 @@ slice-aggregate-order-links : tie.Need-slice-aggregate-order-links
 slice-aggregate-order-links c = search needs
 
 order-links-requires : tie.Need-order-links-requires
-order-links-requires c κs = read (c .before .before .before .before) .fine .few-links
+order-links-requires c κs =
+    let fine = read (c .before .before .before .before) .fine in
+    (fine .few-links, omega arith, fine .cheap)
 
 slice-aggregate-solve : tie.Need-slice-aggregate-solve
 slice-aggregate-solve c = search needs

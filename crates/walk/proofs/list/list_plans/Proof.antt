@@ -16,7 +16,9 @@ slice-aggregate-order-links : tie.Need-slice-aggregate-order-links
 slice-aggregate-order-links c = search needs
 
 order-links-requires : tie.Need-order-links-requires
-order-links-requires c κs = search needs
+order-links-requires c κs =
+    let fine = c .before .before .before .pre in
+    (fine .few-links, omega arith, fine .cheap)
 
 slice-aggregate-ceiling-values : tie.Need-slice-aggregate-ceiling-values
 slice-aggregate-ceiling-values c = search needs

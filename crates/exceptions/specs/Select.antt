@@ -1,19 +1,26 @@
 -- Links that pass a test, collected in an array: each link is stored, and counts where it passes.
-use Prim.Native.Nat.{ℕ, suc, zero, _+_, _≤_, _<_}
+use Prim.Native.Nat.{ℕ, _+_, _≤_, _<_}
 use mathlib.Core.Bool.{Bool, cond, true, false}
 use mathlib.Core.List.{List, [], _∷_, _++_, append-nil}
-use mathlib.Core.Path.{_≡_, refl, sym, ap}
-use native.Mathlib.Nat.{add-zero, le-refl, zero-add}
+use mathlib.Core.Path.{_≡_, refl, sym}
+use native.Mathlib.Nat.{add-zero, le-refl}
 use native.Mathlib.Numerals.{add-one}
 use native.Mathlib.Omega.{arith}
 use lib.ListN.{length, getD, set, take}
 use lib.Seq.{length-take-le, take-set-le, take-suc, take-suc-set}
 use Rattle.order.specs.Lists.{count-le-length, filter, filter-append, filter-mem, length-filter, numbersFrom}
-use Rattle.order.specs.Sorted.{numbers-length, numbers-mem}
+use Rattle.order.specs.Order.{orderℕ, pair-first, pairs}
+use Rattle.order.specs.Perm.{pairwise-filter, pairwise-imp}
+use Rattle.order.specs.Sorted.{Sorted, sort-sorted}
+use Rattle.order.specs.Least.{ranked}
+use Rattle.order.specs.Test.{by-test}
+use Rattle.spanning.specs.Labelling.{crosses}
+use Rattle.spanning.specs.LabelList.{labelOf}
+use Rattle.forest.specs.Groups.{joined}
 use Rattle.network.specs.Limits.{maxLinks}
 use Rattle.forest.specs.declared.Forest.{Forest}
-use Rattle.kruskal.specs.ByCost.{Cheap, linkOrder, order-below, order-length}
-use Rattle.kruskal.specs.Tree.{Walkable}
+use Rattle.kruskal.specs.ByCost.{Cheap, costOf, linkOrder, order-below, order-length}
+use Rattle.kruskal.specs.Tree.{Walkable, endsOf}
 use Rattle.kruskal.specs.Base.{Holding, kept, kept-among, kept-few}
 use Rattle.kruskal.specs.declared.links.Links.{Links}
 use Rattle.exceptions.specs.Ceilings.{flagOf}
@@ -22,11 +29,6 @@ pub flag-le : (b : Bool) (r : ℕ) → r ≡ flagOf b → r ≤ 1
 unfolding flagOf
 flag-le true r q = omega arith
 flag-le false r q = omega arith
-
-numbers-snoc : (n k x : ℕ) → k + n ≡ x → numbersFrom (suc n) k ≡ numbersFrom n k ++ (x ∷ [])
-unfolding numbersFrom
-numbers-snoc zero k x e = let q : k ≡ x = omega arith in ap (λ (y : ℕ). y ∷ []) q
-numbers-snoc (suc n) k x e = ap (_∷_ k) (numbers-snoc n (suc k) x (omega arith))
 
 module _ (p : ℕ → Bool) where
   -- the first n entries of an array are the links of l that pass
@@ -46,52 +48,64 @@ module _ (p : ℕ → Bool) where
       → Collected (set link n (getD l k 0)) (n + r) (take (k + 1) l)
   collect-turn link l n k r h m e q = rw (add-one k, take-suc l k 0 h) (more link (take k l) n (getD l k 0) r m e q)
 
-  -- and of a loop over the numbers from 0
-  pub collect-number : (link : List ℕ) (n k r : ℕ) → n < length link → Collected link n (numbersFrom k 0) → r ≡ flagOf (p k)
-      → Collected (set link n k) (n + r) (numbersFrom (k + 1) 0)
-  collect-number link n k r m e q = rw (add-one k, numbers-snoc k 0 k (zero-add k)) (more link (numbersFrom k 0) n k r m e q)
-
   pub collect-start : (link : List ℕ) → Collected link 0 []
   unfolding Collected
   collect-start link = refl
-
-  pub collect-zero : (link : List ℕ) → Collected link 0 (numbersFrom 0 0)
-  unfolding Collected numbersFrom
-  collect-zero link = refl
 
   pub collect-end : (link l : List ℕ) (n : ℕ) → Collected link n l → length link ≡ maxLinks → n ≤ maxLinks → Holding (filter p l) (record { link = link; count = n })
   unfolding Collected
   collect-end link l n e s f = record { links = e; size = s; few = f }
 
--- ---- collected links can be walked where all links can
+-- ---- links in rising order of cost, and those selected of them
+
+-- links that can be walked, in rising order of cost
+pub record InOrder (sums l : List ℕ) : Type 0 where
+  pub walkable : Walkable sums l
+  pub sorted : Sorted orderℕ (costOf sums) l
+
+kept-sorted : (ends : List ℕ) (w : ℕ → ℕ) (f : Forest) (l : List ℕ) → Sorted orderℕ w l → Sorted orderℕ w (kept ends f l)
+unfolding kept
+kept-sorted ends w f [] s = s
+kept-sorted ends w f (e ∷ l) s =
+    let more = joined f (endsOf ends e .a) (endsOf ends e .b) in
+    by-test (crosses (labelOf (f .leader)) (endsOf ends e))
+    (λ c. rw c ((λ y m. s .0 y (kept-among ends more l y m)), kept-sorted ends w more l (s .1)))
+    (λ c. rw c (kept-sorted ends w f l (s .1)))
 
 module _ (sums : List ℕ) where
-  pub walkable-filter : (p : ℕ → Bool) {l : List ℕ} → Walkable sums l → Walkable sums (filter p l)
-  walkable-filter p {l} v =
-      let few = v .few in
-      record { few = omega (arith, length-filter p l, count-le-length p l); usable = λ e k. v .usable e (filter-mem p l k .0) }
-
-  pub walkable-numbers : (m : ℕ) → m ≤ maxLinks → Cheap sums m → Walkable sums (numbersFrom m 0)
-  walkable-numbers m h cheap =
-      record {
-        few = omega (arith, numbers-length m 0);
-        usable = λ e k. let r = numbers-mem m 0 e k in record { below = omega arith; cheap = cheap e (omega arith) };
-      }
-
-  pub walkable-order : (m : ℕ) {l : List ℕ} → m ≤ maxLinks → Cheap sums m → l ≡ linkOrder sums m → Walkable sums l
-  walkable-order m h cheap e =
+  pub order-in-order : (m : ℕ) {l : List ℕ} → m ≤ maxLinks → Cheap sums m → l ≡ linkOrder sums m → InOrder sums l
+  unfolding linkOrder
+  order-in-order m h cheap e =
+      let key = ranked (costOf sums) (λ c. c) in
       rw e (record {
-        few = omega (arith, order-length sums m);
-        usable = λ e k. let b = order-below sums m e k in record { below = omega arith; cheap = cheap e b };
+        walkable = record {
+          few = omega (arith, order-length sums m);
+          usable = λ e k. let b = order-below sums m e k in record { below = omega arith; cheap = cheap e b };
+        };
+        sorted = pairwise-imp (λ x y k. pair-first orderℕ orderℕ (key x) (key y) k) (linkOrder sums m) (sort-sorted (pairs orderℕ orderℕ) key (numbersFrom m 0));
       })
 
-  pub walkable-kept : (ends : List ℕ) (f : Forest) {l : List ℕ} → Walkable sums l → Walkable sums (kept ends f l)
-  walkable-kept ends f {l} v =
-      let few = v .few in
-      record { few = omega (arith, kept-few ends f l); usable = λ e k. v .usable e (kept-among ends f l e k) }
+  pub filter-in-order : (p : ℕ → Bool) {l : List ℕ} → InOrder sums l → InOrder sums (filter p l)
+  filter-in-order p {l} v =
+      let few = v .walkable .few in
+      record {
+        walkable = record {
+          few = omega (arith, length-filter p l, count-le-length p l);
+          usable = λ e k. v .walkable .usable e (filter-mem p l k .0);
+        };
+        sorted = pairwise-filter p _ l (v .sorted);
+      }
 
-  pub walkable-held : {l : List ℕ} {r : Links} → Holding l r → Walkable sums l → Walkable sums (take (r .count) (r .link))
-  walkable-held h v = rw (h .links) v
+  pub kept-in-order : (ends : List ℕ) (f : Forest) {l : List ℕ} → InOrder sums l → InOrder sums (kept ends f l)
+  kept-in-order ends f {l} v =
+      let few = v .walkable .few in
+      record {
+        walkable = record { few = omega (arith, kept-few ends f l); usable = λ e k. v .walkable .usable e (kept-among ends f l e k) };
+        sorted = kept-sorted ends (costOf sums) f l (v .sorted);
+      }
+
+  pub held-in-order : {l : List ℕ} {r : Links} → Holding l r → InOrder sums l → InOrder sums (take (r .count) (r .link))
+  held-in-order h v = rw (h .links) v
 
 -- the part of the array that counts
 pub held-fits : {l : List ℕ} {r : Links} → Holding l r → r .count ≤ length (r .link)

@@ -55,6 +55,29 @@ pair-second : (x y : ℕ) → y ∈ pair x y
 unfolding lower higher
 pair-second x y = by-test (leb x y) (λ e. rw e (there (here refl))) (λ e. rw e (here refl))
 
+-- the links of a set that is tried are links of l
+pair-among : (x y : ℕ) (l : List ℕ) → y ∈ l → pair x y ⊆ x ∷ l
+unfolding lower higher
+pair-among x y l m e k =
+    by-test (leb x y)
+    (λ t. ⊎-elim (λ q. here q) (λ j. there (Memᴰ·cast (List·Memᴰ·eq-of-singleton j) m)) (List·Memᴰ·cases-cons (rw t at k)))
+    (λ t. ⊎-elim (λ q. there (Memᴰ·cast q m)) (λ j. here (List·Memᴰ·eq-of-singleton j)) (List·Memᴰ·cases-cons (rw t at k)))
+
+sets-among : (l X : List ℕ) → X ∈ sets l → X ⊆ l
+unfolding sets
+sets-among [] X m e k = elim m [ ]
+sets-among (x ∷ l) X m e k =
+    ⊎-elim
+    (λ q. here (List·Memᴰ·eq-of-singleton (rw q at k)))
+    (λ n. ⊎-elim
+    (λ j. let y = map-mem (pair x) l X j in pair-among x (y .0) l (y .1) e (rw (y .2) at k))
+    (λ j. there (sets-among l X j e k))
+    (List·Memᴰ·append-cases (map (pair x) l) n))
+    (List·Memᴰ·cases-cons m)
+
+pub trials-among : (l X : List ℕ) → X ∈ trials l → X ⊆ l
+trials-among l X m e k = ⊎-elim (λ q. elim (rw q at k) [ ]) (λ n. sets-among l X n e k) (List·Memᴰ·cases-cons m)
+
 -- ---- they are the sets of at most two
 
 member-sublist : {x : ℕ} {l : List ℕ} → x ∈ l → Sublistᴰ (x ∷ []) l

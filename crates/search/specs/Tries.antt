@@ -9,10 +9,10 @@ use native.Mathlib.Omega.{arith}
 use borrow.Author.Tests.{eq-eqb, eqb-false, leb-true, ltb-false, ltb-true, ne-eqb, not-true}
 use lib.Dec.{eqb, leb, ltb}
 use lib.IntN.{ℤ}
-use lib.ListN.{length, getD, drop, drop-of-length-le}
+use lib.ListN.{length, getD, drop, drop-of-length-le, take}
 use lib.Seq.{drop-cons}
 use Rattle.order.specs.Test.{by-test, fails, left, right}
-use Rattle.order.specs.Lists.{_∈_, _⊆_, filter, map-mem}
+use Rattle.order.specs.Lists.{_∈_, _⊆_, filter, filter-mem, map-mem}
 use Rattle.order.specs.Order.{orderℕ}
 use Rattle.order.specs.Perm.{sum}
 use Rattle.order.specs.Sorted.{Sorted}
@@ -24,7 +24,8 @@ use Rattle.spanning.specs.Labelling.{crosses}
 use Rattle.spanning.specs.LabelList.{labelOf}
 use Rattle.forest.specs.Groups.{apart, joined}
 use Rattle.kruskal.specs.Tree.{Light, Usable, Walkable, added, bare, endsOf, light-linked, light-up, linked}
-use Rattle.kruskal.specs.Base.{kept}
+use Rattle.kruskal.specs.Base.{Holding, kept}
+use Rattle.kruskal.specs.declared.links.Links.{Links}
 use Rattle.kruskal.specs.Grown.{mark, marks}
 use Rattle.kruskal.specs.declared.tree.Tree.{Tree}
 use Rattle.exceptions.specs.Ceilings.{Flagged, admitted, exception, normal}
@@ -78,17 +79,15 @@ pub two-walkable : {sums : List ℕ} (x y : ℕ) → Usable sums x → Usable su
 two-walkable {sums} x y u w =
     record { few = omega arith; usable = λ e m. ⊎-elim (λ q. subst (Usable sums) (sym q) u) (λ k. subst (Usable sums) (sym (List·Memᴰ·eq-of-singleton k)) w) (List·Memᴰ·cases-cons m) }
 
--- links that can be walked, in rising order of cost
-pub record InOrder (sums l : List ℕ) : Type 0 where
-  pub walkable : Walkable sums l
-  pub sorted : Sorted orderℕ (costOf sums) l
-
 -- a link is an exception, and all of a list are
 pub record Exceptional (cs : List Flagged) (x : ℕ) : Type 0 where
   pub exceeds : exception cs x ≡ true
 
 pub record Exceptions (cs : List Flagged) (l : List ℕ) : Type 0 where
   pub each : (x : ℕ) → x ∈ l → exception cs x ≡ true
+
+pub held-exceptions : (cs : List Flagged) (order : List ℕ) {r : Links} → Holding (filter (exception cs) order) r → Exceptions cs (take (r .count) (r .link))
+held-exceptions cs order h = rw (h .links) (record { each = λ x m. filter-mem (exception cs) order m .1 })
 
 -- ---- pairs of exceptions that no ranks r and s admit
 
@@ -102,12 +101,13 @@ module _ (r s : ℕ) (v w : List ℕ) where
   unfolding exception normal admitted
   exceeding e h =
       let some : eqb (getD v e 0) 0 && eqb (getD w e 0) 0 ≡ false = not-true _ (left (not (eqb (getD v e 0) 0 && eqb (getD w e 0) 0)) _ h) in
-      let within = right (not (eqb (getD v e 0) 0 && eqb (getD w e 0) 0)) _ h in
-      (by-test (eqb (getD v e 0) 0)
-      (λ k. let above = eqb-false (getD w e 0) 0 (rw k at some) in omega arith)
-      (λ k. let above = eqb-false (getD v e 0) 0 k in omega arith),
-      ltb-true (getD v e 0) r (left (ltb (getD v e 0) r) _ within),
-      ltb-true (getD w e 0) s (right (ltb (getD v e 0) r) _ within))
+      let within = right (not (eqb (getD v e 0) 0 && eqb (getD w e 0) 0)) _ h in (
+        by-test (eqb (getD v e 0) 0)
+            (λ k. let above = eqb-false (getD w e 0) 0 (rw k at some) in omega arith)
+            (λ k. let above = eqb-false (getD v e 0) 0 k in omega arith),
+        ltb-true (getD v e 0) r (left (ltb (getD v e 0) r) _ within),
+        ltb-true (getD w e 0) s (right (ltb (getD v e 0) r) _ within),
+      )
 
   two-exceed : (x y : ℕ) → pairsFit r s ≡ false → exception (two r v s w) x ≡ true → exception (two r v s w) y ≡ true → admitted (two r v s w) (x ∷ y ∷ []) ≡ false
   unfolding pairsFit admitted
@@ -166,6 +166,11 @@ pub alone-none : (sums base : List ℕ) (goal : ℕ) (ok : Bool) → ok && eqb (
 unfolding baseAlone
 alone-none sums base goal ok k = rw k
 
+-- the base is what Kruskal's method keeps of some links
+pub record Kept (ends base : List ℕ) : Type 0 where
+  pub links : List ℕ
+  pub kept-of : base ≡ kept ends apart links
+
 -- a walk over links that are kept takes them all
 pub record Took (sums : List ℕ) (t : Tree) (l : List ℕ) (u : Tree) : Type 0 where
   pub flags : u .taken ≡ foldl mark (t .taken) l
@@ -185,7 +190,7 @@ kept-walk ends sums t (e ∷ l) =
     let more : List ℕ = kept ends (joined (t .forest) (endsOf ends e .a) (endsOf ends e .b)) l in
     let w = kept-walk ends sums (added ends sums t e) l in
     let step : Took sums t (e ∷ more) (foldl (linked ends sums) (added ends sums t e) more) =
-        record { flags = w .flags; total = omega (arith, w .total); size = omega (arith, w .size) } in
+    record { flags = w .flags; total = omega (arith, w .total); size = omega (arith, w .size) } in
     rw c (subst (λ (u : Tree). Took sums t (e ∷ more) (foldl (linked ends sums) u more)) (sym (taken-added ends sums t e c)) step))
     (λ c. rw c (kept-walk ends sums t l))
 
@@ -273,15 +278,15 @@ module _ (ends sums : List ℕ) (goal : ℕ) (cs : List Flagged) (base : List �
   unfolding offered beats nothing
   offered-first u = by-test (eqb (u .count) goal) (λ k. rw k) (λ k. rw k)
 
-  pub base-considered : (l : List ℕ) (ok : Bool) → base ≡ kept ends apart l → ok ≡ admitted cs [] → baseAlone sums base goal ok ≡ considered ends sums goal cs base nothing []
+  pub base-considered : Kept ends base → (b : Best) (ok : Bool) → ok ≡ admitted cs [] → b ≡ baseAlone sums base goal ok → b ≡ considered ends sums goal cs base nothing []
   unfolding considered baseAlone bare marks
-  base-considered l ok q e =
+  base-considered made b ok e r =
       let u = foldl (linked ends sums) bare base in
-      let took : Took sums bare base u = subst (λ (b : List ℕ). Took sums bare b (foldl (linked ends sums) bare b)) (sym q) (kept-walk ends sums bare l) in
+      let took : Took sums bare base u = subst (λ (b : List ℕ). Took sums bare b (foldl (linked ends sums) bare b)) (sym (made .kept-of)) (kept-walk ends sums bare (made .links)) in
       let size : length base ≡ u .count = omega (arith, took .size) in
       let total : sum (costOf sums) base ≡ u .sum = omega (arith, took .total) in
       let flags : marks base ≡ u .taken = sym (took .flags) in
-      by-test ok
+      r ∙ by-test ok
       (λ k. rw (k, sym e ∙ k) ((λ i. cond (eqb (size i) goal) (record { found = true; sum = total i; taken = flags i }) nothing) ∙ sym (offered-first u)))
       (λ k. rw (k, sym e ∙ k))
 

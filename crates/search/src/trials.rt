@@ -12,22 +12,15 @@ ghost use mathlib.Core.List.{_∷_, []};
 ghost use Prim.Native.Nat.{_≤_};
 ghost use lib.ListN.{getD, length};
 ghost use Rattle.kruskal.specs.Tree.{Columns, Usable, Walkable};
+ghost use Rattle.exceptions.specs.Select.{InOrder};
 ghost use Rattle.exceptions.specs.Two.{FlagsSize, two};
 ghost use Rattle.search.specs.Sets.{higher, lower, pair, sets};
 ghost use Rattle.search.specs.Search.{considered};
 ghost use Rattle.search.specs.Rest.{restOf};
-ghost use Rattle.search.specs.Tries.{Exceptional, Exceptions, InOrder, pairsFit, searched, tried, withPairs};
+ghost use Rattle.search.specs.Tries.{Exceptional, Exceptions, pairsFit, searched, tried, withPairs};
 
 // A set of exceptions, completed by the base and compared with b, where it is admitted and has no ring.
-fn consider(
-    ends: &[u8],
-    sums: &[u32],
-    base: &[u8],
-    goal: u8,
-    set: &[u8],
-    ok: bool,
-    b: Best,
-) -> Best
+fn consider(ends: &[u8], sums: &[u32], base: &[u8], goal: u8, set: &[u8], ok: bool, b: Best) -> Best
     requires { ⌜ Columns (now ends) (now sums) × Walkable (now sums) (now base) × Walkable (now sums) (now set) × (length (now set) ≤ 2) ⌝ }
     ensures { λ r. ⌜ r ≡ tried (now (ends .entry)) (now (sums .entry)) goal (now (base .entry)) (now (set .entry)) ok b ⌝ }
 {
@@ -69,7 +62,15 @@ fn consider_one(
         return b;
     }
     let set = [x];
-    consider(ends, sums, base, goal, &set, admits_alone(v, w, r, s, x as usize), b)
+    consider(
+        ends,
+        sums,
+        base,
+        goal,
+        &set,
+        admits_alone(v, w, r, s, x as usize),
+        b,
+    )
 }
 
 // The lower and the higher one of two links.
@@ -105,7 +106,15 @@ fn consider_pair(
     let i = lower_of(x, y);
     let j = higher_of(x, y);
     let set = [i, j];
-    consider(ends, sums, base, goal, &set, admits(v, w, r, s, i as usize, j as usize), b)
+    consider(
+        ends,
+        sums,
+        base,
+        goal,
+        &set,
+        admits(v, w, r, s, i as usize, j as usize),
+        b,
+    )
 }
 
 // Whether the ranks admit some two exceptions.

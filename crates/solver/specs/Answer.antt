@@ -45,7 +45,7 @@ module _ {s : ℕ → ℕ} {goal : ℕ} where
 
 -- what the program's search gives is the answer
 module _ (net : Network) (fine : NetworkFine net) (b1 b2 : ℤ) (b : Best)
-    (e : b ≡ bestOf (net .ends) (net .sums) (net .n - 1) (twoOf net b1 b2) (net .m) (linkOrder (net .sums) (net .m))) where
+    (e : b ≡ bestOf (net .ends) (net .sums) (net .n - 1) (twoOf net b1 b2) (linkOrder (net .sums) (net .m))) where
   shown : Shows (costOf (net .sums)) (net .n - 1) (best net (bounds net b1 b2)) b
   shown = rw e (best-shown net fine b1 b2)
 

@@ -9,10 +9,10 @@ use lib.Dec.{ltb}
 use lib.IntN.{ℤ}
 use borrow.Author.Tests.{lt-ltb, ltb-true}
 use Rattle.order.specs.Test.{both, by-test, left, refute, right}
-use Rattle.order.specs.Lists.{_∈_, count, filter, filter-mem, mapSome, numbersFrom, sublist-⊆}
+use Rattle.order.specs.Lists.{_∈_, count, filter, filter-mem, mapSome, mem-filter, numbersFrom}
 use Rattle.order.specs.Order.{dictionary, orderℕ, orderℤ, pairs}
-use Rattle.order.specs.Perm.{pairwise-imp}
-use Rattle.order.specs.Sorted.{Apart, numbers-mem, numbers-rising, rising-apart, sort-mem}
+use Rattle.order.specs.Perm.{pairwise-filter, pairwise-imp, perm-sym}
+use Rattle.order.specs.Sorted.{Apart, apart-perm, mem-sort, numbers-mem, numbers-rising, rising-apart, sort-mem, sort-perm}
 use Rattle.order.specs.Least.{least, ranked}
 use Rattle.spanning.specs.Labelling.{Labelling}
 use Rattle.spanning.specs.Tree.{identity}
@@ -20,7 +20,7 @@ use Rattle.spanning.specs.Kruskal.{greedy-⊆, kruskal, kruskal-greedy}
 use Rattle.spanning.specs.Best.{byCost}
 use Rattle.kmax.specs.KMax.{above, countAbove}
 use Rattle.kmax.specs.Ceilings.{Ceiling, admissible, exceptional, slackOf}
-use Rattle.kmax.specs.Search.{searchIn}
+use Rattle.kmax.specs.Search.{Candidates, searchIn}
 use Rattle.planning.specs.Graph.{completed, exceptionals, links, normals, searchSets, total, under}
 use Rattle.planning.specs.Search.{base, search-base, search-sets}
 use Rattle.network.specs.Limits.{maxLinks}
@@ -28,12 +28,12 @@ use Rattle.network.specs.Yard.{best, bounds, graph, ranks}
 use Rattle.network.specs.NetworkFine.{NetworkFine, graph-sound}
 use Rattle.network.specs.declared.Network.{Network}
 use Rattle.forest.specs.Groups.{apart, apart-labels, apart-led}
-use Rattle.kruskal.specs.ByCost.{costOf, linkOrder}
+use Rattle.kruskal.specs.ByCost.{costOf, linkOrder, order-below}
 use Rattle.kruskal.specs.Tree.{endsOf}
 use Rattle.kruskal.specs.Base.{kept}
 use Rattle.kruskal.specs.Grown.{kept-kruskal}
 use Rattle.solver.specs.Filter.{filter-both, filter-ext, filter-sort}
-use Rattle.search.specs.Sets.{trials, trials-candidates, trials-filter}
+use Rattle.search.specs.Sets.{trials, trials-among, trials-candidates, trials-filter}
 use Rattle.exceptions.specs.Ceilings.{exception, normal}
 use Rattle.exceptions.specs.Two.{two-admitted, two-bounds, two-few, two-normal, twoOf}
 use Rattle.search.specs.Search.{bestOf, considered, nothing}
@@ -87,15 +87,32 @@ module _ (net : Network) (fine : NetworkFine net) (b1 b2 : ℤ) where
   alone : ℕ → Bool
   alone e = admissible orderℤ cs (e ∷ [])
 
-  exception-links : filter (exception (twoOf net b1 b2)) (links (graph net)) ≡ filter alone (exceptionals (graph net) bs)
+  -- the exceptional links in their order
+  abbrev exceeding : List ℕ
+  exceeding = filter (exceptional orderℤ cs) (linkOrder (net .sums) (net .m))
+
+  exception-links : filter (exception (twoOf net b1 b2)) (linkOrder (net .sums) (net .m)) ≡ filter alone exceeding
   unfolding exception alone
   exception-links =
-      filter-ext (exception (twoOf net b1 b2)) (λ e. exceptional orderℤ cs e && alone e) (links (graph net))
-      (λ e k. rw (two-normal net fine b1 b2 e (link-within e k), two-admitted net fine b1 b2 (e ∷ []) (only e k)) (by-test (exceptional orderℤ cs e) (λ t. rw t) (λ t. rw t)))
-      ∙ filter-both (exceptional orderℤ cs) alone (links (graph net))
-    where
-      only : (e : ℕ) → e ∈ links (graph net) → (x : ℕ) → x ∈ e ∷ [] → x < maxLinks
-      only e k x m = rw (List·Memᴰ·eq-of-singleton m) (link-within e k)
+      filter-ext (exception (twoOf net b1 b2)) (λ e. exceptional orderℤ cs e && alone e) (linkOrder (net .sums) (net .m))
+      (λ e k. let h = within (linkOrder (net .sums) (net .m)) (order-below (net .sums) (net .m)) e k in
+      rw (two-normal net fine b1 b2 e h, two-admitted net fine b1 b2 (e ∷ []) (λ x m. rw (List·Memᴰ·eq-of-singleton m) h)) (by-test (exceptional orderℤ cs e) (λ t. rw t) (λ t. rw t)))
+      ∙ filter-both (exceptional orderℤ cs) alone (linkOrder (net .sums) (net .m))
+
+  -- they are the exceptional links
+  exceeding-all : Candidates (exceptionals (graph net) bs) (slackOf (ranks net)) (trials exceeding)
+  unfolding linkOrder
+  exceeding-all =
+      let O = pairs orderℕ orderℕ in
+      let key = ranked (costOf (net .sums)) (λ c. c) in
+      let p = exceptional orderℤ cs in
+      let all = links (graph net) in
+      trials-candidates (exceptionals (graph net) bs) exceeding
+      (pairwise-filter p _ all (numbers-rising (net .m) 0))
+      (pairwise-filter p _ (linkOrder (net .sums) (net .m)) (apart-perm (λ x. x) (perm-sym (sort-perm O key all)) (rising-apart orderℕ (λ x. x) all (numbers-rising (net .m) 0))))
+      (λ e m. let r = filter-mem p (linkOrder (net .sums) (net .m)) m in mem-filter p (sort-mem O key all (r .0)) (r .1))
+      (λ e m. let r = filter-mem p all m in mem-filter p (mem-sort O key (r .0)) (r .1))
+      (slackOf (ranks net)) (two-few net fine)
 
   -- the links that are kept of the normal ones
   abbrev cheapest : List ℕ
@@ -112,25 +129,24 @@ module _ (net : Network) (fine : NetworkFine net) (b1 b2 : ℤ) where
       ∙ ap (λ (L : Labelling). kruskal (endsOf (net .ends)) L (byCost (costOf (net .sums)) (normals (graph net) bs))) (fun-ext apart-labels)
 
   -- the sets that the program tries find what all sets of exceptional links find
-  trials-best : searchSets (graph net) bs cheapest (trials (filter (exception (twoOf net b1 b2)) (links (graph net)))) ≡ best net bs
+  trials-best : searchSets (graph net) bs cheapest (trials (filter (exception (twoOf net b1 b2)) (linkOrder (net .sums) (net .m)))) ≡ best net bs
   unfolding searchIn alone
   trials-best =
       ap (λ (l : List ℕ). searchSets (graph net) bs cheapest (trials l)) exception-links
       ∙ ap (λ (Xs : List (List ℕ)). least (pairs orderℤ (dictionary orderℕ)) (ranked (total (graph net)) (λ ts. ts)) (λ T. true) (mapSome (completed (graph net) cheapest) Xs))
-      (trials-filter (admissible orderℤ cs) alone (λ x X e m. refute (admissible orderℤ cs X) (alone x) (admissible-one cs x X m) e) (exceptionals (graph net) bs))
-      ∙ search-base (graph net) bs (byCost (costOf (net .sums)) (normals (graph net) bs)) (trials (exceptionals (graph net) bs))
-      ∙ search-sets (graph net) (graph-sound net fine) bs (two-bounds net fine b1 b2) (trials (exceptionals (graph net) bs))
-      (trials-candidates (exceptionals (graph net) bs) (slackOf (ranks net)) (two-few net fine))
+      (trials-filter (admissible orderℤ cs) alone (λ x X e m. refute (admissible orderℤ cs X) (alone x) (admissible-one cs x X m) e) exceeding)
+      ∙ search-base (graph net) bs (byCost (costOf (net .sums)) (normals (graph net) bs)) (trials exceeding)
+      ∙ search-sets (graph net) (graph-sound net fine) bs (two-bounds net fine b1 b2) (trials exceeding) exceeding-all
 
-  pub best-shown : Shows (costOf (net .sums)) (net .n - 1) (best net bs) (bestOf (net .ends) (net .sums) (net .n - 1) (twoOf net b1 b2) (net .m) (linkOrder (net .sums) (net .m)))
+  pub best-shown : Shows (costOf (net .sums)) (net .n - 1) (best net bs) (bestOf (net .ends) (net .sums) (net .n - 1) (twoOf net b1 b2) (linkOrder (net .sums) (net .m)))
   unfolding bestOf
   best-shown =
-      let l = filter (exception (twoOf net b1 b2)) (links (graph net)) in
+      let l = filter (exception (twoOf net b1 b2)) (linkOrder (net .sums) (net .m)) in
       let found : Shows (costOf (net .sums)) (net .n - 1) (searchSets (graph net) bs cheapest (trials l))
       (foldl (considered (net .ends) (net .sums) (net .n - 1) (twoOf net b1 b2) cheapest) nothing (trials l)) =
       search-shown net fine bs (twoOf net b1 b2) cheapest (λ e k. candidate e (greedy-⊆ (endsOf (net .ends)) (kruskal-greedy (endsOf (net .ends)) identity _) e k))
       (λ X below. two-admitted net fine b1 b2 X (within X below)) (trials l)
-      (λ X k x m. link-below x (filter-mem (exception (twoOf net b1 b2)) (links (graph net)) (sublist-⊆ (trials-candidates l 2 (omega arith) .sound X k) x m) .0)) in
+      (λ X k x m. order-below (net .sums) (net .m) x (filter-mem (exception (twoOf net b1 b2)) (linkOrder (net .sums) (net .m)) (trials-among l X k x m) .0)) in
       subst (λ (o : Option (List ℕ)). Shows (costOf (net .sums)) (net .n - 1) o (foldl (considered (net .ends) (net .sums) (net .n - 1) (twoOf net b1 b2)
       (kept (net .ends) apart (filter (normal (twoOf net b1 b2)) (linkOrder (net .sums) (net .m))))) nothing (trials l))) trials-best
       (subst (λ (chosen : List ℕ). Shows (costOf (net .sums)) (net .n - 1) (searchSets (graph net) bs cheapest (trials l))

@@ -5,23 +5,22 @@ use exceptions::ceilings::rank;
 use exceptions::select::exceptions;
 use exceptions::select::normal_links;
 use kruskal::links::base_of;
-use kruskal::tree::empty;
 use network::Network;
+use search::base::base_alone;
 use search::best::Best;
-use search::trials::consider;
 use search::trials::consider_sets;
 ghost use mathlib.Core.Path.{_≡_};
 ghost use Prim.Native.Nat.{_-_, _≤_};
 ghost use lib.ListN.{length, take};
-ghost use Rattle.network.specs.Limits.{maxLinks};
 ghost use Rattle.network.specs.Yard.{treeSize};
 ghost use Rattle.network.specs.NetworkFine.{NetworkFine};
-ghost use Rattle.kruskal.specs.ByCost.{Cheap, linkOrder};
-ghost use Rattle.kruskal.specs.Tree.{Columns, Walkable};
-ghost use Rattle.search.specs.Sets.{trials};
+ghost use Rattle.kruskal.specs.ByCost.{linkOrder};
+ghost use Rattle.kruskal.specs.Tree.{Columns};
+ghost use Rattle.exceptions.specs.Select.{InOrder};
 ghost use Rattle.exceptions.specs.Two.{FlagsSize, two, twoOf};
+ghost use Rattle.search.specs.Sets.{trials};
 ghost use Rattle.search.specs.Search.{bestOf, nothing};
-ghost use Rattle.search.specs.Tries.{searched};
+ghost use Rattle.search.specs.Tries.{Exceptions, Kept, searched};
 ghost use Rattle.solver.specs.Answer.{bestFound, treeLeft};
 
 // The best tree over all exception sets, with the base and the exceptions at hand.
@@ -36,20 +35,14 @@ fn best_from(
     s: u8,
     l: &[u8],
 ) -> Best
-    requires { ⌜ Columns (now ends) (now sums) × Walkable (now sums) (now base) × FlagsSize (now v) (now w) × Walkable (now sums) (now l) ⌝ }
+    requires { ⌜ Columns (now ends) (now sums) × InOrder (now sums) (now base) × FlagsSize (now v) (now w) × InOrder (now sums) (now l) × Exceptions (two r (now v) s (now w)) (now l) × Kept (now ends) (now base) ⌝ }
     ensures { λ q. ⌜ q ≡ searched (now (ends .entry)) (now (sums .entry)) goal (two r (now (v .entry)) s (now (w .entry))) (now (base .entry)) nothing (trials (now (l .entry))) ⌝ }
 {
-    let start = empty();
-    let none = Best {
-        found: false,
-        sum: 0,
-        taken: [false; 40],
-    };
-    let b = consider(ends, sums, base, goal, start, (0 < r) & (0 < s), none);
+    let b = base_alone(sums, base, goal, (0 < r) & (0 < s));
     consider_sets(ends, sums, base, goal, v, w, r, s, l, b)
 }
 
-// The best tree of m links in the given order, under ceilings with the ranks r and s and the flags v and w.
+// The best tree of links in the given order, under ceilings with the ranks r and s and the flags v and w.
 fn best_of(
     ends: &[u8],
     sums: &[u32],
@@ -58,11 +51,10 @@ fn best_of(
     w: &[u8],
     r: u8,
     s: u8,
-    m: usize,
     order: &[u8],
 ) -> Best
-    requires { ⌜ Columns (now ends) (now sums) × Walkable (now sums) (now order) × FlagsSize (now v) (now w) × (m ≤ maxLinks) × Cheap (now sums) m ⌝ }
-    ensures { λ q. ⌜ q ≡ bestOf (now (ends .entry)) (now (sums .entry)) goal (two r (now (v .entry)) s (now (w .entry))) m (now (order .entry)) ⌝ }
+    requires { ⌜ Columns (now ends) (now sums) × InOrder (now sums) (now order) × FlagsSize (now v) (now w) ⌝ }
+    ensures { λ q. ⌜ q ≡ bestOf (now (ends .entry)) (now (sums .entry)) goal (two r (now (v .entry)) s (now (w .entry))) (now (order .entry)) ⌝ }
 {
     let free = normal_links(sums, order, v, w);
     let a = free.link;
@@ -70,7 +62,7 @@ fn best_of(
     let kept = base_of(ends, sums, &a[..i]);
     let b = kept.link;
     let j = kept.count;
-    let odd = exceptions(m, v, w, r, s);
+    let odd = exceptions(sums, order, v, w, r, s);
     let x = odd.link;
     let n = odd.count;
     best_from(ends, sums, &b[..j], goal, v, w, r, s, &x[..n])
@@ -79,7 +71,7 @@ fn best_of(
 // The best tree of a network under the bounds b1 and b2.
 fn best_in_order(net: Network, order: &[u8], b1: i16, b2: i16) -> Best
     requires { ⌜ NetworkFine net × (take (net .m) (now order) ≡ linkOrder (net .sums) (net .m)) ⌝ }
-    ensures { λ q. ⌜ q ≡ bestOf (net .ends) (net .sums) (net .n - 1) (twoOf net b1 b2) (net .m) (linkOrder (net .sums) (net .m)) ⌝ }
+    ensures { λ q. ⌜ q ≡ bestOf (net .ends) (net .sums) (net .n - 1) (twoOf net b1 b2) (linkOrder (net .sums) (net .m)) ⌝ }
 {
     let p = net.p;
     let m = net.m;
@@ -92,7 +84,7 @@ fn best_in_order(net: Network, order: &[u8], b1: i16, b2: i16) -> Best
     let s = rank(1 < p, k[1]);
     let v = above_flags(&costs, 0, 0 < p, b1);
     let w = above_flags(&costs, 1, 1 < p, b2);
-    best_of(&ends, &sums, goal, &v, &w, r, s, m, &order[..m])
+    best_of(&ends, &sums, goal, &v, &w, r, s, &order[..m])
 }
 
 // Whether a tree fits under the bounds b1 and b2. The links of the best one go to the front of the buffer, whose other bytes stay.

@@ -4,7 +4,7 @@ use borrow.Author.Needs.{needs}
 use lib.ListN.{length}
 use mir.Facts.{toZ-ofZ}
 use Rattle.kruskal.specs.ByCost.{order-length}
-use Rattle.exceptions.specs.Select.{walkable-order}
+use Rattle.exceptions.specs.Select.{order-in-order}
 use Rattle.exceptions.specs.Two.{flags-length}
 use Rattle.search.specs.Tries.{assembled-network}
 use Rattle.solver.proofs.solve.best_in_order.Statement.{statement}
@@ -55,7 +55,7 @@ slice-aggregate-best-of-5 c = sym (ap length (c .before .before .before .before 
 best-of-requires : tie.Need-best-of-requires
 best-of-requires c κs = let i = c .before .before .before .before .before .before .before .before .before .before .before .before .before .before .before .before .before in
     let fine = i .pre .0 in
-    (record { ends-size = fine .lengths .1; sums-size = fine .lengths .2 }, walkable-order _ _ (fine .few-links) (fine .cheap) (i .pre .1), record { first-size = ap length (c .before .before .before .before .before .before .before .above-flags .ensures) ∙ flags-length _ _ _ _; second-size = ap length (c .before .before .before .before .before .above-flags2 .ensures) ∙ flags-length _ _ _ _ }, fine .few-links, fine .cheap)
+    (record { ends-size = fine .lengths .1; sums-size = fine .lengths .2 }, order-in-order _ _ (fine .few-links) (fine .cheap) (i .pre .1), record { first-size = ap length (c .before .before .before .before .before .before .before .above-flags .ensures) ∙ flags-length _ _ _ _; second-size = ap length (c .before .before .before .before .before .above-flags2 .ensures) ∙ flags-length _ _ _ _ })
 
 returns : tie.Need-returns
 returns c = let i = c .before .before .before .before .before .before .before .before .before .before .before .before .before .before .before .before .before .before in

@@ -1,12 +1,12 @@
 -- Each call is what it ensures, and selected links can be walked where all links can.
 use borrow.Author.Needs.{needs}
-use Rattle.exceptions.specs.Select.{held-length, walkable-filter, walkable-held, walkable-kept, walkable-numbers}
-use Rattle.search.specs.Tries.{assembled}
+use Rattle.exceptions.specs.Select.{filter-in-order, held-in-order, held-length, kept-in-order}
+use Rattle.search.specs.Tries.{assembled, held-exceptions}
 use Rattle.solver.proofs.solve.best_of.Statement.{statement}
 use Rattle.solver.proofs.solve.best_of.Tie as tie
 
 normal-links-requires : tie.Need-normal-links-requires
-normal-links-requires c κs = search needs
+normal-links-requires c κs = let p = c .before .before .before .before .before .pre in (p .1 .walkable, p .2)
 
 array-share-prefix-a : tie.Need-array-share-prefix-a
 array-share-prefix-a c = search needs
@@ -15,10 +15,10 @@ slice-aggregate-base-of : tie.Need-slice-aggregate-base-of
 slice-aggregate-base-of c = held-length (c .before .before .normal-links .ensures)
 
 base-of-requires : tie.Need-base-of-requires
-base-of-requires c κs = (c .before .before .before .before .before .before .before .before .pre .0, walkable-held _ (c .before .before .normal-links .ensures) (walkable-filter _ _ (c .before .before .before .before .before .before .before .before .pre .1)))
+base-of-requires c κs = let p = c .before .before .before .before .before .before .before .before .pre in (p .0, held-in-order _ (c .before .before .normal-links .ensures) (filter-in-order _ _ (p .1)) .walkable)
 
 exceptions-requires : tie.Need-exceptions-requires
-exceptions-requires c κs = search needs
+exceptions-requires c κs = let p = c .before .before .before .before .before .before .before .before .before .before .pre in (p .1 .walkable, p .2)
 
 array-share-prefix-b : tie.Need-array-share-prefix-b
 array-share-prefix-b c = search needs
@@ -33,12 +33,15 @@ slice-aggregate-best-from-2 : tie.Need-slice-aggregate-best-from-2
 slice-aggregate-best-from-2 c = held-length (c .before .before .before .exceptions .ensures)
 
 best-from-requires : tie.Need-best-from-requires
-best-from-requires c κs = let p = c .before .before .before .before .before .before .before .before .before .before .before .before .before .before .pre in
-    let normals = walkable-held _ (c .before .before .before .before .before .before .before .before .normal-links .ensures) (walkable-filter _ _ (p .1)) in
-    (p .0, walkable-held _ (c .before .before .before .before .before .base-of .ensures) (walkable-kept _ _ _ normals), p .2, walkable-held _ (c .before .before .before .exceptions .ensures) (walkable-filter _ _ (walkable-numbers _ _ (p .3) (p .4))))
+best-from-requires c κs =
+    let p = c .before .before .before .before .before .before .before .before .before .before .before .before .before .before .pre in
+    let normals = held-in-order _ (c .before .before .before .before .before .before .before .before .normal-links .ensures) (filter-in-order _ _ (p .1)) in
+    let base = c .before .before .before .before .before .base-of .ensures in
+    let exceptions = c .before .before .before .exceptions .ensures in
+    (p .0, held-in-order _ base (kept-in-order _ _ _ normals), p .2, held-in-order _ exceptions (filter-in-order _ _ (p .1)), held-exceptions _ (c .before .before .before .before .before .before .before .before .before .before .before .before .before .before .args .order .now) exceptions, record { links = _; kept-of = base .links })
 
 returns : tie.Need-returns
-returns c = assembled _ _ _ _ _ _ _ _ _ _ _ _ _ (c .before .before .before .before .before .before .before .before .before .normal-links .ensures .links) (c .before .before .before .before .before .before .base-of .ensures .links) (c .before .before .before .before .exceptions .ensures .links) (c .best-from .ensures)
+returns c = assembled _ _ _ _ _ _ _ _ _ _ _ _ (c .before .before .before .before .before .before .before .before .before .normal-links .ensures .links) (c .before .before .before .before .before .before .base-of .ensures .links) (c .before .before .before .before .exceptions .ensures .links) (c .best-from .ensures)
 
 pub best-of-spec : {M : Type 1} → statement M
 best-of-spec =

@@ -4,8 +4,8 @@ use mathlib.Core.List.{List, _++_, append-assoc, append-nil}
 use Prim.Native.Nat.{ℕ, _+_, _-_, _≤_}
 use native.Mathlib.Omega.{arith}
 use native.Mathlib.Nat.{add-assoc}
-use lib.ListN.{length, take, drop, length-append, length-drop, drop-of-length-le}
-use lib.Seq.{length-take-le, take-at, drop-at, drop-drop, take-append-le, take-take, paste}
+use lib.ListN.{length, take, drop, length-append, length-drop, drop-of-length-le, take-append-drop}
+use lib.Seq.{length-take-le, take-at, drop-at, drop-drop, take-append-le, take-take, take-add, paste}
 
 -- d with the bytes from index i on replaced by s
 unfoldable pub overwrite : List ℕ → ℕ → List ℕ → List ℕ
@@ -82,3 +82,12 @@ module _ (d : List ℕ) (i : ℕ) (s : List ℕ) where
   pub overwrite-chain : (j : ℕ) (t : List ℕ) {o o′ : List ℕ} → o′ ≡ overwrite o j t → o ≡ overwrite d i s → j ≡ i + length s → i ≤ length d
       → o′ ≡ overwrite d i (s ++ t)
   overwrite-chain j t e′ e k h = e′ ∙ ap (λ (l : List ℕ). overwrite l j t) e ∙ overwrite-then j t k h
+
+-- bytes written where they stand
+pub overwrite-same : (d : List ℕ) (i n : ℕ) → i + n ≤ length d → overwrite d i (take n (drop i d)) ≡ d
+unfolding overwrite
+overwrite-same d i n h =
+    let l = length-drop i d in
+    ap (λ (k : ℕ). take i d ++ take n (drop i d) ++ drop (i + k) d) (length-take-le n (drop i d) (omega arith))
+    ∙ ap (λ (p : List ℕ). p ++ drop (i + n) d) (sym (take-add i n d))
+    ∙ take-append-drop (i + n) d

@@ -1,11 +1,12 @@
 -- `encoding::copy::move_down` meets its contract. The invariant: the first j bytes are moved. A turn reads a byte that is not written yet.
-use mathlib.Core.Path.{_≡_, refl, ap, _∙_}
-use Prim.Native.Nat.{_-_, _≤_}
+-- Bytes that stand at their place already are not moved.
+use mathlib.Core.Path.{_≡_, refl, sym, ap, _∙_}
+use Prim.Native.Nat.{ℕ, _-_, _≤_}
 use native.Mathlib.Omega.{arith}
-use lib.ListN.{length, drop, length-set, length-drop}
+use lib.ListN.{length, take, drop, length-set, length-drop}
 use lib.Seq.{paste, paste-zero}
 use denote.Ref.{now}
-use Rattle.encoding.specs.Overwrite.{paste-overwrite}
+use Rattle.encoding.specs.Overwrite.{overwrite, paste-overwrite, overwrite-same}
 use Rattle.encoding.proofs.Turns.{paste-turn, down-reads}
 use Rattle.encoding.proofs.copy.move_down.Statement.{statement}
 use Rattle.encoding.proofs.copy.move_down.Tie as tie
@@ -16,8 +17,17 @@ Inv-loop out₀ from to n j₀ out j = (out ≡ paste out₀ to (drop from out�
 abbrev μ-loop : tie.MeasureT-loop
 μ-loop out₀ from to n j₀ out j = n - j
 
+returns : tie.Need-returns Inv-loop μ-loop
+returns c =
+    let a = c .before .args in
+    let d = now (a .out) in
+    let e : a .from ≡ a .to = omega arith in
+    sym (ap (λ (i : ℕ). overwrite d (a .to) (take (a .n) (drop i d))) e ∙ overwrite-same d (a .to) (a .n) (omega arith))
+
 loop-holds : tie.Need-loop-holds Inv-loop μ-loop
-loop-holds c = (paste-zero (now (c .args .out)) (c .args .to) (drop (c .args .from) (now (c .args .out))), omega arith, refl)
+loop-holds c =
+    let a = c .before .args in
+    (paste-zero (now (a .out)) (a .to) (drop (a .from) (now (a .out))), omega arith, refl)
 
 add-out : tie.Need-add-out Inv-loop μ-loop
 add-out c = omega arith
@@ -40,7 +50,7 @@ loop-less c = omega arith
 loop-again : tie.Need-loop-again Inv-loop μ-loop
 loop-again c =
     let l = c .before .before .loop in
-    let a = c .before .before .before .args in
+    let a = c .before .before .before .before .args in
     let d = now (a .out) in
     let len = length-drop (a .from) d in (
       paste-turn d (a .to) (drop (a .from) d) (l .j) (l .inv .0) (omega arith) (omega arith)
@@ -52,10 +62,10 @@ loop-again c =
 same-length : tie.Need-same-length Inv-loop μ-loop
 same-length c = omega arith
 
-returns : tie.Need-returns Inv-loop μ-loop
-returns c =
+returns-2 : tie.Need-returns-2 Inv-loop μ-loop
+returns-2 c =
     let l = c .before .loop in
-    let a = c .before .before .args in
+    let a = c .before .before .before .args in
     let d = now (a .out) in
     let len = length-drop (a .from) d in
     let e : l .j ≡ a .n = omega arith in
@@ -67,6 +77,7 @@ move-down-spec =
     (tie.spec
     Inv-loop
     μ-loop
+    returns
     loop-holds
     add-out
     slice-read-out
@@ -76,4 +87,4 @@ move-down-spec =
     loop-less
     loop-again
     same-length
-    returns)
+    returns-2)

@@ -71,11 +71,19 @@ module _ (z m n : ℕ) (bs : List ℕ) (h : m ≤ n) where
   in-two : blocks z n bs ≡ blocks z m bs ++ blocks z (n - m) (drop (m * z) bs)
   in-two = let e : n ≡ m + (n - m) = omega arith in ap (λ (k : ℕ). blocks z k bs) e ∙ blocks-split z m (n - m) bs
 
-  take-blocks : take m (blocks z n bs) ≡ blocks z m bs
+  pub take-blocks : take m (blocks z n bs) ≡ blocks z m bs
   take-blocks = ap (take m) in-two ∙ take-at (blocks z m bs) (blocks z (n - m) (drop (m * z) bs)) m (length-blocks z m bs)
 
-  drop-blocks : drop m (blocks z n bs) ≡ blocks z (n - m) (drop (m * z) bs)
+  pub drop-blocks : drop m (blocks z n bs) ≡ blocks z (n - m) (drop (m * z) bs)
   drop-blocks = ap (drop m) in-two ∙ drop-at (blocks z m bs) (blocks z (n - m) (drop (m * z) bs)) m (length-blocks z m bs)
+
+-- the bytes from record i on replaced by others: the first i records, and those of the others
+pub blocks-behind : (z i n : ℕ) (d e : List ℕ) → i * z ≤ length d → blocks z (i + n) (take (i * z) d ++ e) ≡ blocks z i d ++ blocks z n e
+blocks-behind z i n d e h =
+    let l = length-take-le (i * z) d h in
+    blocks-split z i n (take (i * z) d ++ e)
+    ∙ ap₂ (λ (a b : List (List ℕ)). a ++ b) (blocks-agree z i (take (i * z) d ++ e) d (take-at (take (i * z) d) e (i * z) l))
+    (ap (blocks z n) (drop-at (take (i * z) d) e (i * z) l))
 
 -- A record that is written behind the first n, from a place no lower: the n + 1 records, and the bytes behind its old place.
 module _ (z : ℕ) (d : List ℕ) (from to n : ℕ) (at : to ≡ n * z) (down : to ≤ from) (fits : from + z ≤ length d) where
@@ -138,6 +146,13 @@ pub room-for : (k n z : ℕ) {l : ℕ} → (n + 1) * z ≤ l → k ≤ n → k *
 room-for k n z h g =
     let e : (n + 1) * z ≡ n * z + z = ap (λ (m : ℕ). m * z) (add-one n) ∙ suc-mul n z in
     let f = mul-le-mul-right z g in
+    omega arith
+
+-- and they have room behind the first i
+pub room-behind : (i n z : ℕ) {l : ℕ} → (n + 1) * z ≤ l → i ≤ n → i * z + (n - i + 1) * z ≤ l
+room-behind i n z h g =
+    let e : i + (n - i + 1) ≡ n + 1 = omega arith in
+    let f = sym (add-mul i (n - i + 1) z) ∙ ap (λ (k : ℕ). k * z) e in
     omega arith
 
 -- ---- records one after the other

@@ -3,12 +3,10 @@ use mathlib.Core.Path.{_≡_, refl, sym, ap, ap₂, _∙_}
 use mathlib.Core.Bool.{Bool, true, false, not, cond, _||_}
 use mathlib.Core.List.{List, [], _∷_, _++_}
 use mathlib.Core.Logic.{⊎-elim}
-use Prim.Native.Nat.{ℕ, suc, _+_, _*_, _-_, _≤_, _<_, zero-le, suc-le-suc}
-use native.Mathlib.Nat.{mul-le-mul-right}
-use native.Mathlib.Omega.{arith}
+use Prim.Native.Nat.{ℕ, suc, _+_, _-_, _≤_, _<_}
 use lib.IntN.{ℤ, pos}
-use lib.ListN.{length, take, drop}
-use Rattle.order.specs.Test.{by-test, clash}
+use lib.ListN.{take, drop}
+use Rattle.order.specs.Test.{by-test, clash, refute}
 use Rattle.order.specs.Lists.{any, filter}
 use Rattle.order.specs.Order.{TotalOrder, orderℤ, dictionary, dictionaryLe}
 use Rattle.order.specs.Sorted.{insert}
@@ -16,8 +14,8 @@ use Rattle.frontier.specs.Dominance.{leAll, leAll-refl, dominates, le-cases}
 use Rattle.frontier.specs.Frontier.{Problem, insertPlan, vector}
 use Rattle.network.specs.PlanList.{planSize}
 use Rattle.network.specs.declared.Costs.{Costs}
-use Rattle.planlist.specs.Blocks.{blocks, blocks-turn, length-blocks, room-for}
-use Rattle.planlist.specs.Records.{costsAt, atMost, inOrder, costs-block}
+use Rattle.planlist.specs.Blocks.{blocks, blocks-turn}
+use Rattle.planlist.specs.Records.{costsAt, atMost, inOrder, at-most-before, costs-block}
 
 -- records as solutions: the sum is the objective, and y1 and y2 are the ceiling costs
 abbrev pub records : Problem ℤ (List ℕ)
@@ -51,6 +49,10 @@ leading p (x ∷ l) = let r = leading p l in cond (p x) 0 (suc r)
 -- the number of records that stand before v
 unfoldable pub placeOf : Costs → List (List ℕ) → ℕ
 placeOf v bs = leading (λ b. inOrder v (costsAt b 0)) bs
+
+-- a record put at the place of its costs v among those that v is not at most
+unfoldable pub putRecord : Costs → List ℕ → List (List ℕ) → List (List ℕ)
+putRecord v x bs = take (placeOf v (prunedBy v bs)) (prunedBy v bs) ++ x ∷ drop (placeOf v (prunedBy v bs)) (prunedBy v bs)
 
 -- a choice by the opposite test
 flip : {A : Type 0} (b : Bool) (x y : A) → cond (not b) y x ≡ cond b x y
@@ -105,14 +107,6 @@ place-none v = refl
 
 -- ---- insertion by its parts
 
-leading-le : {A : Type 0} (p : A → Bool) (l : List A) → leading p l ≤ length l
-leading-le p [] = zero-le
-leading-le p (x ∷ l) = by-test (p x) (λ e. rw e zero-le) (λ e. rw e (suc-le-suc (leading-le p l)))
-
-place-le : (v : Costs) (bs : List (List ℕ)) → placeOf v bs ≤ length bs
-unfolding placeOf
-place-le v bs = leading-le (λ b. inOrder v (costsAt b 0)) bs
-
 -- insertion in order puts x before the first that is not below it
 insert-at : {K A : Type 0} (O : TotalOrder K) (key : A → K) (x : A) (l : List A)
     → insert O key x l ≡ take (leading (λ y. O .le (key x) (key y)) l) l ++ x ∷ drop (leading (λ y. O .le (key x) (key y)) l) l
@@ -158,10 +152,10 @@ module _ {C S : Type 0} (P : Problem C S) (s : S) where
 -- of a record with the costs v
 module _ (x : List ℕ) (v : Costs) (bs : List (List ℕ)) (holds : costsAt x 0 ≡ v) where
   inserted : Costs → Bool → List (List ℕ)
-  inserted w b = cond b bs (take (placeOf w (prunedBy w bs)) (prunedBy w bs) ++ x ∷ drop (placeOf w (prunedBy w bs)) (prunedBy w bs))
+  inserted w b = cond b bs (putRecord w x bs)
 
   parts : insertRecord x bs ≡ inserted (costsAt x 0) (coveredBy (costsAt x 0) bs)
-  unfolding insertRecord inserted coveredBy prunedBy placeOf atMost inOrder
+  unfolding insertRecord inserted putRecord coveredBy prunedBy placeOf atMost inOrder
   parts = by-parts records x bs
 
   in-parts : {b : Bool} → coveredBy v bs ≡ b → insertRecord x bs ≡ inserted v b
@@ -171,21 +165,16 @@ module _ (x : List ℕ) (v : Costs) (bs : List (List ℕ)) (holds : costsAt x 0 
   unfolding inserted
   insert-covered t = in-parts t
 
-  pub insert-free : coveredBy v bs ≡ false
-      → insertRecord x bs ≡ take (placeOf v (prunedBy v bs)) (prunedBy v bs) ++ x ∷ drop (placeOf v (prunedBy v bs)) (prunedBy v bs)
+  pub insert-free : coveredBy v bs ≡ false → insertRecord x bs ≡ putRecord v x bs
   unfolding inserted
   insert-free t = in-parts t
 
--- Where a plan with the costs v goes among the first n records: its place is one of theirs or behind them, and there is room for one record more.
-pub record Gap (v : Costs) (z n at : ℕ) (bs : List ℕ) : Type 0 where
-  pub inside : placeOf v (blocks z n bs) ≤ n
-  pub behind : at ≤ n * z
-  pub room : n * z + z ≤ length bs
-
-pub gap-at : (v : Costs) (z count n at : ℕ) (bs : List ℕ) → (count + 1) * z ≤ length bs → n ≤ count → at ≡ placeOf v (blocks z n bs) * z → Gap v z n at bs
-gap-at v z count n at bs h k e =
-    let p = place-le v (blocks z n bs) in
-    let l = length-blocks z n bs in
-    let i : placeOf v (blocks z n bs) ≤ n = omega arith in
-    let m = mul-le-mul-right z i in
-    record { inside = i; behind = omega arith; room = room-for n count z h k }
+-- the records in front of the place of v stay, and the record is put among the others
+pub put-behind : (v : Costs) (x : List ℕ) (bs : List (List ℕ)) → putRecord v x bs ≡ take (placeOf v bs) bs ++ putRecord v x (drop (placeOf v bs) bs)
+unfolding putRecord prunedBy placeOf
+put-behind v x [] = refl
+put-behind v x (b ∷ bs) =
+    by-test (inOrder v (costsAt b 0))
+    (λ e. rw e refl)
+    (λ e. rw (refute (atMost v (costsAt b 0)) (inOrder v (costsAt b 0)) (at-most-before v (costsAt b 0)) e, e)
+    (ap (λ (l : List (List ℕ)). b ∷ l) (put-behind v x bs)))

@@ -11,7 +11,7 @@ use lib.ListN.{length, take, drop}
 use lib.Signed.{leZ}
 use lib.Seq.{getD-take, getD-drop}
 use Rattle.order.specs.Order.{dictionaryLe, orderℤ, tieBreak}
-use Rattle.frontier.specs.Dominance.{leAll}
+use Rattle.frontier.specs.Dominance.{leAll, leAll→dictionaryLe}
 use Rattle.network.specs.Bytes.{byteAt, u32At, i16At}
 use Rattle.network.specs.PlanList.{planBytes, planSize}
 use Rattle.network.specs.Calls.{costValues}
@@ -49,6 +49,11 @@ in-order-by v w e f g =
     last true true = refl
     last true false = refl
     last false b = refl
+
+-- costs that are at most others stand before them
+pub at-most-before : (v w : Costs) → atMost v w ≡ true → inOrder v w ≡ true
+unfolding atMost inOrder
+at-most-before v w h = leAll→dictionaryLe orderℤ (costValues v) (costValues w) h
 
 -- the record of a solution with these costs and links
 abbrev pub encode : {S : Type 0} → (S → Costs) → (S → List ℕ) → S → List ℕ

@@ -11,7 +11,7 @@ ghost use Prim.Native.Nat.{_+_, _*_, _≤_};
 ghost use lib.ListN.{length};
 ghost use Rattle.network.specs.PlanList.{planBytes, planSize};
 ghost use Rattle.planlist.specs.Blocks.{blocks};
-ghost use Rattle.planlist.specs.Insertion.{coveredBy, insertRecord, placeOf, prunedBy};
+ghost use Rattle.planlist.specs.Insertion.{coveredBy, insertRecord, placeOf, prunedBy, putRecord};
 
 // Whether a stored plan's costs are at most v.
 fn covered(plans: &[u8], count: usize, size: usize, v: Costs) -> bool
@@ -30,21 +30,21 @@ fn covered(plans: &[u8], count: usize, size: usize, v: Costs) -> bool
     false
 }
 
-// The index of the first record that v does not stand behind, or the end of the records.
+// The number of records in front of the first that v does not stand behind.
 fn place(plans: &[u8], count: usize, size: usize, v: Costs) -> usize
     requires { ⌜ (planSize 0 ≤ size) × (count * size ≤ length (now plans)) ⌝ }
-    ensures { λ r. ⌜ r ≡ placeOf v (blocks size count (now (plans .entry))) * size ⌝ }
+    ensures { λ r. ⌜ (r ≤ count) × (r ≡ placeOf v (blocks size count (now (plans .entry)))) ⌝ }
 {
     let mut at = 0;
     let mut left = count;
     while 0 < left {
         if in_order(v, costs_at(plans, at)) {
-            return at;
+            return count - left;
         }
         at += size;
         left -= 1;
     }
-    at
+    count
 }
 
 // Drops the plans that v is at most, keeps the others' order, and returns their count.
@@ -71,7 +71,20 @@ fn prune(plans: &mut [u8], count: usize, size: usize, v: Costs) -> usize
     kept
 }
 
-// Puts a plan into the frontier of `count` records, and returns the new count.
+// Drops the plans that v is at most out of `count` records, puts v's plan at its place among the others, and returns the new count.
+fn put(plans: &mut [u8], count: usize, v: Costs, links: &[u8]) -> usize
+    requires { ⌜ (count + 1) * planSize (length (now links)) ≤ length (now plans) ⌝ }
+    ensures { λ r. ⌜ (r ≤ count + 1) × (blocks (planSize (length (now (links .entry)))) r (now (plans .exit)) ≡ putRecord v (planBytes v (now (links .entry))) (blocks (planSize (length (now (links .entry)))) count (now (plans .entry)))) ⌝ }
+{
+    let size = 10 + links.len();
+    let kept = prune(plans, count, size, v);
+    let at = place(plans, kept, size, v) * size;
+    move_up(plans, at, at + size, kept * size - at);
+    write_plan(plans, at, v, links);
+    kept + 1
+}
+
+// Puts a plan into the frontier of `count` records, and returns the new count. The records in front of its place stay as they are.
 pub(crate) fn insert(plans: &mut [u8], count: usize, v: Costs, links: &[u8]) -> usize
     requires { ⌜ (count + 1) * planSize (length (now links)) ≤ length (now plans) ⌝ }
     ensures { λ r. ⌜ (r ≤ count + 1) × (blocks (planSize (length (now (links .entry)))) r (now (plans .exit)) ≡ insertRecord (planBytes v (now (links .entry))) (blocks (planSize (length (now (links .entry)))) count (now (plans .entry)))) ⌝ }
@@ -80,9 +93,7 @@ pub(crate) fn insert(plans: &mut [u8], count: usize, v: Costs, links: &[u8]) -> 
     if covered(plans, count, size, v) {
         return count;
     }
-    let kept = prune(plans, count, size, v);
-    let at = place(plans, kept, size, v);
-    move_up(plans, at, at + size, kept * size - at);
-    write_plan(plans, at, v, links);
-    kept + 1
+    let front = place(plans, count, size, v);
+    let start = front * size;
+    front + put(&mut plans[start..], count - front, v, links)
 }

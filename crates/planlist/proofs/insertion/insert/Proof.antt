@@ -1,26 +1,25 @@
--- `planlist::insertion::insert` meets its contract. What the search, the pruning, the place, the move and the write ensure, put together.
-use mathlib.Core.Path.{sym, ap, _∙_}
-use mathlib.Core.List.{List, _∷_, _++_}
-use Prim.Native.Nat.{ℕ, _+_}
+-- `planlist::insertion::insert` meets its contract. The records from the plan's place on are lent to `put`.
+use mathlib.Core.Path.{sym, ap, ap₂, _∙_}
+use mathlib.Core.List.{List, _++_}
+use Prim.Native.Nat.{ℕ, _+_, _*_, _-_, _≤_}
 use native.Mathlib.Omega.{arith}
-use lib.ListN.{length, take, drop}
+use lib.ListN.{length, take, drop, length-drop}
 use denote.Ref.{now}
 use Rattle.network.specs.PlanList.{planBytes, planSize}
-use Rattle.encoding.specs.Overwrite.{overwrite}
-use Rattle.planlist.specs.Blocks.{blocks, room-for, blocks-inserted}
-use Rattle.planlist.specs.Records.{costs-encoded, length-plan}
-use Rattle.planlist.specs.Insertion.{Gap, gap-at, placeOf, insert-covered, insert-free}
+use Rattle.planlist.specs.Blocks.{blocks, blocks-behind, take-blocks, drop-blocks, room-behind}
+use Rattle.planlist.specs.Records.{costs-encoded}
+use Rattle.planlist.specs.Insertion.{insert-covered, insert-free, put-behind, putRecord}
 use borrow.Author.Needs.{needs}
+use Rattle.planlist.proofs.Tail.{tail-lent, tail-back}
 use Rattle.planlist.proofs.insertion.insert.Statement.{statement}
 use Rattle.planlist.proofs.insertion.insert.Tie as tie
 
--- where the plan's place is known
-gap : (c : tie.After-place) → let a = c .before .before .before .before .before .before .before .before .before .before .before .args in Gap (a .v) (planSize (length (now (a .links)))) (c .before .before .before .before .prune .result) (c .place .result) (c .before .before .before .before .prune .last .0)
-gap c =
-    let a = c .before .before .before .before .before .before .before .before .before .before .before .args in
-    let same = c .before .before .before .before .prune .kept .0 in
+-- where the plan's place is known, the records from there on and one more have room
+room : (c : tie.After-place)
+    → let a = c .before .before .before .before .before .before .before .args in
     let size = planSize (length (now (a .links))) in
-    gap-at (a .v) size (a .count) (c .before .before .before .before .prune .result) (c .place .result) (c .before .before .before .before .prune .last .0) (rw same (c .before .before .before .before .before .before .before .before .before .before .before .pre)) (c .before .before .before .before .prune .ensures .0) (c .place .ensures)
+    c .place .result * size + (a .count - c .place .result + 1) * size ≤ length (now (a .plans))
+room c = let a = c .before .before .before .before .before .before .before .args in room-behind (c .place .result) (a .count) (planSize (length (now (a .links)))) (c .before .before .before .before .before .before .before .pre) (c .place .ensures .0)
 
 add-size : tie.Need-add-size
 add-size c = search needs
@@ -39,29 +38,29 @@ returns c =
     let size = planSize (length links) in
     (omega arith, sym (insert-covered (planBytes (a .v) links) (a .v) (blocks size (a .count) (now (a .plans))) holds (sym (c .before .covered .ensures) ∙ c .if1 .taken)))
 
-prune-requires : tie.Need-prune-requires
-prune-requires c κs = search needs
-
 place-requires : tie.Need-place-requires
-place-requires c κs =
-    let left = room-for (c .before .before .before .prune .result) (c .before .before .before .before .before .before .before .before .before .before .args .count) (planSize (length (now (c .before .before .before .before .before .before .before .before .before .before .args .links)))) (c .before .before .before .before .before .before .before .before .before .before .pre) (c .before .before .before .prune .ensures .0) in
-    let same = c .before .before .before .prune .kept .0 in
-    (omega arith, omega arith)
+place-requires c κs = search needs
 
-add-move-up : tie.Need-add-move-up
-add-move-up c = omega (arith, gap (c .before), c .before .before .before .before .before .prune .kept .0, c .before .before .before .before .before .before .before .before .before .before .before .before .good)
+mul-start : tie.Need-mul-start
+mul-start c = omega (arith, room c, c .before .before .before .before .before .before .before .good)
 
-mul-move-up : tie.Need-mul-move-up
-mul-move-up c = omega (arith, gap (c .before), c .before .before .before .before .before .prune .kept .0, c .before .before .before .before .before .before .before .before .before .before .before .before .good)
+sub-put : tie.Need-sub-put
+sub-put c = omega (arith, room c)
 
-sub-move-up : tie.Need-sub-move-up
-sub-move-up c = gap (c .before) .behind
+part-put-start : tie.Need-part-put-start
+part-put-start c = omega (arith, room c)
 
-move-up-requires : tie.Need-move-up-requires
-move-up-requires c κs = let g = gap (c .before) in (omega arith, omega arith)
+part-put-end : tie.Need-part-put-end
+part-put-end c = search needs
 
-write-plan-requires : tie.Need-write-plan-requires
-write-plan-requires c κs = omega (arith, gap (c .before .before .before .before .before), c .before .before .before .move-up .kept .0)
+sub-put-2 : tie.Need-sub-put-2
+sub-put-2 c = search needs
+
+put-requires : tie.Need-put-requires
+put-requires c κs =
+    let a = c .before .before .before .before .before .before .before .before .args in
+    let start = c .before .place .result * planSize (length (now (a .links))) in
+    omega (arith, room (c .before), ap length (tail-lent start (now (a .plans))), length-drop start (now (a .plans)))
 
 add-result : tie.Need-add-result
 add-result c = search needs
@@ -71,24 +70,26 @@ same-length-2 c = search needs
 
 returns-2 : tie.Need-returns-2
 returns-2 c =
-    let g = gap (c .before .before .before .before .before .before .before .before) in
-    let few = c .before .before .before .before .before .before .before .before .before .before .before .before .prune .ensures .0 in
-    let a = c .before .before .before .before .before .before .before .before .before .before .before .before .before .before .before .before .before .before .before .args in
+    let a = c .before .before .before .before .before .before .before .before .before .before .before .args in
+    let fits = room (c .before .before .before .before) in
+    let few = c .before .before .before .before .place .ensures .0 in
+    let d = now (a .plans) in
     let links = now (a .links) in
     let size = planSize (length links) in
     let x = planBytes (a .v) links in
-    let stored = blocks size (a .count) (now (a .plans)) in
-    let kept = c .before .before .before .before .before .before .before .before .before .before .before .before .prune .result in
-    let pruned = c .before .before .before .before .before .before .before .before .before .before .before .before .prune .last .0 in
-    let at = c .before .before .before .before .before .before .before .before .place .result in
-    let i = placeOf (a .v) (blocks size kept pruned) in
-    let free = sym (c .before .before .before .before .before .before .before .before .before .before .before .before .before .before .before .covered .ensures) ∙ c .before .before .before .before .before .before .before .before .before .before .before .before .before .before .if1 .left in
+    let stored = blocks size (a .count) d in
+    let i = c .before .before .before .before .place .result in
+    let more = c .before .before .put .result in
+    let last = c .before .before .put .last .0 in
+    let free = sym (c .before .before .before .before .before .before .before .covered .ensures) ∙ c .before .before .before .before .before .before .if1 .left in
     let holds = costs-encoded (a .v) links (record { sum-fits = omega arith; y1-fits = search needs; y2-fits = search needs }) in
-    let bytes = c .before .before .write-plan .ensures ∙ ap (λ (o : List ℕ). overwrite o at x) (c .before .before .before .before .before .before .move-up .ensures) in (
-      omega arith,
-      ap (blocks size (kept + 1)) bytes
-          ∙ blocks-inserted size pruned i kept at x (c .before .before .before .before .before .before .before .before .place .ensures) (g .inside) (g .room) (length-plan (a .v) links)
-          ∙ ap (λ (l : List (List ℕ)). take (placeOf (a .v) l) l ++ x ∷ drop (placeOf (a .v) l) l) (c .before .before .before .before .before .before .before .before .before .before .before .before .prune .ensures .1)
+    let behind = ap (blocks size (a .count - i)) (tail-lent (i * size) d) ∙ sym (drop-blocks size i (a .count) d few) in (
+      omega (arith, c .before .before .put .ensures .0),
+      ap (blocks size (i + more)) (tail-back (i * size) d last)
+          ∙ blocks-behind size i more d last (omega arith)
+          ∙ ap₂ (λ (l r : List (List ℕ)). l ++ r) (sym (take-blocks size i (a .count) d few)) (c .before .before .put .ensures .1 ∙ ap (putRecord (a .v) x) behind)
+          ∙ ap (λ (k : ℕ). take k stored ++ putRecord (a .v) x (drop k stored)) (c .before .before .before .before .place .ensures .1)
+          ∙ sym (put-behind (a .v) x stored)
           ∙ sym (insert-free x (a .v) stored holds free),
     )
 
@@ -100,13 +101,13 @@ insert-spec =
     covered-requires
     same-length
     returns
-    prune-requires
     place-requires
-    add-move-up
-    mul-move-up
-    sub-move-up
-    move-up-requires
-    write-plan-requires
+    mul-start
+    sub-put
+    part-put-start
+    part-put-end
+    sub-put-2
+    put-requires
     add-result
     same-length-2
     returns-2)

@@ -1,8 +1,8 @@
--- `planlist::insertion::place` meets its contract. The invariant: the place is `at` and then the place among the records from `at` on.
+-- `planlist::insertion::place` meets its contract. The invariant: the place is behind the records passed so far, by the place among
+-- those from `at` on.
 use mathlib.Core.Path.{_≡_, sym, ap, _∙_}
-use Prim.Native.Nat.{ℕ, _+_, _*_, _-_, _≤_}
+use Prim.Native.Nat.{_+_, _*_, _≤_}
 use native.Mathlib.Omega.{arith}
-use native.Mathlib.Nat.{zero-mul, suc-mul}
 use lib.ListN.{length, drop}
 use denote.Ref.{now}
 use Rattle.network.specs.PlanList.{planSize}
@@ -14,14 +14,14 @@ use Rattle.planlist.proofs.insertion.place.Tie as tie
 
 abbrev Inv-loop : tie.InvT-loop
 Inv-loop plans count size v at₀ left₀ at left =
-    (placeOf v (blocks size count plans) * size ≡ at + placeOf v (blocks size left (drop at plans)) * size) × (at + left * size ≤ length plans)
-    × (planSize 0 ≤ size)
+    (placeOf v (blocks size count plans) + left ≡ count + placeOf v (blocks size left (drop at plans))) × (at + left * size ≤ length plans)
+    × (planSize 0 ≤ size) × (left ≤ count)
 
 abbrev μ-loop : tie.MeasureT-loop
 μ-loop plans count size v at₀ left₀ at left = left
 
 loop-holds : tie.Need-loop-holds Inv-loop μ-loop
-loop-holds c = (omega arith, omega arith, omega arith)
+loop-holds c = (omega arith, omega arith, omega arith, omega arith)
 
 costs-at-requires : tie.Need-costs-at-requires Inv-loop μ-loop
 costs-at-requires c κs = omega (arith, mul-step (c .before .loop .left) (c .before .before .before .args .size) (c .loop-test .taken))
@@ -29,14 +29,16 @@ costs-at-requires c κs = omega (arith, mul-step (c .before .loop .left) (c .bef
 in-order-requires : tie.Need-in-order-requires Inv-loop μ-loop
 in-order-requires c κs = tt
 
+sub-result : tie.Need-sub-result Inv-loop μ-loop
+sub-result c = omega arith
+
 returns : tie.Need-returns Inv-loop μ-loop
 returns c =
     let l = c .before .before .before .before .loop in
     let a = c .before .before .before .before .before .before .args in
     let test = sym (c .before .in-order .ensures ∙ ap (inOrder (a .v)) (c .before .before .costs-at .ensures)) ∙ c .if1 .taken in
     let e = place-turn (a .v) (now (a .plans)) (l .at) (l .left) (a .size) (c .before .before .before .loop-test .taken) (l .inv .2) test in
-    let f = ap (λ (k : ℕ). k * a .size) e in
-    omega (arith, zero-mul (a .size))
+    (omega arith, omega arith)
 
 add-at : tie.Need-add-at Inv-loop μ-loop
 add-at c = omega (arith, mul-step (c .before .before .before .before .loop .left) (c .before .before .before .before .before .before .args .size) (c .before .before .before .loop-test .taken))
@@ -55,17 +57,14 @@ loop-again c =
     let step = mul-step (l .left) (a .size) more in
     let test = sym (c .before .in-order .ensures ∙ ap (inOrder (a .v)) (c .before .before .costs-at .ensures)) ∙ c .if1 .left in
     let e = place-turn (a .v) (now (a .plans)) (l .at) (l .left) (a .size) more (l .inv .2) test in
-    let f = ap (λ (k : ℕ). k * a .size) e in
-    let m = suc-mul (placeOf (a .v) (blocks (a .size) (l .left - 1) (drop (l .at + a .size) (now (a .plans))))) (a .size) in
-    (omega arith, omega arith, omega arith)
+    (omega arith, omega arith, omega arith, omega arith)
 
 returns-2 : tie.Need-returns-2 Inv-loop μ-loop
 returns-2 c =
     let l = c .before .loop in
     let a = c .before .before .before .args in
     let e = ap (placeOf (a .v)) (blocks-none (a .size) (l .left) (drop (l .at) (now (a .plans))) (omega arith)) ∙ place-none (a .v) in
-    let f = ap (λ (k : ℕ). k * a .size) e in
-    omega (arith, zero-mul (a .size))
+    (omega arith, omega arith)
 
 pub place-spec : {M : Type 1} → statement M
 place-spec =
@@ -76,6 +75,7 @@ place-spec =
     loop-holds
     costs-at-requires
     in-order-requires
+    sub-result
     returns
     add-at
     sub-left

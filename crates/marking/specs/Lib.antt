@@ -7,3 +7,5 @@ pub mod Slots
 pub mod Paint
 pub mod Box
 pub mod Settle
+-- the next position to solve
+pub mod Unmarked

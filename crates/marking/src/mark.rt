@@ -1,9 +1,10 @@
 // Marks of positions: one byte for each position, by its number.
 ghost use mathlib.Core.Path.{_≡_};
 ghost use mathlib.Core.List.{[], _∷_};
-ghost use Prim.Native.Nat.{_+_, _*_, _/_, _%_, _≤_, _<_};
+ghost use Prim.Native.Nat.{_+_, _-_, _*_, _/_, _%_, _≤_, _<_};
 ghost use lib.ListN.{length};
 ghost use Rattle.marking.specs.Paint.{paint, run, through};
+ghost use Rattle.marking.specs.Unmarked.{nextUnmarked};
 
 // Marks n positions from one on.
 pub fn mark_row(marks: &mut [u8], start: usize, n: usize)
@@ -39,4 +40,19 @@ pub fn mark_through(marks: &mut [u8], n: usize, m2: usize, k1: usize, k2: usize)
     ensures { λ _. ⌜ now (marks .exit) ≡ paint (through m2 n k1 k2) n (now (marks .entry)) ⌝ }
 {
     mark_rows(marks, n, m2, k1 + 1 - n / m2, k2 + 1 - n % m2);
+}
+
+// The first position from number n on that is not marked, or the end.
+pub fn next_unmarked(marks: &[u8], n: usize, end: usize) -> usize
+    requires { ⌜ (n ≤ end) × (end ≤ length (now marks)) ⌝ }
+    ensures { λ r. ⌜ (n ≤ r) × (r ≤ end) × (r ≡ nextUnmarked (now (marks .entry)) (end - n) n) ⌝ }
+{
+    let mut at = n;
+    while at < end {
+        if marks[at] == 0 {
+            return at;
+        }
+        at += 1;
+    }
+    at
 }

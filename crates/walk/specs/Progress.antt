@@ -23,6 +23,7 @@ use Rattle.planlist.specs.Stored.{Holds, absent, costs-padded, holds-inserted, 
 use Rattle.planlist.specs.Finished.{finished, finished-list, thenZeros}
 use Rattle.marking.specs.Settle.{Settled}
 use Rattle.marking.specs.Slots.{rank-count}
+use Rattle.marking.specs.Unmarked.{nextUnmarked, unmarked-keeps}
 use Rattle.walk.specs.Entries.{collect-more, entries-all, entries-fewer, entries-none, entries-skip, entries-solve, entriesAt, takeAnswer}
 
 -- a mark
@@ -122,6 +123,11 @@ module _ (net : Network) where
           taken (some ts) b e =
               holds-inserted (yard net) (costsOf net) (λ ts. ts) (absent net) refl ts (collect (yard net) [] (answers (yard net) (entriesAt (yard net) n))) (p .records)
               (record { writable = v .writable ts b; padded = costs-padded net ts (omega (arith, rank-count net fine, fine .few-ceilings)) }) e
+
+  -- all marked positions among n from number `at` on are skipped
+  pub skip-all : {ms bs : List ℕ} {count done : ℕ} (n at : ℕ) → at + n ≤ positionCount net → Progress at ms bs count done
+      → Progress (nextUnmarked ms n at) ms bs count done
+  skip-all {ms} {bs} {count} {done} n at h p = unmarked-keeps ms (λ k. Progress k ms bs count done) n at (λ k l e q. skip k (omega arith) q e) p
 
   -- at the end all positions are visited
   pub finish : (n : ℕ) → positionCount net ≤ n → {ms bs : List ℕ} {count done : ℕ} → Progress n ms bs count done → Reached (solved net) ms bs count done

@@ -1,6 +1,7 @@
 // The list of plans.
 use crate::visit::solve_at;
 use kruskal::by_cost::order_links;
+use marking::mark::next_unmarked;
 use marking::values::ceiling_values;
 use network::Network;
 use network::Refusal;
@@ -49,7 +50,7 @@ fn visit_all(
             solved += 1;
             n += 1;
         } else {
-            n += 1;
+            n = next_unmarked(&marks, n + 1, total);
         }
     }
     finish(out, count, solved, net.n - 1, net.p);

@@ -1,8 +1,8 @@
 -- `walk::list::visit_all` meets its contract. The invariant: marks, records and counts are those of the entries that the walk has solved among the first n
 -- positions, and no more are solved than allowed.
 use mathlib.Core.Bool.{Bool, cond, true, false}
-use mathlib.Core.Path.{_≡_, refl, sym, ap, _∙_}
-use Prim.Native.Nat.{ℕ, _+_, _-_, _≤_}
+use mathlib.Core.Path.{_≡_, refl, sym, ap, _∙_, subst⁻¹}
+use Prim.Native.Nat.{ℕ, _+_, _*_, _-_, _≤_}
 use native.Mathlib.Nat.{mul-le-mul-right}
 use native.Mathlib.Omega.{arith}
 use borrow.Author.Tests.{le-ltb, lt-ltb}
@@ -14,7 +14,7 @@ use Rattle.network.specs.Limits.{maxPlans}
 use Rattle.network.specs.PlanList.{filled, planSize}
 use Rattle.network.specs.Walk.{passes, positionCount, solvedCount}
 use Rattle.network.specs.Yard.{treeSize}
-use Rattle.walk.specs.Progress.{Progress, finish, full, skip, spent, start, step}
+use Rattle.walk.specs.Progress.{Progress, finish, full, skip, skip-all, spent, start, step}
 use Rattle.walk.specs.Visit.{count-is, count-limit}
 use Rattle.walk.proofs.list.visit_all.Statement.{statement}
 use Rattle.walk.proofs.list.visit_all.Tie as tie
@@ -97,24 +97,33 @@ loop-again c =
       step (a .net) (l .n) (omega arith) (l .inv .5) (c .before .before .before .before .before .before .before .if1 .taken) (s .pre .0 .fine) (new .ensures),
     )
 
-add-n-2 : tie.Need-add-n-2 Inv-loop μ-loop
-add-n-2 c = omega (arith, count-is (c .before .before .before .before .before .pre .0), few (c .before .before .before .before .before))
+slice-aggregate-next-unmarked : tie.Need-slice-aggregate-next-unmarked Inv-loop μ-loop
+slice-aggregate-next-unmarked c = omega arith
+
+add-next-unmarked : tie.Need-add-next-unmarked Inv-loop μ-loop
+add-next-unmarked c = omega (arith, count-is (c .before .before .before .before .before .before .pre .0), few (c .before .before .before .before .before .before))
+
+next-unmarked-requires : tie.Need-next-unmarked-requires Inv-loop μ-loop
+next-unmarked-requires c κs = let s = c .before .before .before .before .before .before in let all = count-is (s .pre .0) in (omega arith, omega (arith, few s))
 
 loop-less-2 : tie.Need-loop-less-2 Inv-loop μ-loop
-loop-less-2 c = omega (arith, count-is (c .before .before .before .before .before .pre .0))
+loop-less-2 c = omega (arith, count-is (c .before .before .before .before .before .before .before .pre .0), c .next-unmarked .ensures .0)
 
 loop-again-2 : tie.Need-loop-again-2 Inv-loop μ-loop
 loop-again-2 c =
-    let s = c .before .before .before .before .before in
+    let s = c .before .before .before .before .before .before .before in
     let a = s .args in
-    let l = c .before .before .loop in
-    let all = count-is (s .pre .0) in (
+    let l = c .before .before .before .before .loop in
+    let all = count-is (s .pre .0) in
+    let new = c .next-unmarked .ensures in
+    let total = length (a .v1 .now) * length (a .v2 .now) in
+    let next = skip (a .net) (l .n) (omega arith) (l .inv .5) (c .before .before .if1 .left) in (
       omega arith,
       omega arith,
+      omega (arith, new .1),
+      omega (arith, new .0),
       omega arith,
-      omega arith,
-      omega arith,
-      skip (a .net) (l .n) (omega arith) (l .inv .5) (c .if1 .left),
+      subst⁻¹ (λ (k : ℕ). Progress (a .net) k (l .marks) (l .out) (l .count) (l .solved)) (new .2) (skip-all (a .net) (total - (l .n + 1)) (l .n + 1) (omega arith) next),
     )
 
 sub-finish : tie.Need-sub-finish Inv-loop μ-loop
@@ -164,7 +173,9 @@ visit-all-spec =
     add-n
     loop-less
     loop-again
-    add-n-2
+    slice-aggregate-next-unmarked
+    add-next-unmarked
+    next-unmarked-requires
     loop-less-2
     loop-again-2
     sub-finish

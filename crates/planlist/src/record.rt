@@ -38,8 +38,10 @@ pub(crate) fn at_most(v: Costs, w: Costs) -> bool
 pub(crate) fn in_order(v: Costs, w: Costs) -> bool
     ensures { λ r. ⌜ r ≡ inOrder v w ⌝ }
 {
-    (v.sum <= w.sum)
-        & (!(w.sum <= v.sum) | (le16(v.y1, w.y1) & (!le16(w.y1, v.y1) | le16(v.y2, w.y2))))
+    if v.sum == w.sum {
+        return le16(v.y1, w.y1) & (!le16(w.y1, v.y1) | le16(v.y2, w.y2));
+    }
+    v.sum < w.sum
 }
 
 // The costs that the plan record at an index holds.

@@ -25,7 +25,8 @@ gap c =
     let size = planSize (length (now (a .links))) in
     let kept = c .before .before .before .before .prune .result in
     let same = c .before .before .before .before .prune .kept .0 in
-    (mul-le-mul-right size (c .place .ensures .0), rw same (room-for kept (a .count) size (c .before .before .before .before .before .before .before .before .pre) (c .before .before .before .before .prune .ensures .0)))
+    let inside : c .place .result ≤ kept = omega (arith, c .place .ensures .0) in
+    (mul-le-mul-right size inside, rw same (room-for kept (a .count) size (c .before .before .before .before .before .before .before .before .pre) (c .before .before .before .before .prune .ensures .0)))
 
 add-size : tie.Need-add-size
 add-size c = search needs

@@ -1,0 +1,166 @@
+//! Times the proved planner against the independent one, and prints Markdown tables.
+
+use compare::fetching::solved_count;
+use compare::kinds::{hard, large};
+use compare::planner::{Archive, Peer, Planner};
+use compare::rng::Rng;
+use compare::yards::{Layout, Values};
+use peer::plan_list;
+use peer::survey::{Yard, MAX_LINKS};
+use peer::walk::Positions;
+use std::hint::black_box;
+use std::time::Instant;
+
+/// Runs of each planner on a yard.
+const RUNS: usize = 21;
+/// Yards of a row.
+const YARDS: u64 = 6;
+/// Ceilings questions of a run.
+const QUESTIONS: usize = 64;
+const STATIONS: [u8; 7] = [6, 8, 10, 12, 16, 20, 24];
+const RANKS: [[u8; 2]; 4] = [[1, 1], [2, 1], [3, 1], [1, 3]];
+const HARD_LINKS: i64 = MAX_LINKS as i64;
+
+fn main() {
+    println!(
+        "Times are in microseconds: the fastest of {RUNS} runs on a yard, archive and peer by"
+    );
+    println!("turns; a row is the mean over its yards. The ratio is archive / peer. A list buffer");
+    println!("is of exactly its need and is not cleared between calls.");
+    println!("Sets: large, any connected yard; hard, {HARD_LINKS} links and no value twice;");
+    println!("opposed, {HARD_LINKS} links, the lower the sum the higher the ceiling costs.");
+    compare_planners();
+    growth();
+}
+
+/// The tables of the list call and the ceilings question.
+fn compare_planners() {
+    let mut rows = vec![Row::new("large | 2–24 | any".into(), &large_yards())];
+    for (set, values) in [("hard", Values::Different), ("opposed", Values::Opposed)] {
+        for stations in STATIONS {
+            for ranks in RANKS {
+                let surveys = hard_yards(HARD_LINKS, stations, ranks, values);
+                rows.push(Row::new(label(set, stations, ranks), &surveys));
+            }
+        }
+    }
+    println!("\n## The list call\n");
+    println!("| set | n | k | solved | archive | peer | ratio |\n|---|---|---|---|---|---|---|");
+    for row in &rows {
+        let [archive, peer] = row.list;
+        let (label, solved, ratio) = (&row.label, row.solved, archive / peer);
+        println!("| {label} | {solved:.0} | {archive:.1} | {peer:.1} | {ratio:.2} |");
+    }
+    println!("\n## The ceilings question\n");
+    println!("| set | n | k | archive | peer | ratio |\n|---|---|---|---|---|---|");
+    for row in &rows {
+        let [archive, peer] = row.best;
+        let (label, ratio) = (&row.label, archive / peer);
+        println!("| {label} | {archive:.2} | {peer:.2} | {ratio:.2} |");
+    }
+}
+
+/// The table of the list call's time for a solved position, by links and by stations.
+fn growth() {
+    println!("\n## Growth of the list call, hard set: microseconds for a solved position\n");
+    println!("| links | n | k | solved | archive | peer |\n|---|---|---|---|---|---|");
+    let by_links = [10, 20, 30, 40].map(|links| (links, 10));
+    let by_stations = STATIONS.map(|stations| (HARD_LINKS, stations));
+    for ranks in RANKS {
+        for (links, stations) in by_links.into_iter().chain(by_stations) {
+            let surveys = hard_yards(links, stations, ranks, Values::Different);
+            let row = Row::new(label(&links.to_string(), stations, ranks), &surveys);
+            let [archive, peer] = row.list.map(|time| time / row.solved);
+            let (label, solved) = (&row.label, row.solved);
+            println!("| {label} | {solved:.0} | {archive:.3} | {peer:.3} |");
+        }
+    }
+}
+
+fn label(set: &str, stations: u8, [k1, k2]: [u8; 2]) -> String {
+    format!("{set} | {stations} | {k1}, {k2}")
+}
+
+fn large_yards() -> Vec<Vec<u8>> {
+    let recipe = large(Layout::Connected, Values::Free);
+    let survey = |seed| recipe.draft(&mut Rng::new(seed)).bytes();
+    (0..YARDS * 10).map(survey).collect()
+}
+
+fn hard_yards(links: i64, stations: u8, ranks: [u8; 2], values: Values) -> Vec<Vec<u8>> {
+    let recipe = hard(links, values);
+    let draft = |seed| recipe.draft_with(stations, ranks, &mut Rng::new(seed));
+    (0..YARDS).map(|seed| draft(seed).bytes()).collect()
+}
+
+/// A set of yards and its mean figures.
+struct Row {
+    label: String,
+    solved: f64,
+    list: [f64; 2],
+    best: [f64; 2],
+}
+
+impl Row {
+    fn new(label: String, surveys: &[Vec<u8>]) -> Row {
+        let mut row = Row {
+            label,
+            solved: 0.0,
+            list: [0.0; 2],
+            best: [0.0; 2],
+        };
+        let share = 1.0 / surveys.len() as f64;
+        for survey in surveys {
+            let yard = Yard::read(survey).expect("generated yards are legal");
+            let (solved, list) = time_list(survey, &yard);
+            let best = time_best(survey, &yard);
+            row.solved += share * solved;
+            for planner in 0..2 {
+                row.list[planner] += share * list[planner];
+                row.best[planner] += share * best[planner];
+            }
+        }
+        row
+    }
+}
+
+/// The solved count, and the time of a list call.
+fn time_list(survey: &[u8], yard: &Yard) -> (f64, [f64; 2]) {
+    let need = plan_list::need(Positions::of(yard).count(), yard.tree_len());
+    let mut buffer = vec![0; need];
+    let times = fastest(|planner| {
+        let _ = black_box(planner.list(black_box(survey), u32::MAX, &mut buffer));
+    });
+    (f64::from(solved_count(&buffer)), times)
+}
+
+/// The time of a ceilings question, the mean over positions of the yard's walk.
+fn time_best(survey: &[u8], yard: &Yard) -> [f64; 2] {
+    let mut rng = Rng::new(1);
+    let mut bound = |ceiling: usize| match yard.links() {
+        [] => 0,
+        links => rng.pick(links).costs[ceiling],
+    };
+    let questions: Vec<[i16; 2]> = (0..QUESTIONS).map(|_| [bound(0), bound(1)]).collect();
+    let mut tree = [0; MAX_LINKS];
+    let times = fastest(|planner| {
+        for &bounds in &questions {
+            let _ = black_box(planner.best(black_box(survey), bounds, &mut tree));
+        }
+    });
+    times.map(|time| time / QUESTIONS as f64)
+}
+
+/// The fastest run of each planner, archive and peer, in microseconds.
+fn fastest(mut run: impl FnMut(&dyn Planner)) -> [f64; 2] {
+    let planners: [&dyn Planner; 2] = [&Archive, &Peer];
+    let mut times = [f64::INFINITY; 2];
+    for i in 0..2 * RUNS {
+        // The order changes each time: archive, peer, peer, archive.
+        let planner = (i / 2 + i) % 2;
+        let start = Instant::now();
+        run(planners[planner]);
+        times[planner] = times[planner].min(start.elapsed().as_secs_f64() * 1e6);
+    }
+    times
+}

@@ -1,0 +1,148 @@
+//! Surveys that break rules.
+
+use crate::draft::{Draft, LinkDraft};
+use crate::rng::Rng;
+
+/// The kinds of damage to the fields of a survey.
+const FIELD_DAMAGES: [fn(&mut Draft, &mut Rng); 11] = [
+    yard_mark,
+    stations,
+    ceilings,
+    any_ranks,
+    absent_rank,
+    link_mark,
+    end_out_of_range,
+    equal_ends,
+    sum,
+    cost_of_any_ceiling,
+    too_many_links,
+];
+
+/// The kinds of damage to the bytes of a survey.
+const BYTE_DAMAGES: [fn(&mut Vec<u8>, &mut Rng); 5] = [
+    truncate,
+    lengthen,
+    |bytes, rng| flip_bits(bytes, rng),
+    randomize,
+    clear,
+];
+
+/// The bytes of a survey with one to four damages.
+pub fn damaged(mut draft: Draft, rng: &mut Rng) -> Vec<u8> {
+    let in_fields = rng.below(4);
+    for _ in 0..in_fields {
+        rng.pick(&FIELD_DAMAGES)(&mut draft, rng);
+    }
+    let mut bytes = draft.bytes();
+    if in_fields == 0 || rng.once_in(4) {
+        rng.pick(&BYTE_DAMAGES)(&mut bytes, rng);
+    }
+    bytes
+}
+
+/// All surveys that differ from one by a cut or a single bit.
+pub fn cuts_and_flips(survey: &[u8]) -> Vec<Vec<u8>> {
+    let cuts = (0..survey.len()).map(|len| survey[..len].to_vec());
+    let flips = (0..survey.len() * 8).map(|bit| {
+        let mut bytes = survey.to_vec();
+        bytes[bit / 8] ^= 1 << (bit % 8);
+        bytes
+    });
+    cuts.chain(flips).collect()
+}
+
+fn wrong_byte(byte: &mut u8, rng: &mut Rng) {
+    *byte = byte.wrapping_add(rng.within(1..=255) as u8);
+}
+
+fn yard_mark(draft: &mut Draft, rng: &mut Rng) {
+    wrong_byte(&mut draft.mark[rng.below(2)], rng);
+}
+
+fn stations(draft: &mut Draft, rng: &mut Rng) {
+    draft.stations = rng.pick(&[0, 1, 2, 24, 25, 26, 128, 255]);
+}
+
+fn ceilings(draft: &mut Draft, rng: &mut Rng) {
+    draft.ceilings = rng.pick(&[0, 1, 2, 3, 4, 255]);
+}
+
+fn any_ranks(draft: &mut Draft, rng: &mut Rng) {
+    let past_tree = draft.stations;
+    draft.ranks = [0, 1].map(|_| rng.pick(&[0, 1, 2, 3, 4, past_tree, 255]));
+}
+
+fn absent_rank(draft: &mut Draft, rng: &mut Rng) {
+    draft.ranks[1] = rng.pick(&[1, 2, 255]);
+}
+
+fn link_mark(draft: &mut Draft, rng: &mut Rng) {
+    let byte = rng.below(2);
+    if let Some(link) = any_link(draft, rng) {
+        wrong_byte(&mut link.mark[byte], rng);
+    }
+}
+
+fn end_out_of_range(draft: &mut Draft, rng: &mut Rng) {
+    let station = rng.pick(&[draft.stations, draft.stations.wrapping_add(1), 24, 255]);
+    let end = rng.below(2);
+    if let Some(link) = any_link(draft, rng) {
+        link.ends[end] = station;
+    }
+}
+
+fn equal_ends(draft: &mut Draft, rng: &mut Rng) {
+    if let Some(link) = any_link(draft, rng) {
+        link.ends[1] = link.ends[0];
+    }
+}
+
+fn sum(draft: &mut Draft, rng: &mut Rng) {
+    let sum = rng.pick(&[1_000_000, 1_000_001, 0x8000_0000, u32::MAX]);
+    if let Some(link) = any_link(draft, rng) {
+        link.sum = sum;
+    }
+}
+
+fn cost_of_any_ceiling(draft: &mut Draft, rng: &mut Rng) {
+    let (ceiling, cost) = (rng.below(2), rng.pick(&[1, -1, 256, i16::MIN]));
+    if let Some(link) = any_link(draft, rng) {
+        link.costs[ceiling] = cost;
+    }
+}
+
+fn too_many_links(draft: &mut Draft, rng: &mut Rng) {
+    let count = rng.pick(&[40, 41, 42, 255, 256, 300]);
+    if let Some(&link) = draft.links.first() {
+        draft.links.resize(count, link);
+    }
+}
+
+fn any_link<'a>(draft: &'a mut Draft, rng: &mut Rng) -> Option<&'a mut LinkDraft> {
+    let count = draft.links.len();
+    draft.links.get_mut(rng.below(count.max(1)))
+}
+
+fn truncate(bytes: &mut Vec<u8>, rng: &mut Rng) {
+    bytes.truncate(rng.below(bytes.len() + 1));
+}
+
+fn lengthen(bytes: &mut Vec<u8>, rng: &mut Rng) {
+    let count = rng.within(1..=24) as usize;
+    bytes.extend(rng.bytes(count));
+}
+
+fn flip_bits(bytes: &mut [u8], rng: &mut Rng) {
+    for _ in 0..rng.within(1..=3) {
+        let at = rng.below(bytes.len());
+        bytes[at] ^= 1 << rng.below(8);
+    }
+}
+
+fn randomize(bytes: &mut Vec<u8>, rng: &mut Rng) {
+    *bytes = rng.bytes(bytes.len());
+}
+
+fn clear(bytes: &mut Vec<u8>, _: &mut Rng) {
+    bytes.clear();
+}

@@ -1,0 +1,104 @@
+//! The kinds of surveys compared, each with its own seeds.
+
+use crate::comparison::{Comparison, Difference};
+use crate::damage::{cuts_and_flips, damaged};
+use crate::rng::Rng;
+use crate::round::{all_calls, few_calls};
+use crate::yards::Layout::{self, Any, Connected, Disconnected};
+use crate::yards::Recipe;
+use crate::yards::Values::{self, Different, Extreme, Free, Opposed, Tied};
+use Damage::{Each, Random, Whole};
+
+/// A kind of surveys.
+pub struct Kind {
+    /// Its name in reports.
+    pub name: &'static str,
+    /// How many seeds are run.
+    pub seeds: u64,
+    /// The first seed.
+    pub first_seed: u64,
+    recipe: Recipe,
+    damage: Damage,
+}
+
+/// What is done to the surveys of a kind.
+enum Damage {
+    /// Nothing.
+    Whole,
+    /// One to four things at random.
+    Random,
+    /// Each cut and each bit in turn.
+    Each,
+}
+
+/// All kinds, legal surveys first.
+pub const KINDS: [Kind; 14] = [
+    legal(1, "small", 3000, small(Any, Free)),
+    legal(2, "small, connected", 3000, small(Connected, Free)),
+    legal(3, "small, opposed", 3000, small(Connected, Opposed)),
+    legal(4, "small, tied", 7000, small(Connected, Tied)),
+    legal(5, "small, extreme", 3000, small(Connected, Extreme)),
+    legal(6, "large", 2500, large(Connected, Free)),
+    legal(7, "large, tied", 2500, large(Connected, Tied)),
+    legal(8, "large, extreme", 2500, large(Connected, Extreme)),
+    legal(9, "disconnected", 2000, large(Disconnected, Free)),
+    legal(10, "40 links, different", 600, hard(40, Different)),
+    legal(11, "40 links, opposed", 600, hard(40, Opposed)),
+    kind(12, "damaged", 250_000, small(Any, Free), Random),
+    kind(13, "tied, damaged", 250_000, small(Any, Tied), Random),
+    kind(14, "cut or flipped", 100, small(Connected, Tied), Each),
+];
+
+const fn legal(number: u64, name: &'static str, seeds: u64, recipe: Recipe) -> Kind {
+    kind(number, name, seeds, recipe, Whole)
+}
+
+const fn kind(number: u64, name: &'static str, seeds: u64, recipe: Recipe, damage: Damage) -> Kind {
+    Kind {
+        name,
+        seeds,
+        first_seed: number * 1_000_000,
+        recipe,
+        damage,
+    }
+}
+
+impl Kind {
+    /// Makes the surveys of a seed, one or several.
+    pub fn surveys(&self, rng: &mut Rng) -> Vec<Vec<u8>> {
+        let draft = self.recipe.draft(rng);
+        match self.damage {
+            Whole => vec![draft.bytes()],
+            Random => vec![damaged(draft, rng)],
+            Each => cuts_and_flips(&draft.bytes()),
+        }
+    }
+
+    /// Makes the calls on one of its surveys.
+    pub fn calls(
+        &self,
+        c: &mut Comparison,
+        survey: &[u8],
+        rng: &mut Rng,
+    ) -> Result<(), Difference> {
+        match self.damage {
+            Whole => all_calls(c, survey, rng),
+            Random | Each => few_calls(c, survey, rng),
+        }
+    }
+}
+
+/// Yards small enough to list all trees.
+pub const fn small(layout: Layout, values: Values) -> Recipe {
+    Recipe::new(1..=6, 0..=9, layout, values)
+}
+
+/// Yards of any legal size.
+pub const fn large(layout: Layout, values: Values) -> Recipe {
+    Recipe::new(2..=24, 0..=40, layout, values)
+}
+
+/// Connected yards of that many links.
+pub const fn hard(links: i64, values: Values) -> Recipe {
+    Recipe::new(6..=24, links..=links, Connected, values)
+}

@@ -1,0 +1,182 @@
+//! The generator of legal yards.
+
+use crate::draft::{Draft, LinkDraft, LINK_MARK, YARD_MARK};
+use crate::rng::Rng;
+use std::ops::RangeInclusive;
+
+/// How a yard's links lie.
+#[derive(Clone, Copy)]
+pub enum Layout {
+    /// Anywhere.
+    Any,
+    /// So that there is a tree.
+    Connected,
+    /// So that there is no tree, but for a single station.
+    Disconnected,
+}
+
+/// Which sum and ceiling costs the links have.
+#[derive(Clone, Copy)]
+pub enum Values {
+    /// Any that are legal.
+    Free,
+    /// Few different ones, so that trees tie; links are often parallel.
+    Tied,
+    /// The ends of the legal ranges and the values around 0.
+    Extreme,
+    /// No value twice.
+    Different,
+    /// The lower the sum cost, the higher the ceiling costs: many plans.
+    Opposed,
+}
+
+/// What a yard is to be like.
+pub struct Recipe {
+    stations: RangeInclusive<i64>,
+    links: RangeInclusive<i64>,
+    layout: Layout,
+    values: Values,
+}
+
+impl Recipe {
+    /// Yards of so many stations and links. A connected yard has at least a tree's links.
+    pub const fn new(
+        stations: RangeInclusive<i64>,
+        links: RangeInclusive<i64>,
+        layout: Layout,
+        values: Values,
+    ) -> Recipe {
+        Recipe {
+            stations,
+            links,
+            layout,
+            values,
+        }
+    }
+
+    /// A yard with any legal number of ceilings and any legal ranks.
+    pub fn draft(&self, rng: &mut Rng) -> Draft {
+        let stations = rng.within(self.stations.clone()) as u8;
+        let most_ceilings = if stations == 1 { 0 } else { 2 };
+        let ceilings = rng.within(0..=most_ceilings) as usize;
+        let mut ranks = [0; 2];
+        ranks[..ceilings].fill(1);
+        if ceilings > 0 {
+            let most = (stations - 1).min(3);
+            ranks[rng.below(ceilings)] = rng.within(1..=most.into()) as u8;
+        }
+        self.draft_with(stations, ranks, rng)
+    }
+
+    /// A yard with these ranks; a ceiling is present if its rank is not 0.
+    pub fn draft_with(&self, stations: u8, ranks: [u8; 2], rng: &mut Rng) -> Draft {
+        let ceilings = ranks.iter().filter(|&&rank| rank > 0).count();
+        let ends = self.ends(stations, rng);
+        let sums = self.sums(ends.len(), rng);
+        let mut costs = self.costs(&sums, rng);
+        costs[ceilings..]
+            .iter_mut()
+            .for_each(|absent| absent.fill(0));
+        let link = |i: usize| LinkDraft {
+            mark: LINK_MARK,
+            ends: ends[i],
+            sum: sums[i] as u32,
+            costs: [costs[0][i] as i16, costs[1][i] as i16],
+        };
+        Draft {
+            mark: YARD_MARK,
+            stations,
+            ceilings: ceilings as u8,
+            ranks,
+            links: (0..ends.len()).map(link).collect(),
+        }
+    }
+
+    /// The ends of all links.
+    fn ends(&self, stations: u8, rng: &mut Rng) -> Vec<[u8; 2]> {
+        let mut ends = Vec::new();
+        if stations == 1 {
+            return ends;
+        }
+        let cut = rng.within(1..=i64::from(stations) - 1) as u8;
+        if let Layout::Connected = self.layout {
+            ends.extend((1..stations).map(|station| [station, rng.below(station.into()) as u8]));
+        }
+        let count = (rng.within(self.links.clone()) as usize).max(ends.len());
+        while ends.len() < count {
+            let parallel = matches!(self.values, Values::Tied) && rng.once_in(3);
+            ends.push(match self.layout {
+                _ if parallel && !ends.is_empty() => rng.pick(&ends),
+                Layout::Disconnected => match side(cut, stations, rng) {
+                    Some(range) => pair(range, rng),
+                    None => break,
+                },
+                _ => pair([0, stations], rng),
+            });
+        }
+        rng.shuffle(&mut ends);
+        ends
+    }
+
+    fn sums(&self, count: usize, rng: &mut Rng) -> Vec<i64> {
+        let scale = rng.pick(&[9, 1000, 1_000_000]);
+        match self.values {
+            Values::Different | Values::Opposed => different(count, 0..=1_000_000, rng),
+            Values::Free => numbers(count, || rng.within(0..=scale)),
+            Values::Tied => numbers(count, || rng.within(0..=2)),
+            Values::Extreme => numbers(count, || rng.pick(&[0, 1, 999_999, 1_000_000])),
+        }
+    }
+
+    /// The costs of both ceilings, for links with these sums.
+    fn costs(&self, sums: &[i64], rng: &mut Rng) -> [Vec<i64>; 2] {
+        if let Values::Opposed = self.values {
+            return opposed(sums, rng);
+        }
+        let legal = i64::from(i16::MIN)..=i64::from(i16::MAX);
+        [0, 1].map(|_| match self.values {
+            Values::Different => different(sums.len(), legal.clone(), rng),
+            Values::Tied => numbers(sums.len(), || rng.within(-1..=2)),
+            Values::Extreme => numbers(sums.len(), || rng.pick(&[-32_768, -1, 0, 32_767])),
+            _ => numbers(sums.len(), || rng.within(legal.clone())),
+        })
+    }
+}
+
+/// Costs that share out between the ceilings what a link lacks of the greatest sum.
+fn opposed(sums: &[i64], rng: &mut Rng) -> [Vec<i64>; 2] {
+    let shares = numbers(sums.len(), || rng.within(0..=1000));
+    let cost = |(sum, share): (&i64, i64)| (1_000_000 - sum) * share / 31_000 - 16_000;
+    let firsts = sums.iter().zip(shares.iter().copied()).map(cost);
+    let seconds = sums.iter().zip(shares.iter().map(|share| 1000 - share));
+    [firsts.collect(), seconds.map(cost).collect()]
+}
+
+/// The range of stations on one side of the cut that has two stations, if any has.
+fn side(cut: u8, stations: u8, rng: &mut Rng) -> Option<[u8; 2]> {
+    let mut sides = [[0, cut], [cut, stations]];
+    rng.shuffle(&mut sides);
+    sides.into_iter().find(|[start, end]| end - start >= 2)
+}
+
+/// Two different stations of a range.
+fn pair([start, end]: [u8; 2], rng: &mut Rng) -> [u8; 2] {
+    let count = usize::from(end - start);
+    let a = rng.below(count);
+    let b = (a + 1 + rng.below(count - 1)) % count;
+    [a, b].map(|station| start + station as u8)
+}
+
+fn numbers(count: usize, next: impl FnMut() -> i64) -> Vec<i64> {
+    std::iter::repeat_with(next).take(count).collect()
+}
+
+/// That many different numbers of a range, in random order.
+fn different(count: usize, range: RangeInclusive<i64>, rng: &mut Rng) -> Vec<i64> {
+    let step = (range.end() - range.start()) / count.max(1) as i64;
+    let mut numbers: Vec<i64> = (0..count as i64)
+        .map(|i| range.start() + i * step + rng.within(0..=step - 1))
+        .collect();
+    rng.shuffle(&mut numbers);
+    numbers
+}

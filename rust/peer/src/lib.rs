@@ -1,0 +1,75 @@
+//! An independent planner: the four calls of document 01 in plain Rust.
+//!
+//! It is written from the document alone and shares nothing with the proved planner, so that
+//! the two can be held against each other. `walk` answers for any yard, `listing` for small
+//! ones by listing all trees.
+
+#![forbid(unsafe_code)]
+
+pub mod kruskal;
+pub mod listing;
+pub mod plan;
+pub mod plan_list;
+mod reply;
+pub mod survey;
+pub mod walk;
+
+use kruskal::{Groups, Solver};
+use plan::{Plan, Tree};
+pub use plan_list::fetch;
+pub use reply::{Costs, Refusal};
+use survey::Yard;
+use walk::{Positions, Walk};
+
+/// The costs of a drawn tree.
+pub fn judge(survey: &[u8], drawn: &[u8]) -> Result<Costs, Refusal> {
+    let yard = Yard::read(survey)?;
+    tree_of(&yard, drawn)
+        .map(|(tree, sum)| Plan::of(&yard, tree, sum).costs)
+        .ok_or(Refusal::whole(11))
+}
+
+/// The tree that was drawn and its sum, if the links are a tree's, strictly rising.
+fn tree_of(yard: &Yard, drawn: &[u8]) -> Option<(Tree, u32)> {
+    if drawn.len() != yard.tree_len() || !drawn.is_sorted_by(|a, b| a < b) {
+        return None;
+    }
+    let mut groups = Groups::apart();
+    let mut sum = 0;
+    for &number in drawn {
+        let link = yard.links().get(usize::from(number))?;
+        if !groups.join(link.ends) {
+            return None;
+        }
+        sum += link.sum;
+    }
+    Some((drawn.iter().copied().collect(), sum))
+}
+
+/// The best tree under ceilings: its costs, and its links in the lent tree buffer.
+pub fn best(survey: &[u8], ceilings: [i16; 2], tree: &mut [u8]) -> Result<Costs, Refusal> {
+    let yard = Yard::read(survey)?;
+    let links = tree.get_mut(..yard.tree_len()).ok_or(Refusal::whole(9))?;
+    let plan = Solver::new(&yard)
+        .best(ceilings)
+        .ok_or(Refusal::whole(14))?;
+    for (byte, link) in links.iter_mut().zip(plan.tree.links()) {
+        *byte = link;
+    }
+    Ok(plan.costs)
+}
+
+/// The list of plans, in the lent list buffer.
+pub fn list(survey: &[u8], allowance: u32, buffer: &mut [u8]) -> Result<(), Refusal> {
+    let yard = Yard::read(survey)?;
+    let positions = Positions::of(&yard);
+    if buffer.len() < plan_list::need(positions.count(), yard.tree_len()) {
+        return Err(Refusal::whole(9));
+    }
+    let Some(walk) = Walk::of(&yard, &positions, allowance) else {
+        buffer.fill(0);
+        return Err(Refusal::whole(10));
+    };
+    plan_list::write(buffer, &yard, walk.solved, &walk.plans);
+    Ok(())
+}

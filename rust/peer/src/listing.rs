@@ -1,0 +1,138 @@
+//! All trees of a small yard, and the answers that follow from them by definition.
+
+use crate::plan::Plan;
+use crate::reply::Costs;
+use crate::survey::{Link, Yard};
+
+/// The trees of a yard in dictionary order.
+pub struct Listing<'a> {
+    yard: &'a Yard,
+    trees: Vec<Plan>,
+}
+
+impl<'a> Listing<'a> {
+    /// Lists all trees; meant for up to 12 links.
+    pub fn of(yard: &'a Yard) -> Listing<'a> {
+        let mut trees = Vec::new();
+        for links in choices(yard.links(), yard.tree_len()) {
+            if connects(yard, &links) {
+                trees.push(Plan {
+                    costs: costs(yard, &links),
+                    tree: links.iter().map(|link| link.number).collect(),
+                });
+            }
+        }
+        Listing { yard, trees }
+    }
+
+    /// All trees with their costs, in dictionary order.
+    pub fn trees(&self) -> &[Plan] {
+        &self.trees
+    }
+
+    /// Whether each present ceiling cost is at most its bound.
+    pub fn fits(&self, costs: Costs, bounds: [i16; 2]) -> bool {
+        (0..self.yard.ceilings).all(|i| costs.ceilings[i] <= bounds[i])
+    }
+
+    /// The best tree under the bounds: least sum, then first.
+    pub fn best(&self, bounds: [i16; 2]) -> Option<Plan> {
+        let fitting = |plan: &&Plan| self.fits(plan.costs, bounds);
+        // Of equal sums `min_by_key` gives the first.
+        let best = self.trees.iter().filter(fitting);
+        best.min_by_key(|plan| plan.costs.sum).copied()
+    }
+
+    /// The vectors that no other dominates, each with its first tree, in list order.
+    pub fn plans(&self) -> Vec<Plan> {
+        let beaten = |plan: &&Plan| self.trees.iter().any(|v| dominates(v.costs, plan.costs));
+        let mut plans: Vec<Plan> = self.trees.iter().filter(|p| !beaten(p)).copied().collect();
+        // A stable sort: of equal vectors the first tree stays in front.
+        plans.sort_by_key(|plan| plan.costs);
+        plans.dedup_by_key(|plan| plan.costs);
+        plans
+    }
+
+    /// The different values of a ceiling in falling order; 0 alone if it is absent.
+    pub fn values(&self, ceiling: usize) -> Vec<i16> {
+        if ceiling >= self.yard.ceilings {
+            return vec![0];
+        }
+        let links = self.yard.links().iter();
+        let mut values: Vec<i16> = links.map(|link| link.costs[ceiling]).collect();
+        values.sort();
+        values.dedup();
+        values.reverse();
+        values
+    }
+
+    /// How many positions the walk solves.
+    pub fn solved_count(&self) -> u32 {
+        let [firsts, seconds] = [0, 1].map(|ceiling| self.values(ceiling));
+        // Each mark covers the values from the bounds of a position down to these lows.
+        let mut marks: Vec<([i16; 2], [i16; 2])> = Vec::new();
+        for &first in &firsts {
+            for &second in &seconds {
+                let within = |(bounds, lows): &([i16; 2], [i16; 2])| {
+                    (lows[0]..=bounds[0]).contains(&first)
+                        && (lows[1]..=bounds[1]).contains(&second)
+                };
+                if !marks.iter().any(within) {
+                    let found = self.best([first, second]);
+                    let lows = found.map_or([i16::MIN; 2], |plan| plan.costs.ceilings);
+                    marks.push(([first, second], lows));
+                }
+            }
+        }
+        marks.len() as u32
+    }
+}
+
+/// Whether no entry of v is above that of w, and they differ.
+fn dominates(v: Costs, w: Costs) -> bool {
+    let at_most = v.ceilings.iter().zip(&w.ceilings).all(|(a, b)| a <= b);
+    v.sum <= w.sum && at_most && v != w
+}
+
+/// All ways to choose that many links, in dictionary order.
+fn choices(links: &[Link], count: usize) -> Vec<Vec<Link>> {
+    if count == 0 {
+        return vec![Vec::new()];
+    }
+    let mut all = Vec::new();
+    for (i, &first) in links.iter().enumerate() {
+        for rest in choices(&links[i + 1..], count - 1) {
+            all.push([vec![first], rest].concat());
+        }
+    }
+    all
+}
+
+/// Whether every station is reached from station 0. With t links there is then no ring.
+fn connects(yard: &Yard, links: &[Link]) -> bool {
+    let mut reached = vec![false; yard.stations];
+    reached[0] = true;
+    for _ in 0..yard.stations {
+        for link in links {
+            let [a, b] = link.ends.map(usize::from);
+            let either = reached[a] || reached[b];
+            reached[a] = either;
+            reached[b] = either;
+        }
+    }
+    !reached.contains(&false)
+}
+
+/// The sum, and each present ceiling's cost at its rank among the falling costs.
+fn costs(yard: &Yard, links: &[Link]) -> Costs {
+    let mut ceilings = [0; 2];
+    for i in 0..yard.ceilings {
+        let mut falling: Vec<i16> = links.iter().map(|link| link.costs[i]).collect();
+        falling.sort_by(|a, b| b.cmp(a));
+        ceilings[i] = falling[yard.ranks[i] - 1];
+    }
+    Costs {
+        sum: links.iter().map(|link| link.sum).sum(),
+        ceilings,
+    }
+}

@@ -1,0 +1,26 @@
+//! What the calls reply.
+
+/// Why a call declined: its number, and the place where the number has one.
+#[derive(Clone, Copy, PartialEq, Eq, Debug)]
+pub struct Refusal {
+    /// The number of the cause, 1 to 14.
+    pub number: u8,
+    /// 0 for the yard record, link number plus 1 for a link.
+    pub place: u8,
+}
+
+impl Refusal {
+    /// A refusal at place 0.
+    pub const fn whole(number: u8) -> Refusal {
+        Refusal { number, place: 0 }
+    }
+}
+
+/// A tree's cost vector. An absent ceiling's cost is 0.
+#[derive(Clone, Copy, PartialEq, Eq, PartialOrd, Ord, Debug, Default)]
+pub struct Costs {
+    /// The sum of the links' sum costs.
+    pub sum: u32,
+    /// The ceiling costs.
+    pub ceilings: [i16; 2],
+}

@@ -1,0 +1,135 @@
+//! The reader of surveys.
+
+use crate::reply::Refusal;
+
+/// The most stations of a yard.
+pub const MAX_STATIONS: usize = 24;
+/// The most links of a yard.
+pub const MAX_LINKS: usize = 40;
+/// The greatest sum cost of a link.
+pub const MAX_SUM: u32 = 1_000_000;
+/// The greatest rank of a ceiling.
+pub const MAX_RANK: u8 = 3;
+
+const YARD_MARK: [u8; 2] = [0x59, 0x44];
+const LINK_MARK: [u8; 2] = [0x4c, 0x4b];
+const YARD_BYTES: usize = 6;
+const LINK_BYTES: usize = 12;
+
+/// A link of the survey.
+#[derive(Clone, Copy, Debug, Default)]
+pub struct Link {
+    /// Its number in survey order.
+    pub number: u8,
+    /// The two stations it joins.
+    pub ends: [u8; 2],
+    /// Its sum cost.
+    pub sum: u32,
+    /// Its ceiling costs; 0 where the ceiling is absent.
+    pub costs: [i16; 2],
+}
+
+/// An accepted survey.
+#[derive(Clone, Debug)]
+pub struct Yard {
+    /// How many stations there are.
+    pub stations: usize,
+    /// How many ceilings are present.
+    pub ceilings: usize,
+    /// The rank of each ceiling; 0 where it is absent.
+    pub ranks: [usize; 2],
+    links: [Link; MAX_LINKS],
+    link_count: usize,
+}
+
+impl Yard {
+    /// Reads a survey, or gives its first refusal.
+    pub fn read(survey: &[u8]) -> Result<Yard, Refusal> {
+        let (head, rest) = survey
+            .split_first_chunk::<YARD_BYTES>()
+            .ok_or(Refusal::whole(1))?;
+        let (records, odd_bytes) = rest.as_chunks::<LINK_BYTES>();
+        if !odd_bytes.is_empty() {
+            return Err(Refusal::whole(1));
+        }
+        let mut yard = Yard::read_head(head, records.len()).map_err(Refusal::whole)?;
+        for (number, record) in records.iter().enumerate() {
+            yard.links[number] = yard
+                .read_link(number as u8, record)
+                .map_err(|cause| Refusal {
+                    number: cause,
+                    place: number as u8 + 1,
+                })?;
+        }
+        Ok(yard)
+    }
+
+    /// The links in survey order.
+    pub fn links(&self) -> &[Link] {
+        &self.links[..self.link_count]
+    }
+
+    /// How many links a tree has.
+    pub fn tree_len(&self) -> usize {
+        self.stations - 1
+    }
+
+    /// The yard without its links, or the number of the refusal.
+    fn read_head(head: &[u8; YARD_BYTES], link_count: usize) -> Result<Yard, u8> {
+        let [mark @ .., stations, ceilings, k1, k2] = *head;
+        if mark != YARD_MARK {
+            return Err(2);
+        }
+        if !(1..=MAX_STATIONS).contains(&usize::from(stations)) {
+            return Err(3);
+        }
+        if link_count > MAX_LINKS {
+            return Err(4);
+        }
+        if ceilings > 2 {
+            return Err(5);
+        }
+        if !ranks_are_legal(ceilings.into(), [k1, k2], stations - 1) {
+            return Err(6);
+        }
+        Ok(Yard {
+            stations: stations.into(),
+            ceilings: ceilings.into(),
+            ranks: [k1.into(), k2.into()],
+            links: [Link::default(); MAX_LINKS],
+            link_count,
+        })
+    }
+
+    /// One link of this yard, or the number of the refusal.
+    fn read_link(&self, number: u8, record: &[u8; LINK_BYTES]) -> Result<Link, u8> {
+        let [mark0, mark1, a, b, s0, s1, s2, s3, c0, c1, d0, d1] = *record;
+        let sum = u32::from_le_bytes([s0, s1, s2, s3]);
+        let costs = [[c0, c1], [d0, d1]].map(i16::from_le_bytes);
+        if [mark0, mark1] != LINK_MARK {
+            return Err(2);
+        }
+        if usize::from(a.max(b)) >= self.stations || a == b {
+            return Err(7);
+        }
+        if sum > MAX_SUM || costs[self.ceilings..].iter().any(|&cost| cost != 0) {
+            return Err(8);
+        }
+        Ok(Link {
+            number,
+            ends: [a, b],
+            sum,
+            costs,
+        })
+    }
+}
+
+/// Present ranks are 1 to 3 and at most `tree_len`, absent ones 0, and at most one is above 1.
+fn ranks_are_legal(ceilings: usize, ranks: [u8; 2], tree_len: u8) -> bool {
+    let (present, absent) = ranks.split_at(ceilings);
+    present
+        .iter()
+        .all(|&rank| (1..=MAX_RANK.min(tree_len)).contains(&rank))
+        && absent.iter().all(|&rank| rank == 0)
+        && ranks.iter().filter(|&&rank| rank > 1).count() <= 1
+}

@@ -1,0 +1,73 @@
+//! The planner of the radio links of bee yards, for Rust callers.
+//!
+//! The planner itself is proved and comes as an archive. [`judge`], [`best`], [`list`] and
+//! [`fetch`] are its calls on bytes: they allocate nothing and take any bytes. [`Yard`],
+//! [`Survey`], [`Plan`] and [`PlanList`] are the same calls on figures.
+//!
+//! A yard has stations and links between them. A plan is a tree: it connects all stations without
+//! a ring. Its sum is taken over its links; each of its ceiling costs is the k-th largest of that
+//! cost over its links.
+//!
+//! ```
+//! use ranqustei::{Cause, Link, Yard};
+//!
+//! let link = |a, b, sum, cost| Link { ends: [a, b], sum, costs: vec![cost] };
+//! let yard = Yard {
+//!     stations: 3,
+//!     ranks: vec![1],
+//!     links: vec![link(0, 1, 4, 7), link(1, 2, 3, 2), link(0, 2, 1, 9)],
+//! };
+//! let survey = yard.survey()?;
+//!
+//! // Every plan that no other plan beats.
+//! let plans = survey.plans()?;
+//! let lines: Vec<String> = plans.iter().map(|plan| plan.to_string()).collect();
+//! assert_eq!(lines, ["4 9 links 1 2", "7 7 links 0 1"]);
+//! assert_eq!(plans.solved(), 3);
+//!
+//! // The best plan under a bound, or a plain none.
+//! assert_eq!(survey.best([8, 0])?.to_string(), "7 7 links 0 1");
+//! assert_eq!(survey.best([6, 0]).map_err(|refusal| refusal.cause()), Err(Cause::NoTree));
+//!
+//! // The costs of a drawn plan.
+//! let drawn = survey.judge(&[0, 2])?;
+//! assert_eq!((drawn.costs.sum, drawn.ceiling_costs()), (5, vec![9]));
+//! # Ok::<(), Box<dyn std::error::Error>>(())
+//! ```
+//!
+//! The same on bytes that the caller lends:
+//!
+//! ```
+//! let survey = b"YD\x03\x01\x01\x00\
+//!     LK\x00\x01\x04\x00\x00\x00\x07\x00\x00\x00\
+//!     LK\x01\x02\x03\x00\x00\x00\x02\x00\x00\x00\
+//!     LK\x00\x02\x01\x00\x00\x00\x09\x00\x00\x00";
+//! let mut buffer = [0; 46];
+//! ranqustei::list(survey, 3, &mut buffer)?;
+//! assert_eq!(ranqustei::fetch(&buffer, 1)?, [0, 1]);
+//! assert_eq!(ranqustei::judge(survey, &[0, 2])?.sum, 5);
+//! # Ok::<(), ranqustei::Refusal>(())
+//! ```
+
+#![deny(
+    clippy::unwrap_used,
+    clippy::expect_used,
+    clippy::panic,
+    clippy::indexing_slicing
+)]
+
+#[allow(unsafe_code)]
+mod archive;
+mod plan;
+mod plan_list;
+mod record;
+mod refusal;
+mod survey;
+mod yard;
+
+pub use archive::{best, fetch, judge, list};
+pub use plan::{Costs, Plan};
+pub use plan_list::PlanList;
+pub use refusal::{Cause, Refusal};
+pub use survey::Survey;
+pub use yard::{Link, Yard, YardError};

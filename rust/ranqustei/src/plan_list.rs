@@ -1,0 +1,99 @@
+//! A list of plans, fresh from the planner or stored.
+
+use crate::record::{part, plan_len, HEAD_LEN};
+use crate::refusal::DAMAGED;
+use crate::{fetch, Cause, Costs, Plan, Refusal};
+
+/// A list of plans: its bytes, all of whose plans can be fetched.
+#[derive(Clone, PartialEq, Eq, Debug)]
+pub struct PlanList {
+    bytes: Vec<u8>,
+    len: u32,
+    solved: u32,
+    tree_links: usize,
+    ceilings: usize,
+}
+
+impl PlanList {
+    /// Takes the bytes of a list, as the list call wrote them. Bytes after the last plan are
+    /// dropped.
+    ///
+    /// # Errors
+    /// 12 if the head or a plan is damaged.
+    pub fn from_bytes(mut bytes: Vec<u8>) -> Result<PlanList, Refusal> {
+        let len = fetched(&bytes)?;
+        let [_, _, _, _, s0, s1, s2, s3, t, p] = part(&bytes, 0).ok_or(DAMAGED)?;
+        let tree_links = usize::from(t);
+        bytes.truncate(record_start(len, tree_links));
+        let solved = u32::from_le_bytes([s0, s1, s2, s3]);
+        Ok(PlanList {
+            bytes,
+            len,
+            solved,
+            tree_links,
+            ceilings: usize::from(p),
+        })
+    }
+
+    /// The number of plans.
+    pub fn len(&self) -> u32 {
+        self.len
+    }
+
+    /// Whether there is no plan: the yard has no tree.
+    pub fn is_empty(&self) -> bool {
+        self.len == 0
+    }
+
+    /// The solved count: the number of positions that the walk solved.
+    pub fn solved(&self) -> u32 {
+        self.solved
+    }
+
+    /// The plan of one number; plans are numbered from 0 by rising sum.
+    ///
+    /// # Errors
+    /// 13 if the list has no such plan.
+    pub fn get(&self, plan: u32) -> Result<Plan, Refusal> {
+        let links = fetch(&self.bytes, plan)?.to_vec();
+        let record = part(&self.bytes, record_start(plan, self.tree_links)).ok_or(DAMAGED)?;
+        let [_, _, s0, s1, s2, s3, a0, a1, b0, b1] = record;
+        let costs = Costs {
+            sum: u32::from_le_bytes([s0, s1, s2, s3]),
+            y1: i16::from_le_bytes([a0, a1]),
+            y2: i16::from_le_bytes([b0, b1]),
+        };
+        Ok(Plan {
+            costs,
+            ceilings: self.ceilings,
+            links,
+        })
+    }
+
+    /// The plans by rising number.
+    pub fn iter(&self) -> impl Iterator<Item = Plan> + '_ {
+        (0..self.len).filter_map(|plan| self.get(plan).ok())
+    }
+
+    /// The bytes of the list, without bytes after its last plan.
+    pub fn as_bytes(&self) -> &[u8] {
+        &self.bytes
+    }
+}
+
+/// The number of plans of a list, all of which can be fetched.
+fn fetched(bytes: &[u8]) -> Result<u32, Refusal> {
+    let mut len = 0;
+    loop {
+        match fetch(bytes, len) {
+            Ok(_) => len += 1,
+            Err(refusal) if refusal.cause() == Cause::PlanNumber => return Ok(len),
+            Err(refusal) => return Err(refusal),
+        }
+    }
+}
+
+/// The byte at which a plan's record starts.
+fn record_start(plan: u32, tree_links: usize) -> usize {
+    HEAD_LEN + plan as usize * plan_len(tree_links)
+}

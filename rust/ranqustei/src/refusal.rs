@@ -1,0 +1,130 @@
+//! Why the planner declines, in numbers and in words.
+
+use std::error::Error;
+use std::fmt;
+
+/// A refusal: its number, and the record that it speaks of.
+#[derive(Clone, Copy, PartialEq, Eq, Debug)]
+pub struct Refusal {
+    /// The number of the cause, 1 to 14.
+    pub number: u8,
+    /// 0 for the yard record or no record, else the link number plus 1.
+    pub place: u8,
+}
+
+/// The refusal of a damaged plan list.
+pub(crate) const DAMAGED: Refusal = Refusal {
+    number: 12,
+    place: 0,
+};
+
+/// The cause of a refusal, one case a number.
+#[derive(Clone, Copy, PartialEq, Eq, Debug)]
+pub enum Cause {
+    /// 1: the survey is not a yard record and whole link records.
+    Length,
+    /// 2: the yard or a link record does not open with its mark.
+    Mark,
+    /// 3: the stations are not 1 to 24.
+    Stations,
+    /// 4: there are over 40 links.
+    Links,
+    /// 5: there are over 2 ceilings.
+    Ceilings,
+    /// 6: a rank is against its rule.
+    Rank,
+    /// 7: a link end is no station, or both ends are equal.
+    Ends,
+    /// 8: a sum is over 1,000,000, or an absent ceiling has a cost.
+    Figures,
+    /// 9: the list buffer or the tree buffer is too short.
+    Buffer,
+    /// 10: the solved count would pass the allowance.
+    Allowance,
+    /// 11: the drawn links are no tree of the yard.
+    Drawn,
+    /// 12: the plan list is damaged.
+    Damaged,
+    /// 13: the list has no plan of this number.
+    PlanNumber,
+    /// 14: no tree fits the ceilings.
+    NoTree,
+    /// A number that the planner never gives.
+    Unknown(u8),
+}
+
+impl Refusal {
+    /// The cause that the number stands for.
+    pub fn cause(&self) -> Cause {
+        match self.number {
+            1 => Cause::Length,
+            2 => Cause::Mark,
+            3 => Cause::Stations,
+            4 => Cause::Links,
+            5 => Cause::Ceilings,
+            6 => Cause::Rank,
+            7 => Cause::Ends,
+            8 => Cause::Figures,
+            9 => Cause::Buffer,
+            10 => Cause::Allowance,
+            11 => Cause::Drawn,
+            12 => Cause::Damaged,
+            13 => Cause::PlanNumber,
+            14 => Cause::NoTree,
+            number => Cause::Unknown(number),
+        }
+    }
+
+    /// The number of the link that the refusal speaks of, if it speaks of one.
+    pub fn link(&self) -> Option<u8> {
+        self.place.checked_sub(1)
+    }
+}
+
+impl Cause {
+    /// What is wrong; for a link's record it follows the words `link e`.
+    fn words(self) -> &'static str {
+        match self {
+            Cause::Length => "a survey is 6 bytes, and then 12 bytes for each link",
+            Cause::Mark => "does not open with its mark",
+            Cause::Stations => "a yard has 1 to 24 stations",
+            Cause::Links => "a yard has at most 40 links",
+            Cause::Ceilings => "a yard has at most 2 ceilings",
+            Cause::Rank => {
+                "a rank is 1 to 3 and not above the links of a tree, \
+                 only one rank is above 1, and an absent ceiling has rank 0"
+            }
+            Cause::Ends => "joins a station that the yard does not have, or joins a station to itself",
+            Cause::Figures => "has a sum above 1,000,000, or a cost for a ceiling that the yard does not have",
+            Cause::Buffer => "the buffer is too short",
+            Cause::Allowance => "the walk would solve more positions than the allowance",
+            Cause::Drawn => {
+                "the drawn links are no tree of the yard: they must be one fewer than the stations, \
+                 rising, in the survey, and without a ring"
+            }
+            Cause::Damaged => "the plan list is damaged",
+            Cause::PlanNumber => "the list has no plan of this number",
+            Cause::NoTree => "no tree fits the ceilings",
+            Cause::Unknown(_) => "refused for an unknown cause",
+        }
+    }
+}
+
+impl fmt::Display for Refusal {
+    fn fmt(&self, f: &mut fmt::Formatter) -> fmt::Result {
+        match (self.link(), self.cause()) {
+            (Some(link), _) => write!(f, "link {link} ")?,
+            (None, Cause::Mark) => write!(f, "the yard record ")?,
+            (None, _) => {}
+        }
+        write!(
+            f,
+            "{} (number {}, place {})",
+            self.cause().words(),
+            self.number,
+            self.place
+        )
+    }
+}
+
+impl Error for Refusal {}

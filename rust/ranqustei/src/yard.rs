@@ -1,0 +1,153 @@
+//! A yard in figures, and its survey bytes.
+
+use crate::record::{part, LINK_LEN, LINK_MARK, YARD_LEN, YARD_MARK};
+use crate::{Refusal, Survey};
+use std::error::Error;
+use std::fmt;
+
+/// A yard: its stations, its ceilings and its links.
+#[derive(Clone, PartialEq, Eq, Debug)]
+pub struct Yard {
+    /// The number of stations; they are numbered from 0.
+    pub stations: u8,
+    /// The rank k of each present ceiling: its cost is the k-th largest over the links of a tree.
+    pub ranks: Vec<u8>,
+    /// The links, numbered from 0.
+    pub links: Vec<Link>,
+}
+
+/// A link between two stations.
+#[derive(Clone, PartialEq, Eq, Debug)]
+pub struct Link {
+    /// The two stations.
+    pub ends: [u8; 2],
+    /// The sum cost.
+    pub sum: u32,
+    /// The cost for each present ceiling.
+    pub costs: Vec<i16>,
+}
+
+/// Why a yard has no survey.
+#[derive(Clone, Copy, PartialEq, Eq, Debug)]
+pub enum YardError {
+    /// There are more ceilings than a survey has room for.
+    Ceilings {
+        /// The number of ranks in the yard.
+        found: usize,
+    },
+    /// A link has too few or too many ceiling costs.
+    Costs {
+        /// The link's number.
+        link: usize,
+        /// The number of ceilings of the yard.
+        needed: usize,
+        /// The number of ceiling costs of the link.
+        found: usize,
+    },
+    /// The planner refuses the survey.
+    Refused(Refusal),
+}
+
+impl fmt::Display for YardError {
+    fn fmt(&self, f: &mut fmt::Formatter) -> fmt::Result {
+        match self {
+            YardError::Ceilings { found } => {
+                write!(f, "a survey has room for 2 ceilings: found {found}")
+            }
+            YardError::Costs {
+                link,
+                needed,
+                found,
+            } => {
+                write!(
+                    f,
+                    "link {link} needs a cost for each ceiling, {needed} in all: found {found}"
+                )
+            }
+            YardError::Refused(refusal) => refusal.fmt(f),
+        }
+    }
+}
+
+impl Error for YardError {}
+
+impl Yard {
+    /// The yard's survey, accepted by the planner.
+    ///
+    /// # Errors
+    /// The figures that a survey has no room for, else the planner's refusal.
+    pub fn survey(&self) -> Result<Survey, YardError> {
+        Survey::new(self.bytes()?).map_err(YardError::Refused)
+    }
+
+    /// The number t of links of a tree.
+    pub fn tree_links(&self) -> usize {
+        usize::from(self.stations).saturating_sub(1)
+    }
+
+    fn bytes(&self) -> Result<Vec<u8>, YardError> {
+        let [k1, k2] = padded(&self.ranks).ok_or(YardError::Ceilings {
+            found: self.ranks.len(),
+        })?;
+        let ceilings = self.ranks.len() as u8;
+        let mut bytes = Vec::with_capacity(YARD_LEN + LINK_LEN * self.links.len());
+        bytes.extend(YARD_MARK);
+        bytes.extend([self.stations, ceilings, k1, k2]);
+        for (number, link) in self.links.iter().enumerate() {
+            let [c1, c2] = self.link_costs(number, link)?;
+            bytes.extend(LINK_MARK);
+            bytes.extend(link.ends);
+            bytes.extend(link.sum.to_le_bytes());
+            bytes.extend(c1.to_le_bytes());
+            bytes.extend(c2.to_le_bytes());
+        }
+        Ok(bytes)
+    }
+
+    fn link_costs(&self, number: usize, link: &Link) -> Result<[i16; 2], YardError> {
+        let (needed, found) = (self.ranks.len(), link.costs.len());
+        let costs = padded(&link.costs).filter(|_| needed == found);
+        costs.ok_or(YardError::Costs {
+            link: number,
+            needed,
+            found,
+        })
+    }
+
+    /// The yard of an accepted survey.
+    pub(crate) fn read(survey: &[u8]) -> Yard {
+        let [_, _, stations, ceilings, k1, k2] = part(survey, 0).unwrap_or_default();
+        let present = usize::from(ceilings);
+        let records = survey.get(YARD_LEN..).unwrap_or_default();
+        Yard {
+            stations,
+            ranks: [k1, k2].into_iter().take(present).collect(),
+            links: records
+                .chunks_exact(LINK_LEN)
+                .map(|record| Link::read(record, present))
+                .collect(),
+        }
+    }
+}
+
+impl Link {
+    fn read(record: &[u8], ceilings: usize) -> Link {
+        let [c1, c2] =
+            [8, 10].map(|start| i16::from_le_bytes(part(record, start).unwrap_or_default()));
+        Link {
+            ends: part(record, 2).unwrap_or_default(),
+            sum: u32::from_le_bytes(part(record, 4).unwrap_or_default()),
+            costs: [c1, c2].into_iter().take(ceilings).collect(),
+        }
+    }
+}
+
+/// The figures of two ceilings, 0 for an absent one; nothing if there are more.
+fn padded<T: Copy + Default>(figures: &[T]) -> Option<[T; 2]> {
+    match *figures {
+        [] => Some([T::default(); 2]),
+        [first] => Some([first, T::default()]),
+        [first, second] => Some([first, second]),
+        _ => None,
+    }
+}

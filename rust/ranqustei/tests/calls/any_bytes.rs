@@ -1,0 +1,116 @@
+//! Random bytes and random yards: every call replies, and figures come back as they went in.
+
+use crate::random::Random;
+use crate::samples::bytes_a;
+use ranqustei::{best, fetch, judge, list, Link, PlanList, Survey, Yard};
+
+/// Puts a survey to every call.
+fn ask(survey: Vec<u8>, random: &mut Random) {
+    let drawn = random.bytes(30);
+    let bounds = [0; 2].map(|_: u8| random.below(65_536) as u16 as i16);
+    let judged = judge(&survey, &drawn);
+    let found = best(&survey, bounds, &mut vec![0; random.below(30)]);
+    let listed = list(
+        &survey,
+        random.below(2_000) as u32,
+        &mut vec![1; random.below(2_000)],
+    );
+    match Survey::new(survey) {
+        Err(refusal) => {
+            assert!((1..=8).contains(&refusal.number));
+            assert_eq!(
+                (judged.err(), found.err(), listed.err()),
+                (Some(refusal), Some(refusal), Some(refusal))
+            );
+        }
+        Ok(survey) => {
+            let plans = survey.plans().expect("an accepted survey lists");
+            assert!(plans
+                .iter()
+                .all(|plan| survey.judge(&plan.links) == Ok(plan)));
+            assert_eq!(survey.best([i16::MAX; 2]).is_err(), plans.is_empty());
+        }
+    }
+}
+
+#[test]
+fn any_bytes_are_a_survey_or_refused() {
+    let mut random = Random(1);
+    for _ in 0..3_000 {
+        let bytes = random.bytes(200);
+        ask(bytes, &mut random);
+    }
+}
+
+#[test]
+fn surveys_with_a_few_bytes_changed() {
+    let mut random = Random(2);
+    for _ in 0..3_000 {
+        let mut bytes = bytes_a();
+        for _ in 0..random.below(4) {
+            let at = random.below(bytes.len());
+            bytes[at] = random.below(12) as u8;
+        }
+        ask(bytes, &mut random);
+    }
+}
+
+#[test]
+fn any_bytes_are_a_plan_list_or_refused() {
+    let mut random = Random(3);
+    let list = Survey::new(bytes_a())
+        .and_then(|survey| survey.plans())
+        .expect("survey A lists");
+    for round in 0..6_000 {
+        let mut bytes = if round % 2 == 0 {
+            list.as_bytes().to_vec()
+        } else {
+            random.bytes(80)
+        };
+        for _ in 0..random.below(3) {
+            let length = bytes.len().max(1);
+            if let Some(byte) = bytes.get_mut(random.below(length)) {
+                *byte = random.below(256) as u8;
+            }
+        }
+        let plan = random.below(4) as u32;
+        let fetched = fetch(&bytes, plan).map(<[u8]>::to_vec);
+        if let Ok(plans) = PlanList::from_bytes(bytes) {
+            assert_eq!(plans.get(plan).map(|plan| plan.links), fetched);
+            assert_eq!(plans.iter().count(), plans.len() as usize);
+        }
+    }
+}
+
+/// A yard whose figures may break any rule.
+fn random_yard(random: &mut Random) -> Yard {
+    let stations = random.below(26) as u8;
+    let ranks: Vec<u8> = (0..random.below(4))
+        .map(|_| random.below(3) as u8)
+        .collect();
+    let ends = usize::from(stations) + 1;
+    let mut link = || Link {
+        ends: [random.below(ends) as u8, random.below(ends) as u8],
+        sum: random.below(1_000_100) as u32,
+        costs: ranks
+            .iter()
+            .map(|_| random.below(65_536) as u16 as i16)
+            .collect(),
+    };
+    let links = (0..4).map(|_| link()).collect();
+    Yard {
+        stations,
+        ranks,
+        links,
+    }
+}
+
+#[test]
+fn yards_come_back_from_their_surveys() {
+    let mut random = Random(4);
+    let yards = (0..5_000).map(|_| random_yard(&mut random));
+    let accepted = yards.filter_map(|yard| Some((yard.survey().ok()?, yard)));
+    let accepted: Vec<_> = accepted.collect();
+    assert!(accepted.len() > 100);
+    assert!(accepted.iter().all(|(survey, yard)| survey.yard() == yard));
+}

@@ -1,0 +1,7 @@
+//! The calls of the crate, on bytes and on figures.
+
+mod any_bytes;
+mod random;
+mod refusals;
+mod samples;
+mod yards;

@@ -1,0 +1,210 @@
+//! Every refusal number: its call, its place, its cause and its sentence.
+
+use crate::samples::{bytes_a, yard_a};
+use ranqustei::{best, fetch, judge, list, Cause, Refusal};
+
+/// Holds a refusal against what document 01 and the sentences say.
+fn check(refusal: Option<Refusal>, number: u8, place: u8, cause: Cause, sentence: &str) {
+    assert_eq!(refusal, Some(Refusal { number, place }));
+    let refusal = refusal.expect("just compared");
+    assert_eq!(refusal.cause(), cause);
+    assert_eq!(refusal.link(), place.checked_sub(1));
+    assert_eq!(
+        refusal.to_string(),
+        format!("{sentence} (number {number}, place {place})")
+    );
+}
+
+/// The refusal of survey A with one byte changed.
+fn edited(at: usize, byte: u8) -> Option<Refusal> {
+    let mut survey = bytes_a();
+    survey[at] = byte;
+    let refusal = list(&survey, 9, &mut [0; 60]).err();
+    assert_eq!(judge(&survey, &[0, 1]).err(), refusal);
+    assert_eq!(best(&survey, [9, 9], &mut [0; 2]).err(), refusal);
+    refusal
+}
+
+#[test]
+fn surveys_of_a_wrong_length() {
+    let survey = bytes_a();
+    for length in [0, 5, 7, 41] {
+        let refusal = judge(&survey[..length], &[]).err();
+        check(
+            refusal,
+            1,
+            0,
+            Cause::Length,
+            "a survey is 6 bytes, and then 12 bytes for each link",
+        );
+    }
+}
+
+#[test]
+fn yard_records() {
+    check(
+        edited(0, 0),
+        2,
+        0,
+        Cause::Mark,
+        "the yard record does not open with its mark",
+    );
+    check(
+        edited(2, 0),
+        3,
+        0,
+        Cause::Stations,
+        "a yard has 1 to 24 stations",
+    );
+    check(
+        edited(3, 3),
+        5,
+        0,
+        Cause::Ceilings,
+        "a yard has at most 2 ceilings",
+    );
+    let rule = "a rank is 1 to 3 and not above the links of a tree, only one rank is above 1, \
+                and an absent ceiling has rank 0";
+    check(edited(4, 3), 6, 0, Cause::Rank, rule);
+    check(edited(5, 1), 6, 0, Cause::Rank, rule);
+}
+
+#[test]
+fn too_many_links() {
+    let mut yard = yard_a(1);
+    yard.links = yard.links.iter().cycle().take(41).cloned().collect();
+    let error = yard.survey().expect_err("41 links are refused");
+    assert_eq!(
+        error.to_string(),
+        "a yard has at most 40 links (number 4, place 0)"
+    );
+    assert_eq!(
+        Refusal {
+            number: 4,
+            place: 0
+        }
+        .cause(),
+        Cause::Links
+    );
+}
+
+#[test]
+fn link_records() {
+    check(
+        edited(19, 0),
+        2,
+        2,
+        Cause::Mark,
+        "link 1 does not open with its mark",
+    );
+    let ends = "joins a station that the yard does not have, or joins a station to itself";
+    check(edited(32, 3), 7, 3, Cause::Ends, &format!("link 2 {ends}"));
+    check(edited(8, 1), 7, 1, Cause::Ends, &format!("link 0 {ends}"));
+    let figures = "has a sum above 1,000,000, or a cost for a ceiling that the yard does not have";
+    check(
+        edited(13, 1),
+        8,
+        1,
+        Cause::Figures,
+        &format!("link 0 {figures}"),
+    );
+    check(
+        edited(28, 1),
+        8,
+        2,
+        Cause::Figures,
+        &format!("link 1 {figures}"),
+    );
+}
+
+#[test]
+fn buffers_and_allowance() {
+    let survey = bytes_a();
+    let mut buffer = [7; 46];
+    check(
+        list(&survey, 9, &mut buffer[..45]).err(),
+        9,
+        0,
+        Cause::Buffer,
+        "the buffer is too short",
+    );
+    check(
+        best(&survey, [9, 9], &mut [0]).err(),
+        9,
+        0,
+        Cause::Buffer,
+        "the buffer is too short",
+    );
+    assert_eq!(buffer, [7; 46]);
+    let words = "the walk would solve more positions than the allowance";
+    check(
+        list(&survey, 2, &mut buffer).err(),
+        10,
+        0,
+        Cause::Allowance,
+        words,
+    );
+    assert_eq!(buffer, [0; 46]);
+}
+
+#[test]
+fn drawn_links_and_bounds() {
+    let survey = bytes_a();
+    let words =
+        "the drawn links are no tree of the yard: they must be one fewer than the stations, \
+                 rising, in the survey, and without a ring";
+    for drawn in [&[][..], &[0], &[0, 1, 2], &[1, 0], &[1, 1], &[0, 3]] {
+        check(judge(&survey, drawn).err(), 11, 0, Cause::Drawn, words);
+    }
+    let mut tree = [7; 3];
+    check(
+        best(&survey, [6, 0], &mut tree).err(),
+        14,
+        0,
+        Cause::NoTree,
+        "no tree fits the ceilings",
+    );
+    assert_eq!(tree, [7; 3]);
+}
+
+#[test]
+fn plan_lists() {
+    let mut stored = [0; 46];
+    assert_eq!(list(&bytes_a(), 3, &mut stored), Ok(()));
+    let damaged = |list: &[u8], plan| {
+        check(
+            fetch(list, plan).err(),
+            12,
+            0,
+            Cause::Damaged,
+            "the plan list is damaged",
+        );
+    };
+    check(
+        fetch(&stored, 2).err(),
+        13,
+        0,
+        Cause::PlanNumber,
+        "the list has no plan of this number",
+    );
+    damaged(&stored[..33], 0);
+    damaged(&[], 0);
+    stored[22] = 0;
+    assert_eq!(fetch(&stored, 0), Ok(&[1, 2][..]));
+    damaged(&stored, 1);
+}
+
+#[test]
+fn numbers_that_the_planner_never_gives() {
+    for number in [0, 15, 255] {
+        assert_eq!(Refusal { number, place: 0 }.cause(), Cause::Unknown(number));
+    }
+    let refusal = Refusal {
+        number: 15,
+        place: 2,
+    };
+    assert_eq!(
+        refusal.to_string(),
+        "link 1 refused for an unknown cause (number 15, place 2)"
+    );
+}

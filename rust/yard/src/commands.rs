@@ -1,0 +1,140 @@
+//! The commands of the tool, each from its operands to its result.
+
+use crate::chart::chart;
+use crate::drawing::draw;
+use crate::failure::Failure;
+use crate::figures::counted;
+use crate::files::{named, read_list, read_survey, shown};
+use crate::table::table;
+use crate::text;
+use crate::words::{number, Words};
+use ranqustei::{fetch, Plan, Refusal, Survey};
+use std::ffi::{OsStr, OsString};
+use std::io::Read;
+
+/// The commands and what they take.
+const COMMANDS: [(&str, &str); 9] = [
+    ("plans", "YARD"),
+    ("best", "YARD BOUND..."),
+    ("judge", "YARD LINK..."),
+    ("text", "YARD"),
+    ("survey", "YARD"),
+    ("list", "YARD"),
+    ("fetch", "FILE.list PLAN"),
+    ("draw", "YARD [--plan PLAN]"),
+    ("frontier", "YARD"),
+];
+
+/// The result of a command.
+pub fn answer(command: &OsStr, words: &Words, input: &mut dyn Read) -> Result<Vec<u8>, Failure> {
+    let known = COMMANDS.iter().find(|(name, _)| command == *name);
+    let Some(&(command, takes)) = known else {
+        return Err(Failure::usage(format!(
+            "`{}` is no command",
+            command.display()
+        )));
+    };
+    let wrong = || {
+        Err(Failure::usage(format!(
+            "the command is `yard {command} {takes} [-o FILE]`"
+        )))
+    };
+    let [file, rest @ ..] = words.operands.as_slice() else {
+        return wrong();
+    };
+    match (command, rest, words.plan) {
+        ("fetch", [plan], None) => fetched(file, plan, input),
+        ("draw", [], plan) => drawn(file, &read_survey(file, input)?, plan),
+        ("best", bounds, None) => best(file, &read_survey(file, input)?, bounds),
+        ("judge", links, None) => judge(file, &read_survey(file, input)?, links),
+        ("plans", [], None) => plans(file, &read_survey(file, input)?),
+        ("text", [], None) => Ok(text::write(read_survey(file, input)?.yard()).into_bytes()),
+        ("survey", [], None) => Ok(read_survey(file, input)?.as_bytes().to_vec()),
+        ("list", [], None) => list(file, &read_survey(file, input)?),
+        ("frontier", [], None) => frontier(file, &read_survey(file, input)?),
+        _ => wrong(),
+    }
+}
+
+/// A refusal that speaks of a file.
+fn refused(file: &OsStr) -> impl Fn(Refusal) -> Failure + '_ {
+    move |refusal| named(file, refusal)
+}
+
+fn plans(file: &OsStr, survey: &Survey) -> Result<Vec<u8>, Failure> {
+    let list = survey.plans().map_err(refused(file))?;
+    let plans: Vec<Plan> = list.iter().collect();
+    let mut answer = if plans.is_empty() {
+        String::new()
+    } else {
+        table(survey.yard(), &plans, true)
+    };
+    let solved = counted(list.solved() as usize, "position");
+    answer += &format!("{}, {solved} solved\n", counted(plans.len(), "plan"));
+    Ok(answer.into_bytes())
+}
+
+fn list(file: &OsStr, survey: &Survey) -> Result<Vec<u8>, Failure> {
+    Ok(survey.plans().map_err(refused(file))?.as_bytes().to_vec())
+}
+
+fn fetched(file: &OsStr, plan: &OsStr, input: &mut dyn Read) -> Result<Vec<u8>, Failure> {
+    let plan = number(plan, "plan number")?;
+    let list = read_list(file, input)?;
+    let links = fetch(&list, plan).map_err(refused(file))?;
+    let links: Vec<String> = links.iter().map(u8::to_string).collect();
+    Ok((links.join(" ") + "\n").into_bytes())
+}
+
+fn best(file: &OsStr, survey: &Survey, words: &[OsString]) -> Result<Vec<u8>, Failure> {
+    let ceilings = survey.yard().ranks.len();
+    if words.len() != ceilings {
+        let (ceilings, bounds) = (counted(ceilings, "ceiling"), counted(words.len(), "bound"));
+        return Err(Failure::usage(format!(
+            "{}: the yard has {ceilings}: found {bounds}",
+            shown(file)
+        )));
+    }
+    let mut bounds = [0; 2];
+    for (bound, word) in bounds.iter_mut().zip(words) {
+        *bound = number(word, "bound, a number from -32768 to 32767")?;
+    }
+    let plan = survey.best(bounds).map_err(refused(file))?;
+    Ok(table(survey.yard(), &[plan], false).into_bytes())
+}
+
+fn judge(file: &OsStr, survey: &Survey, words: &[OsString]) -> Result<Vec<u8>, Failure> {
+    let links = words.iter().map(|word| number(word, "link number"));
+    let links: Vec<u8> = links.collect::<Result<_, _>>()?;
+    let plan = survey.judge(&links).map_err(refused(file))?;
+    Ok(table(survey.yard(), &[plan], false).into_bytes())
+}
+
+fn drawn(file: &OsStr, survey: &Survey, number: Option<u32>) -> Result<Vec<u8>, Failure> {
+    let yard = survey.yard();
+    let Some(number) = number else {
+        return Ok(draw(yard, None).into_bytes());
+    };
+    let plan = survey
+        .plans()
+        .and_then(|list| list.get(number))
+        .map_err(refused(file))?;
+    Ok(draw(yard, Some((number, &plan))).into_bytes())
+}
+
+fn frontier(file: &OsStr, survey: &Survey) -> Result<Vec<u8>, Failure> {
+    if survey.yard().ranks.is_empty() {
+        return Err(named(
+            file,
+            "the yard has no ceiling: it has one plan at most, and there is no frontier to draw",
+        ));
+    }
+    let plans: Vec<Plan> = survey.plans().map_err(refused(file))?.iter().collect();
+    if plans.is_empty() {
+        return Err(named(
+            file,
+            "no tree connects the stations: there is no plan to draw",
+        ));
+    }
+    Ok(chart(survey.yard(), &plans).into_bytes())
+}

@@ -1,0 +1,77 @@
+//! Reading files by the ending of their names.
+
+use crate::failure::Failure;
+use crate::text;
+use ranqustei::Survey;
+use std::ffi::OsStr;
+use std::fmt::Display;
+use std::fs::File;
+use std::io::{self, Read};
+
+/// More bytes than this are neither a yard nor a plan list.
+const LONGEST: u64 = 1 << 20;
+
+/// The survey of a yard: a `.survey` file holds its bytes, any other name but `.list` its text.
+pub fn read_survey(name: &OsStr, input: &mut dyn Read) -> Result<Survey, Failure> {
+    if has_ending(name, ".list") {
+        return Err(named(
+            name,
+            "a yard is needed here, and this name is that of a plan list",
+        ));
+    }
+    let bytes = read(name, input)?;
+    if has_ending(name, ".survey") {
+        return Survey::new(bytes).map_err(|refusal| named(name, refusal));
+    }
+    text::read(&bytes).map_err(|error| {
+        let (line, message) = (error.line, error.message);
+        Failure::input(format!("{}:{line}: {message}", shown(name)))
+    })
+}
+
+/// The bytes of a plan list, from a `.list` file.
+pub fn read_list(name: &OsStr, input: &mut dyn Read) -> Result<Vec<u8>, Failure> {
+    if has_ending(name, ".list") {
+        read(name, input)
+    } else {
+        Err(named(name, "the name of a plan list ends in .list"))
+    }
+}
+
+/// A failure about a file.
+pub fn named(name: &OsStr, message: impl Display) -> Failure {
+    Failure::input(format!("{}: {message}", shown(name)))
+}
+
+/// A file's name for messages.
+pub fn shown(name: &OsStr) -> impl Display + '_ {
+    let is_input = name == "-";
+    let shown = if is_input {
+        OsStr::new("standard input")
+    } else {
+        name
+    };
+    shown.display()
+}
+
+fn has_ending(name: &OsStr, ending: &str) -> bool {
+    name.as_encoded_bytes().ends_with(ending.as_bytes())
+}
+
+fn read(name: &OsStr, input: &mut dyn Read) -> Result<Vec<u8>, Failure> {
+    let mut bytes = Vec::new();
+    let result = match name.to_str() {
+        Some("-") => read_some(input, &mut bytes),
+        _ => File::open(name).and_then(|mut file| read_some(&mut file, &mut bytes)),
+    };
+    result.map_err(|error| named(name, error))?;
+    if bytes.len() as u64 > LONGEST {
+        return Err(named(name, "the file is too long"));
+    }
+    Ok(bytes)
+}
+
+/// Reads one byte more than the longest file may have, at most.
+fn read_some(source: &mut dyn Read, bytes: &mut Vec<u8>) -> io::Result<usize> {
+    source.take(LONGEST + 1).read_to_end(bytes)
+}

@@ -1,0 +1,53 @@
+//! The words of the command line: operands and options.
+
+use crate::failure::Failure;
+use std::ffi::{OsStr, OsString};
+use std::str::FromStr;
+
+/// The words after the command.
+#[derive(Default)]
+pub struct Words {
+    /// The words that are no options.
+    pub operands: Vec<OsString>,
+    /// The file of `-o`.
+    pub output: Option<OsString>,
+    /// The plan number of `--plan`.
+    pub plan: Option<u32>,
+}
+
+impl Words {
+    /// Sorts the words into operands and options.
+    pub fn sort(words: impl IntoIterator<Item = OsString>) -> Result<Words, Failure> {
+        let mut sorted = Words::default();
+        let mut words = words.into_iter();
+        while let Some(word) = words.next() {
+            match word.to_str() {
+                Some("-o") => sorted.output = Some(value(&word, words.next())?),
+                Some("--plan") => {
+                    sorted.plan = Some(number(&value(&word, words.next())?, "plan number")?)
+                }
+                Some(text) if is_option(text) => {
+                    return Err(Failure::usage(format!("`{text}` is no option")))
+                }
+                _ => sorted.operands.push(word),
+            }
+        }
+        Ok(sorted)
+    }
+}
+
+/// Whether a word is an option: neither `-` alone nor a negative number.
+fn is_option(word: &str) -> bool {
+    word.strip_prefix('-')
+        .is_some_and(|rest| !rest.is_empty() && !rest.starts_with(|c: char| c.is_ascii_digit()))
+}
+
+fn value(option: &OsStr, word: Option<OsString>) -> Result<OsString, Failure> {
+    word.ok_or_else(|| Failure::usage(format!("`{}` needs a word after it", option.display())))
+}
+
+/// A number of the command line.
+pub fn number<T: FromStr>(word: &OsStr, what: &str) -> Result<T, Failure> {
+    let parsed = word.to_str().and_then(|text| text.parse().ok());
+    parsed.ok_or_else(|| Failure::usage(format!("`{}` is no {what}", word.display())))
+}

@@ -1,0 +1,89 @@
+//! Random text, bytes and words: the tool answers or says what is wrong.
+
+use crate::random::Random;
+use crate::tool::{run_bytes, scratch};
+
+const COMMANDS: [&str; 9] = [
+    "plans", "best", "judge", "text", "survey", "list", "fetch", "draw", "frontier",
+];
+const WORDS: [&str; 18] = [
+    "stations", "ceilings", "0", "1", "2", "3", "24", "-1", "255", "1000001", "32768", "#", "\n",
+    "\n", "–", "x", "\t", "\r\n",
+];
+
+/// Runs a command; a failure has a sentence and status 1 or 2.
+fn answers(words: &[&str], input: &[u8]) -> bool {
+    match run_bytes(words, input) {
+        Ok(_) => true,
+        Err((status, message)) => {
+            assert!((1..=2).contains(&status) && !message.is_empty());
+            false
+        }
+    }
+}
+
+/// A text of random words, often with a good head.
+fn random_text(random: &mut Random) -> String {
+    let mut text = if random.below(2) == 0 {
+        "stations 3 ceilings 1\n"
+    } else {
+        ""
+    }
+    .to_string();
+    for _ in 0..random.below(24) {
+        text += WORDS[random.below(WORDS.len())];
+        text += if random.below(4) == 0 { "\n" } else { " " };
+    }
+    text
+}
+
+#[test]
+fn any_text() {
+    let mut random = Random(5);
+    let mut answered = 0;
+    for _ in 0..4_000 {
+        let text = random_text(&mut random);
+        let command = COMMANDS[random.below(COMMANDS.len())];
+        answered += usize::from(answers(&[command, "-"], text.as_bytes()));
+        let bytes = random.bytes(60);
+        answers(&[command, "-"], &bytes);
+    }
+    assert!(answered > 20);
+}
+
+#[test]
+fn any_words() {
+    let mut random = Random(6);
+    let words = [
+        "-o", "--plan", "-", "0", "1", "-5", "300", "help", "", "--", "–", "x.list", "x.survey",
+    ];
+    for _ in 0..4_000 {
+        let command = COMMANDS[random.below(COMMANDS.len())];
+        let rest = (0..random.below(5)).map(|_| words[random.below(words.len())]);
+        let line: Vec<&str> = [command].into_iter().chain(rest).collect();
+        answers(&line, b"stations 3 ceilings 1\n0 1 4 7\n1 2 3 2\n0 2 1 9\n");
+    }
+}
+
+#[test]
+fn any_bytes_in_files() {
+    let mut random = Random(7);
+    let good = run_bytes(
+        &["survey", "-"],
+        "stations 3 ceilings 1\n0 1 4 7\n1 2 3 2\n0 2 1 9\n",
+    );
+    let good = good.expect("survey A is accepted");
+    for _ in 0..300 {
+        let mut bytes = good.clone();
+        for _ in 0..random.below(3) {
+            let at = random.below(bytes.len());
+            bytes[at] = random.below(16) as u8;
+        }
+        let survey = scratch("any.survey", &bytes);
+        let list = scratch("any.list", random.bytes(60));
+        for command in COMMANDS {
+            answers(&[command, &survey], b"");
+        }
+        answers(&["fetch", &list, "0"], b"");
+    }
+}

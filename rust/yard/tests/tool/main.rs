@@ -1,0 +1,11 @@
+//! The tool: its commands, its files, its pictures.
+
+mod any_input;
+mod commands;
+mod pictures;
+mod process;
+#[path = "../../../ranqustei/tests/calls/random.rs"]
+mod random;
+mod readme;
+mod tool;
+mod yard_text;

@@ -1,0 +1,69 @@
+//! The program itself: exit status, standard streams, files.
+
+use crate::tool::{scratch, text_a};
+use std::io::Write;
+use std::process::{Command, Output, Stdio};
+
+/// Starts the program.
+fn program(words: &[&str]) -> Command {
+    let mut command = Command::new(env!("CARGO_BIN_EXE_yard"));
+    command
+        .args(words)
+        .stdin(Stdio::piped())
+        .stdout(Stdio::piped())
+        .stderr(Stdio::piped());
+    command
+}
+
+/// Runs the program to its end on survey A.
+fn on_a(words: &[&str]) -> Output {
+    let mut child = program(words).spawn().expect("the program starts");
+    let mut input = child.stdin.take().expect("its input is piped");
+    // A program that needs no input may have ended already.
+    let _ = input.write_all(text_a().as_bytes());
+    drop(input);
+    child.wait_with_output().expect("the program ends")
+}
+
+#[test]
+fn statuses_and_streams() {
+    let fine = on_a(&["judge", "-", "0", "2"]);
+    assert_eq!((fine.status.code(), fine.stderr.len()), (Some(0), 0));
+    assert!(fine.stdout.starts_with(b"sum  ceiling 1  links\n"));
+    let refused = on_a(&["best", "-", "6"]);
+    assert_eq!((refused.status.code(), refused.stdout.len()), (Some(1), 0));
+    assert_eq!(
+        refused.stderr,
+        b"standard input: no tree fits the ceilings (number 14, place 0)\n"
+    );
+    let misused = on_a(&["best"]);
+    assert_eq!((misused.status.code(), misused.stdout.len()), (Some(2), 0));
+    assert_eq!(on_a(&["help"]).stdout, yard::HELP.as_bytes());
+}
+
+#[test]
+fn results_go_to_the_named_file() {
+    let file = scratch("result.survey", "");
+    let output = on_a(&["survey", "-", "-o", &file]);
+    assert_eq!((output.status.code(), output.stdout.len()), (Some(0), 0));
+    assert_eq!(
+        std::fs::read(&file).ok(),
+        Some(on_a(&["survey", "-"]).stdout)
+    );
+    let nowhere = on_a(&["plans", "-", "-o", "no/such/folder"]);
+    assert_eq!(nowhere.status.code(), Some(1));
+    assert!(nowhere.stderr.starts_with(b"no/such/folder: "));
+}
+
+#[test]
+fn a_closed_pipe_is_no_failure() {
+    let mut child = program(&["draw", "-"]).spawn().expect("the program starts");
+    drop(child.stdout.take());
+    let mut input = child.stdin.take().expect("its input is piped");
+    input
+        .write_all(text_a().as_bytes())
+        .expect("the program reads its input");
+    drop(input);
+    let output = child.wait_with_output().expect("the program ends");
+    assert_eq!((output.status.code(), output.stderr.len()), (Some(0), 0));
+}

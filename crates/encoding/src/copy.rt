@@ -17,7 +17,7 @@ pub fn copy_in(out: &mut [u8], at: usize, src: &[u8])
     }
 }
 
-// Writes the n bytes from index `from` at an index `to` that is no higher. Most are where they belong already, and cost nothing.
+// Writes the n bytes from index `from` at an index `to` that is no higher; bytes that stand there already are left alone.
 pub fn move_down(out: &mut [u8], from: usize, to: usize, n: usize)
     requires { ⌜ (to ≤ from) × (from + n ≤ length (now out)) ⌝ }
     ensures { λ _. ⌜ now (out .exit) ≡ overwrite (now (out .entry)) to (take n (drop from (now (out .entry)))) ⌝ }

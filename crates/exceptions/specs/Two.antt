@@ -1,14 +1,14 @@
 -- The two ceilings of a network as the program has them. An absent one has rank 1 and no link above it, and so it changes nothing.
 use Prim.Native.Nat.{ℕ, zero, suc, _+_, _*_, _≤_, _<_}
-use mathlib.Core.Bool.{Bool, cond, false, not, _&&_, _||_}
+use mathlib.Core.Bool.{Bool, and-false, cond, false, true, not, _&&_, _||_}
 use mathlib.Core.List.{List, [], _∷_, map}
 use mathlib.Core.Path.{_≡_, refl, ap, ap₂, _∙_}
 use native.Mathlib.Omega.{arith}
-use borrow.Author.Tests.{lt-ltb, ltb-false}
+use borrow.Author.Tests.{eq-eqb, lt-ltb, ltb-false, ltb-true}
 use lib.Dec.{eqb, leb, ltb}
 use lib.IntN.{ℤ, pos}
 use lib.ListN.{getD, length, length-take, take}
-use Rattle.order.specs.Test.{by-test}
+use Rattle.order.specs.Test.{by-test, left, right}
 use Rattle.order.specs.Lists.{_∈_, count-map, count-none, filter}
 use Rattle.order.specs.Order.{orderℤ}
 use Rattle.kmax.specs.KMax.{above, countAbove}
@@ -21,7 +21,7 @@ use Rattle.network.specs.Accepted.{or-false}
 use Rattle.network.specs.Yard.{bounds, ceilingCost, graph, ranks}
 use Rattle.network.specs.NetworkFine.{NetworkFine}
 use Rattle.network.specs.declared.Network.{Network}
-use Rattle.exceptions.specs.Ceilings.{Flagged, admitted, admitted-flagged, flagOf, flagged, normal, normal-flagged}
+use Rattle.exceptions.specs.Ceilings.{Flagged, admitted, admitted-flagged, exception, flagOf, flagged, normal, normal-flagged}
 
 abbrev pub two : ℕ → List ℕ → ℕ → List ℕ → List Flagged
 two r v s w = record { rank = r; above = v } ∷ record { rank = s; above = w } ∷ []
@@ -43,6 +43,21 @@ free-normal r s v w l = refl
 pub none-admitted : (r s : ℕ) (v w : List ℕ) → ltb 0 r && ltb 0 s ≡ admitted (two r v s w) []
 unfolding admitted
 none-admitted r s v w = refl
+
+-- there are no exceptions where no rank is above 1
+none-excepted : (r s : ℕ) (v w : List ℕ) (e : ℕ) → r < 2 → s < 2 → exception (two r v s w) e ≡ false
+unfolding exception normal admitted
+none-excepted r s v w e hr hs =
+    let x = getD v e 0 in
+    let y = getD w e 0 in
+    by-test (ltb x r && ltb y s)
+    (λ t. rw (eq-eqb x 0 (omega (arith, ltb-true x r (left (ltb x r) (ltb y s) t))), eq-eqb y 0 (omega (arith, ltb-true y s (right (ltb x r) (ltb y s) t)))))
+    (λ t. rw t (and-false (not (normal (two r v s w) e))))
+
+pub no-exceptions : (r s : ℕ) (v w l : List ℕ) → ltb r 2 && ltb s 2 ≡ true → [] ≡ filter (exception (two r v s w)) l
+no-exceptions r s v w [] low = refl
+no-exceptions r s v w (e ∷ l) low =
+    rw (none-excepted r s v w e (ltb-true r 2 (left (ltb r 2) (ltb s 2) low)) (ltb-true s 2 (right (ltb r 2) (ltb s 2) low))) (no-exceptions r s v w l low)
 
 -- the flags of ceiling j with a bound, from the costs of all links
 unfoldable pub aboveFlags : List ℤ → ℕ → Bool → ℤ → List ℕ

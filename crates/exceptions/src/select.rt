@@ -23,13 +23,16 @@ pub fn normal_links(sums: &[u32], order: &[u8], v: &[u8], w: &[u8]) -> Links
     Links { link, count: n }
 }
 
-// The exceptions of an order.
+// The exceptions of an order: there are none where no rank is above 1.
 pub fn exceptions(sums: &[u32], order: &[u8], v: &[u8], w: &[u8], r: u8, s: u8) -> Links
     requires { ⌜ Walkable (now sums) (now order) × FlagsSize (now v) (now w) ⌝ }
     ensures { λ q. ⌜ Holding (filter (exception (two r (now (v .entry)) s (now (w .entry)))) (now (order .entry))) q ⌝ }
 {
     let mut link = [0u8; 40];
     let mut n: usize = 0;
+    if (r < 2) & (s < 2) {
+        return Links { link, count: n };
+    }
     for k in 0..order.len() {
         let e = order[k];
         link[n] = e;

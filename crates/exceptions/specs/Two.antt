@@ -1,18 +1,20 @@
 -- The two ceilings of a network as the program has them. An absent one has rank 1 and no link above it, and so it changes nothing.
 use Prim.Native.Nat.{ℕ, zero, suc, _+_, _*_, _≤_, _<_}
 use mathlib.Core.Bool.{Bool, and-false, cond, false, true, not, _&&_, _||_}
-use mathlib.Core.List.{List, [], _∷_, map}
-use mathlib.Core.Path.{_≡_, refl, ap, ap₂, _∙_}
+use mathlib.Core.List.{List, [], _∷_, map, List·Memᴰ·cases-cons, List·Memᴰ·eq-of-singleton}
+use mathlib.Core.Logic.{_⊎_, inl, inr}
+use mathlib.Core.Path.{_≡_, refl, sym, ap, ap₂, _∙_}
 use native.Mathlib.Omega.{arith}
 use borrow.Author.Tests.{eq-eqb, lt-ltb, ltb-false, ltb-true}
 use lib.Dec.{eqb, leb, ltb}
 use lib.IntN.{ℤ, pos}
 use lib.ListN.{getD, length, length-take, take}
-use Rattle.order.specs.Test.{by-test, left, right}
+use Rattle.order.specs.Test.{both, by-test, clash, left, right}
 use Rattle.order.specs.Lists.{_∈_, count-map, count-none, filter}
 use Rattle.order.specs.Order.{orderℤ}
 use Rattle.kmax.specs.KMax.{above, countAbove}
 use Rattle.kmax.specs.Ceilings.{Ceiling, admissible, ceilings, exceptional, slackOf}
+use Rattle.kmax.specs.Pattern.{OneAbove}
 use Rattle.planning.specs.Graph.{under}
 use Rattle.network.specs.Limits.{maxCeilings, maxLinks, maxRank}
 use Rattle.network.specs.Column.{column, column-length}
@@ -169,3 +171,29 @@ few-exceptions n (suc (suc (suc p))) (k1 ∷ k2 ∷ []) h l e = absurd (omega ar
 
 pub two-few : (net : Network) → NetworkFine net → slackOf (ranks net) ≤ 2
 two-few net fine = few-exceptions (net .n) (net .p) (net .k) (fine .few-ceilings) (fine .lengths .0) (fine .ranks)
+
+-- ---- the ranks' rule: at most one rank is above 1
+
+not-both : (a b : Ceiling ℤ) → (1 < a .rank → 1 < b .rank → ⊥) → OneAbove (a ∷ b ∷ [])
+not-both a b h c d i j f g = go (List·Memᴰ·cases-cons i) (List·Memᴰ·cases-cons j)
+  where
+    go : (c ≡ a) ⊎ (c ∈ b ∷ []) → (d ≡ a) ⊎ (d ∈ b ∷ []) → c ≡ d
+    go (inl q) (inl r) = q ∙ sym r
+    go (inl q) (inr r) = absurd (h (rw q at f) (rw (List·Memᴰ·eq-of-singleton r) at g))
+    go (inr q) (inl r) = absurd (h (rw r at g) (rw (List·Memᴰ·eq-of-singleton q) at f))
+    go (inr q) (inr r) = List·Memᴰ·eq-of-singleton q ∙ sym (List·Memᴰ·eq-of-singleton r)
+
+one-above : (n p : ℕ) (k : List ℕ) (cost : ℕ → ℕ → ℤ) (b1 b2 : ℤ) → p ≤ 2 → length k ≡ 2 → badRanks n p (getD k 0 0) (getD k 1 0) ≡ false
+    → OneAbove (ceilings cost 0 (take p k) (take p (b1 ∷ b2 ∷ [])))
+one-above n p [] cost b1 b2 h l e = absurd (omega arith)
+one-above n p (k1 ∷ []) cost b1 b2 h l e = absurd (omega arith)
+one-above n p (k1 ∷ k2 ∷ k3 ∷ k) cost b1 b2 h l e = absurd (omega arith)
+one-above n zero (k1 ∷ k2 ∷ []) cost b1 b2 h l e = λ c d i. elim i [ ]
+one-above n (suc zero) (k1 ∷ k2 ∷ []) cost b1 b2 h l e = λ c d i j f g. List·Memᴰ·eq-of-singleton i ∙ sym (List·Memᴰ·eq-of-singleton j)
+one-above n (suc (suc zero)) (k1 ∷ k2 ∷ []) cost b1 b2 h l e =
+    not-both (record { rank = k1; bound = b1; cost = cost 0 }) (record { rank = k2; bound = b2; cost = cost 1 })
+    (λ u v. clash (both (lt-ltb 1 k1 u) (lt-ltb 1 k2 v)) (or-false (badRank n 2 0 k1 || badRank n 2 1 k2) (ltb 1 k1 && ltb 1 k2) e .1))
+one-above n (suc (suc (suc p))) (k1 ∷ k2 ∷ []) cost b1 b2 h l e = absurd (omega arith)
+
+pub two-one : (net : Network) → NetworkFine net → (b1 b2 : ℤ) → OneAbove (under (graph net) (bounds net b1 b2))
+two-one net fine b1 b2 = one-above (net .n) (net .p) (net .k) (ceilingCost net) b1 b2 (fine .few-ceilings) (fine .lengths .0) (fine .ranks)

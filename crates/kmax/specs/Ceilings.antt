@@ -79,11 +79,22 @@ module _ {C : Type 0} (O : TotalOrder C) (d : C) where
       ∙ count-filter (exceeds O c) (exceptional O cs) (λ e h. mem-any (λ c. exceeds O c e) m h) ts
       ∙ sym (count-map (above O (c .bound)) (c .cost) ts)
 
+  -- a tree fits where fewer than `rank` of its edges exceed each ceiling
+  meets-counted : (cs : List (Ceiling C)) (ts : List ℕ) → Ranked cs (length ts) → meets O cs d ts ≡ admissible O cs ts
+  meets-counted cs ts R =
+      all-ext _ _ cs (λ c m. let r = ceiling-count c ts (R c m .0) (R c m .1) in
+      test-iff _ _ (λ e. lt-ltb _ _ (r .0 e), λ e. r .1 (ltb-true _ _ e)))
+
   pub meets-admissible : (cs : List (Ceiling C)) (ts : List ℕ) → Ranked cs (length ts) → meets O cs d ts ≡ admissible O cs (filter (exceptional O cs) ts)
-  meets-admissible cs ts R =
-      all-ext _ _ cs (λ c m. rw (exceptions-count cs c m ts)
-      (let r = ceiling-count c ts (R c m .0) (R c m .1) in
-      test-iff _ _ (λ e. lt-ltb _ _ (r .0 e), λ e. r .1 (ltb-true _ _ e))))
+  meets-admissible cs ts R = meets-counted cs ts R ∙ all-ext _ _ cs (λ c m. rw (exceptions-count cs c m ts))
+
+  -- two trees of which as many edges exceed each ceiling fit alike
+  pub meets-alike : (cs : List (Ceiling C)) (ts us : List ℕ) → Ranked cs (length ts) → Ranked cs (length us)
+      → ((c : Ceiling C) → c ∈ cs → count (exceeds O c) us ≡ count (exceeds O c) ts) → meets O cs d us ≡ meets O cs d ts
+  meets-alike cs ts us R Q h =
+      meets-counted cs us Q
+      ∙ all-ext _ _ cs (λ c m. rw (count-map (above O (c .bound)) (c .cost) us, count-map (above O (c .bound)) (c .cost) ts, h c m))
+      ∙ sym (meets-counted cs ts R)
 
   -- ---- a tree that fits has few exceptional edges
 

@@ -1,7 +1,7 @@
 -- A set of exceptional links, completed by Kruskal's method over the normal links, is the best tree with these exceptional links: what the search
 -- of `kmax` asks of a completion. Assumes nothing.
 use mathlib.Core.Bool.{Bool, true, false, _&&_, not}
-use mathlib.Core.List.{List, map, _++_, List·Memᴰ·append-cases, Memᴰ·append-left, Sublistᴰ}
+use mathlib.Core.List.{List, map, List·Memᴰ·append-cases, Memᴰ·append-left, Sublistᴰ}
 use mathlib.Core.Logic.{_↔_, ⊎-elim}
 use mathlib.Core.Option.{some, Option·some-injective, Option·none-ne-some}
 use mathlib.Core.Path.{_≡_, sym, subst}
@@ -13,7 +13,7 @@ use lib.ListN.{length}
 use borrow.Author.Tests.{not-true, eqb-true, eq-eqb}
 use Rattle.order.specs.Test.{by-test, clash, left, right}
 use Rattle.order.specs.Lists.{_∈_, _⊆_, filter, filter-mem, mem-filter, sublist-⊆}
-use Rattle.order.specs.Perm.{Perm, pairwise-filter, perm-split, perm-sym, perm-⊆}
+use Rattle.order.specs.Perm.{pairwise-filter, perm-split}
 use Rattle.order.specs.Order.{Less, dictionary, orderℕ, orderℤ, pairLe, pairs}
 use Rattle.order.specs.Sorted.{Sorted, ascending, mem-numbers, mem-sort, numbers-mem, numbers-rising, rising-unique, sort-mem, sort-rising, sort-sorted, sublist-rising}
 use Rattle.order.specs.Least.{ranked}
@@ -26,6 +26,10 @@ use Rattle.spanning.specs.Listing.{ascending-listed, listing-iff, spanningTrees
 use Rattle.kmax.specs.Ceilings.{exceptional}
 use Rattle.kmax.specs.Search.{Completes}
 use Rattle.planning.specs.Graph.{Graph, Sound, completed, links, normals, total, under}
+
+-- the links that do not pass a test, by cost
+abbrev pub others : Graph → (ℕ → Bool) → List ℕ
+others G p = byCost (G .s) (filter (λ c. not (p c)) (links G))
 
 module _ (G : Graph) (S : Sound G) where
   open Graph G using (n, m, ends, s, cost, ks)
@@ -53,6 +57,50 @@ module _ (G : Graph) (S : Sound G) where
         let r = spans .0 t in
         rw (isForest-iff identity (map ends X) .1 (r .0), eq-eqb (length (whole ends cs X)) (n - 1) (r .1))
 
+  link-below : (c : ℕ) → c ∈ links G → c < m
+  link-below c k = let r = numbers-mem m 0 c k in omega arith
+
+  -- Of a tree the links that pass a test p stay, and the others are given up for the best of all links that do not pass.
+  module _ (p : ℕ → Bool) where
+    pub other : (c : ℕ) → c ∈ others G p → (c < m) × (p c ≡ false)
+    other c k =
+        let l = filter (λ c. not (p c)) (links G) in
+        let r = filter-mem (λ c. not (p c)) (links G) (sort-mem (pairs orderℕ orderℕ) (ranked s (λ c. c)) l k) in
+        (link-below c (r .0), not-true (p c) (r .1))
+
+    others-sorted : Sorted orderℕ (tieWeight s m) (others G p)
+    others-sorted =
+        let l = filter (λ c. not (p c)) (links G) in
+        rw (byCost-weight s m l (λ c k. link-below c (filter-mem (λ c. not (p c)) (links G) k .0))) (sort-sorted orderℕ (tieWeight s m) l)
+
+    module _ (ts : List ℕ) (k : ts ∈ spanningTrees ends n m) where
+      listed : RisingIn 0 m ts × SpanningTree n (map ends ts)
+      listed = listing-iff ends n m (S .stations) (S .within) ts .0 k
+
+      below : (t : ℕ) → t ∈ ts → t < m
+      below t i = rising-range 0 m ts (listed .0) t i .1
+
+      pub stay-below : (x : ℕ) → x ∈ filter p ts → x < m
+      stay-below x i = below x (filter-mem p ts i .0)
+
+      among : filter (λ c. not (p c)) ts ⊆ others G p
+      among x i =
+          let r = filter-mem (λ c. not (p c)) ts i in
+          let h = below x (r .0) in
+          mem-sort (pairs orderℕ orderℕ) (ranked s (λ c. c)) (mem-filter (λ c. not (p c)) (mem-numbers m 0 x (omega arith) (omega arith)) (r .1))
+
+      -- that is a spanning tree,
+      pub replaced-spans : SpanningTree n (map ends (whole ends (others G p) (filter p ts)))
+      replaced-spans =
+          best-spans ends n m (S .stations) (S .within) (others G p) (filter p ts) (λ c i. other c i .0) stay-below s others-sorted ts (filter (λ c. not (p c)) ts)
+          (listed .0) (listed .1) (perm-split p ts) among
+
+      -- and no worse
+      pub replaced-better : pairLe orderℤ (dictionary orderℕ) (total G (ascending (whole ends (others G p) (filter p ts))), ascending (whole ends (others G p) (filter p ts))) (total G ts, ts) ≡ true
+      replaced-better =
+          best-tree ends n m (S .stations) (S .within) (others G p) (filter p ts) (λ c i. other c i .0) stay-below s others-sorted ts (filter (λ c. not (p c)) ts)
+          (listed .0) (listed .1) (perm-split p ts) among
+
   -- the completion of `kmax`'s search, under the bounds bs
   module _ (bs : List ℤ) where
     abbrev odd : ℕ → Bool
@@ -61,17 +109,8 @@ module _ (G : Graph) (S : Sound G) where
     abbrev candidates : List ℕ
     candidates = byCost s (normals G bs)
 
-    link-below : (c : ℕ) → c ∈ links G → c < m
-    link-below c k = let r = numbers-mem m 0 c k in omega arith
-
     candidate : (c : ℕ) → c ∈ candidates → (c < m) × (odd c ≡ false)
-    candidate c k =
-        let r = filter-mem (λ c. not (odd c)) (links G) (sort-mem (pairs orderℕ orderℕ) (ranked s (λ c. c)) (normals G bs) k) in
-        (link-below c (r .0), not-true (odd c) (r .1))
-
-    candidates-sorted : Sorted orderℕ (tieWeight s m) candidates
-    candidates-sorted =
-        rw (byCost-weight s m (normals G bs) (λ c k. link-below c (filter-mem (λ c. not (odd c)) (links G) k .0))) (sort-sorted orderℕ (tieWeight s m) (normals G bs))
+    candidate = other odd
 
     -- the completion of X is a tree whose exceptional links are X
     sound : (X ts : List ℕ) → Sublistᴰ X (filter odd (links G)) → completed G candidates X ≡ some ts
@@ -113,33 +152,12 @@ module _ (G : Graph) (S : Sound G) where
     -- and no tree whose exceptional links are X is better
     optimal : (X ts : List ℕ) → ts ∈ spanningTrees ends n m → filter odd ts ≡ X
         → (us : List ℕ) × (completed G candidates X ≡ some us) × (pairLe orderℤ (dictionary orderℕ) (total G us, us) (total G ts, ts) ≡ true)
-    optimal X ts k q = (
-      ascending (whole ends candidates X),
-      completed-tree candidates X (λ c i. candidate c i .0) X-below
-          (best-spans ends n m (S .stations) (S .within) candidates X (λ c i. candidate c i .0) X-below s candidates-sorted ts rest (listed .0) (listed .1) split among),
-      best-tree ends n m (S .stations) (S .within) candidates X (λ c i. candidate c i .0) X-below s candidates-sorted ts rest (listed .0) (listed .1) split among,
-    )
-      where
-        rest : List ℕ
-        rest = filter (λ c. not (odd c)) ts
-
-        listed : RisingIn 0 m ts × SpanningTree n (map ends ts)
-        listed = listing-iff ends n m (S .stations) (S .within) ts .0 k
-
-        below : (t : ℕ) → t ∈ ts → t < m
-        below t i = rising-range 0 m ts (listed .0) t i .1
-
-        split : Perm ts (X ++ rest)
-        split = subst (λ (Y : List ℕ). Perm ts (Y ++ rest)) q (perm-split odd ts)
-
-        X-below : (x : ℕ) → x ∈ X → x < m
-        X-below x i = below x (perm-⊆ (perm-sym split) x (Memᴰ·append-left rest i))
-
-        among : rest ⊆ candidates
-        among x i =
-            let r = filter-mem (λ c. not (odd c)) ts i in
-            let h = below x (r .0) in
-            mem-sort (pairs orderℕ orderℕ) (ranked s (λ c. c)) (mem-filter (λ c. not (odd c)) (mem-numbers m 0 x (omega arith) (omega arith)) (r .1))
+    optimal X ts k q =
+        subst (λ (Y : List ℕ). (us : List ℕ) × (completed G candidates Y ≡ some us) × (pairLe orderℤ (dictionary orderℕ) (total G us, us) (total G ts, ts) ≡ true)) q (
+          ascending (whole ends candidates (filter odd ts)),
+          completed-tree candidates (filter odd ts) (λ c i. candidate c i .0) (stay-below odd ts k) (replaced-spans odd ts k),
+          replaced-better odd ts k,
+        )
 
     pub completes : Completes orderℤ (under G bs) (pairs orderℤ (dictionary orderℕ)) (ranked (total G) (λ ts. ts)) (completed G candidates) (links G) (spanningTrees ends n m)
     completes = record { sound = sound; optimal = optimal }

@@ -7,3 +7,5 @@ pub mod Grid
 pub mod Complete
 -- THE THEOREM: the search finds the best tree
 pub mod Search
+-- links that exceed the same ceilings are exchanged for the cheapest ones
+pub mod Exchange

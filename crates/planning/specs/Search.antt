@@ -23,7 +23,7 @@ use Rattle.frontier.specs.Frontier.{best}
 use Rattle.kmax.specs.KMax.{kmax}
 use Rattle.kmax.specs.Ceilings.{ceilings, ceilings-ranked, ceilings-slack, meets, slackOf}
 use Rattle.kmax.specs.Subsets.{subsets}
-use Rattle.kmax.specs.Search.{Candidates, Trees, search-leftmost, searchIn, subsets-candidates}
+use Rattle.kmax.specs.Search.{Enough, Trees, search-leftmost, searchIn, subsets-enough}
 use Rattle.planning.specs.Graph.{Graph, Sound, completed, costsFrom, exceptionals, links, normals, problem, searchSets, searchTree, total, under}
 use Rattle.planning.specs.Complete.{completes}
 
@@ -40,7 +40,7 @@ module _ (G : Graph) where
       ap (λ (t : Bool). orderℤ .le (kmax orderℤ k (map (cost i) ts) (pos 0)) b && t) (fits-under (suc i) js bs (suc-inj l) ts)
 
   -- the trees are what the search of `kmax` asks for
-  trees-ranked : Sound G → (bs : List ℤ) → Trees (under G bs) (links G) (spanningTrees ends n m)
+  pub trees-ranked : Sound G → (bs : List ℤ) → Trees (under G bs) (links G) (spanningTrees ends n m)
   trees-ranked S bs =
       record {
         subsequence = λ ts k. rising-sublist m 0 m ts (zero-add m) (listing-iff ends n m (S .stations) (S .within) ts .0 k .0);
@@ -64,13 +64,18 @@ module _ (G : Graph) where
 
   -- ---- the theorem
 
-  -- However the sets of exceptional links are listed, the search finds the best tree: the one of least sum that fits, and of these the first in
-  -- dictionary order
-  pub search-sets : Sound G → (bs : List ℤ) → length bs ≡ length ks → (Xs : List (List ℕ)) → Candidates (exceptionals G bs) (slackOf ks) Xs
+  -- the sets Xs of exceptional links are enough for a search under the bounds bs
+  abbrev pub EnoughSets : List ℤ → List (List ℕ) → Type 0
+  EnoughSets bs Xs =
+      Enough orderℤ (pos 0) (under G bs) (pairs orderℤ (dictionary orderℕ)) (ranked (total G) (λ ts. ts)) (links G) (spanningTrees ends n m) Xs
+
+  -- Whatever sets of exceptional links are tried, if they are enough, then the search finds the best tree: the one of least sum that fits, and of
+  -- these the first in dictionary order
+  pub search-sets : Sound G → (bs : List ℤ) → length bs ≡ length ks → (Xs : List (List ℕ)) → EnoughSets bs Xs
       → searchSets G bs (byCost s (normals G bs)) Xs ≡ best (problem G) bs
-  search-sets S bs l Xs Cs =
+  search-sets S bs l Xs E =
       search-leftmost orderℤ (pos 0) (under G bs) orderℤ (total G) (dictionary orderℕ) (λ ts. ts) (links G) (spanningTrees ends n m)
-      (trees-ranked S bs) (completes G S bs) (slackOf ks) (ceilings-slack cost 0 ks bs) Xs Cs (listing-sorted ends n m)
+      (trees-ranked S bs) (completes G S bs) Xs E (listing-sorted ends n m)
       ∙ least-ext orderℤ (total G) (meets orderℤ (under G bs) (pos 0)) (λ ts. leAll orderℤ (costsFrom G 0 ks ts) bs) (spanningTrees ends n m)
       (λ ts k. fits-under 0 ks bs l ts)
 
@@ -82,4 +87,7 @@ module _ (G : Graph) where
 
   -- the search through all sets in the order of `subsets`,
   pub search-best : Sound G → (bs : List ℤ) → length bs ≡ length ks → searchTree G bs ≡ best (problem G) bs
-  search-best S bs l = search-sets S bs l (subsets (slackOf ks) (exceptionals G bs)) (subsets-candidates (exceptionals G bs) (slackOf ks))
+  search-best S bs l =
+      search-sets S bs l (subsets (slackOf ks) (exceptionals G bs))
+      (subsets-enough orderℤ (pos 0) (under G bs) (pairs orderℤ (dictionary orderℕ)) (ranked (total G) (λ ts. ts)) (links G) (spanningTrees ends n m)
+      (trees-ranked S bs) (slackOf ks) (ceilings-slack cost 0 ks bs))

@@ -22,7 +22,6 @@ use Rattle.kruskal.specs.ByCost.{costOf}
 use Rattle.kruskal.specs.Tree.{Walkable, bare, linked}
 use Rattle.kruskal.specs.declared.tree.Tree.{Tree}
 use Rattle.exceptions.specs.Ceilings.{Flagged, admitted}
-use Rattle.search.specs.Flags.{first}
 use Rattle.search.specs.Growth.{grown-all, grown-few, grown-least, grown-more}
 use Rattle.search.specs.Search.{beats, considered, offered}
 use Rattle.search.specs.declared.best.Best.{Best}

@@ -34,6 +34,7 @@ module _ (ends sums : List ℕ) (goal : ℕ) (cs : List Flagged) where
       let t = foldl (linked ends sums) bare X in
       cond (eqb (t .count) (length X) && admitted cs X) (offered goal b (foldl (linked ends sums) t base)) b
 
-  -- The best tree, of links that come in the given order. The base is what Kruskal's method keeps of the normal links.
+  -- The best tree, of links that come in the given order. The base is what Kruskal's method keeps of the normal links; exceptions too are tried only
+  -- where it keeps them, with nothing joined but exceptions.
   unfoldable pub bestOf : List ℕ → Best
-  bestOf order = foldl (considered (kept ends apart (filter (normal cs) order))) nothing (trials (filter (exception cs) order))
+  bestOf order = foldl (considered (kept ends apart (filter (normal cs) order))) nothing (trials (kept ends apart (filter (exception cs) order)))

@@ -1,8 +1,6 @@
--- The sets of at most two exceptional links, in the order in which they are tried. They are all that a search needs where the ranks leave
--- no more than two exceptions, and a link that is no admissible exception by itself is in no admissible set. The links may come in any order;
--- each set is written rising.
+-- The sets of at most two links of a list, in the order in which they are tried. The links may come in any order; each set is written rising.
 use Prim.Native.Nat.{ℕ, _≤_, _<_}
-use mathlib.Core.Bool.{Bool, false, cond}
+use mathlib.Core.Bool.{cond}
 use mathlib.Core.List.{List, [], _∷_, map, _++_, List·Memᴰ·append-cases, List·Memᴰ·cases-cons, List·Memᴰ·eq-of-singleton, Memᴰ·append-left, Memᴰ·append-right, Memᴰ·cast, Memᴰ·map, Sublistᴰ, Sublistᴰ·cons, Sublistᴰ·cons-cons, Sublistᴰ·nil-sublist, List·Memᴰ·head as here, List·Memᴰ·tail as there}
 use mathlib.Core.Logic.{_⊎_, inl, inr, ⊎-elim}
 use mathlib.Core.Path.{_≡_, refl, sym, ap, _∙_}
@@ -11,11 +9,10 @@ use borrow.Author.Tests.{le-leb, leb-false, lt-leb}
 use lib.Dec.{leb}
 use lib.ListN.{length}
 use Rattle.order.specs.Test.{by-test}
-use Rattle.order.specs.Lists.{_∈_, _⊆_, filter, filter-append, map-mem, sublist-⊆}
+use Rattle.order.specs.Lists.{_∈_, _⊆_, map-mem}
 use Rattle.order.specs.Order.{orderℕ}
-use Rattle.order.specs.Sorted.{Apart, Rising, sublist-rising}
+use Rattle.order.specs.Sorted.{Apart, Rising}
 use Rattle.spanning.specs.Rising.{trichotomy}
-use Rattle.kmax.specs.Search.{Candidates}
 
 -- the lower and the higher one of two links
 unfoldable pub lower : ℕ → ℕ → ℕ
@@ -46,14 +43,6 @@ pair-below x y h = rw (le-leb x y (omega arith))
 pair-above : (x y : ℕ) → y < x → pair x y ≡ y ∷ x ∷ []
 unfolding lower higher
 pair-above x y h = rw (lt-leb x y h)
-
-pair-first : (x y : ℕ) → x ∈ pair x y
-unfolding lower higher
-pair-first x y = by-test (leb x y) (λ e. rw e (here refl)) (λ e. rw e (there (here refl)))
-
-pair-second : (x y : ℕ) → y ∈ pair x y
-unfolding lower higher
-pair-second x y = by-test (leb x y) (λ e. rw e (there (here refl))) (λ e. rw e (here refl))
 
 -- the links of a set that is tried are links of l
 pair-among : (x y : ℕ) (l : List ℕ) → y ∈ l → pair x y ⊆ x ∷ l
@@ -132,44 +121,15 @@ two-tried a b (x ∷ l) h m n = go (two-tried a b l h) (List·Memᴰ·cases-cons
     go later (inr k) (inl q) = there (Memᴰ·append-left (sets l) (Memᴰ·cast (sym (pair-above b a h) ∙ ap (λ (z : ℕ). pair z a) q) (Memᴰ·map (pair x) k)))
     go later (inr j) (inr k) = there (Memᴰ·append-right (map (pair x) l) (later j k))
 
--- of the links e, in any order l
-module _ (e l : List ℕ) (rising : Rising orderℕ (λ x. x) e) (apart : Apart (λ x. x) l) (among : l ⊆ e) (all : e ⊆ l) where
-  sublist-tried : (X : List ℕ) → Sublistᴰ X e → length X ≤ 2 → X ∈ trials l
-  sublist-tried [] s h = here refl
-  sublist-tried (a ∷ []) s h = there (one-tried a l (all a (sublist-⊆ s a (here refl))))
-  sublist-tried (a ∷ b ∷ []) s h =
-      let less = leb-false b a (sublist-rising orderℕ (λ x. x) s rising .0 b (here refl)) in
-      there (two-tried a b l less (all a (sublist-⊆ s a (here refl))) (all b (sublist-⊆ s b (there (here refl)))))
-  sublist-tried (a ∷ b ∷ c ∷ X) s h = absurd (omega arith)
+-- a set of at most two links of l, written rising, is tried
+pub trials-complete : (l X : List ℕ) → Rising orderℕ (λ x. x) X → X ⊆ l → length X ≤ 2 → X ∈ trials l
+trials-complete l [] r s h = here refl
+trials-complete l (a ∷ []) r s h = there (one-tried a l (s a (here refl)))
+trials-complete l (a ∷ b ∷ []) r s h =
+    there (two-tried a b l (leb-false b a (r .0 b (here refl))) (s a (here refl)) (s b (there (here refl))))
+trials-complete l (a ∷ b ∷ c ∷ X) r s h = absurd (omega arith)
 
-  pub trials-candidates : (r : ℕ) → r ≤ 2 → Candidates e r (trials l)
-  trials-candidates r h =
-      record {
-        sound = λ X m. ⊎-elim (λ q. rw q (Sublistᴰ·nil-sublist e)) (λ n. sets-sublist e rising l X among apart n) (List·Memᴰ·cases-cons m);
-        complete = λ X s k. sublist-tried X s (omega arith);
-      }
-
--- ---- links that no set that passes has
-
-module _ (passes : List ℕ → Bool) (alone : ℕ → Bool) (barred : (x : ℕ) (X : List ℕ) → alone x ≡ false → x ∈ X → passes X ≡ false) where
-  pairs-barred : (x : ℕ) (l : List ℕ) → alone x ≡ false → filter passes (map (pair x) l) ≡ []
-  pairs-barred x [] h = refl
-  pairs-barred x (y ∷ l) h = rw (barred x (pair x y) h (pair-first x y)) (pairs-barred x l h)
-
-  pairs-filter : (x : ℕ) (l : List ℕ) → filter passes (map (pair x) (filter alone l)) ≡ filter passes (map (pair x) l)
-  pairs-filter x [] = refl
-  pairs-filter x (y ∷ l) =
-      by-test (alone y)
-      (λ e. rw e (ap (λ (r : List (List ℕ)). cond (passes (pair x y)) (pair x y ∷ r) r) (pairs-filter x l)))
-      (λ e. rw (e, barred y (pair x y) e (pair-second x y)) (pairs-filter x l))
-
-  sets-filter : (l : List ℕ) → filter passes (sets (filter alone l)) ≡ filter passes (sets l)
-  unfolding sets
-  sets-filter [] = refl
-  sets-filter (x ∷ l) =
-      by-test (alone x)
-      (λ e. rw (e, filter-append passes (map (pair x) (filter alone l)) (sets (filter alone l)), pairs-filter x l, sets-filter l, ← filter-append passes (map (pair x) l) (sets l)))
-      (λ e. rw (e, barred x (x ∷ []) e (here refl), filter-append passes (map (pair x) l) (sets l), pairs-barred x l e) (sets-filter l))
-
-  pub trials-filter : (l : List ℕ) → filter passes (trials (filter alone l)) ≡ filter passes (trials l)
-  trials-filter l = ap (λ (r : List (List ℕ)). cond (passes []) ([] ∷ r) r) (sets-filter l)
+-- and each that is tried is a set of links e, where those of l are
+pub trials-sound : (e l : List ℕ) → Rising orderℕ (λ x. x) e → Apart (λ x. x) l → l ⊆ e → (X : List ℕ) → X ∈ trials l → Sublistᴰ X e
+trials-sound e l rising apart among X m =
+    ⊎-elim (λ q. rw q (Sublistᴰ·nil-sublist e)) (λ n. sets-sublist e rising l X among apart n) (List·Memᴰ·cases-cons m)

@@ -24,7 +24,7 @@ use Rattle.spanning.specs.Labelling.{crosses}
 use Rattle.spanning.specs.LabelList.{labelOf}
 use Rattle.forest.specs.Groups.{apart, joined}
 use Rattle.kruskal.specs.Tree.{Light, Usable, Walkable, added, bare, endsOf, light-linked, light-up, linked}
-use Rattle.kruskal.specs.Base.{Holding, kept}
+use Rattle.kruskal.specs.Base.{Holding, kept, kept-among}
 use Rattle.kruskal.specs.declared.links.Links.{Links}
 use Rattle.kruskal.specs.Grown.{mark, marks}
 use Rattle.kruskal.specs.declared.tree.Tree.{Tree}
@@ -88,6 +88,9 @@ pub record Exceptions (cs : List Flagged) (l : List ℕ) : Type 0 where
 
 pub held-exceptions : (cs : List Flagged) (order : List ℕ) {r : Links} → Holding (filter (exception cs) order) r → Exceptions cs (take (r .count) (r .link))
 held-exceptions cs order h = rw (h .links) (record { each = λ x m. filter-mem (exception cs) order m .1 })
+
+pub kept-exceptions : (cs : List Flagged) (ends l : List ℕ) {r : Links} → Exceptions cs l → Holding (kept ends apart l) r → Exceptions cs (take (r .count) (r .link))
+kept-exceptions cs ends l v h = rw (h .links) (record { each = λ x m. v .each x (kept-among ends apart l x m) })
 
 -- ---- pairs of exceptions that no ranks r and s admit
 
@@ -296,10 +299,16 @@ module _ (ends sums : List ℕ) (goal : ℕ) (cs : List Flagged) (base : List �
   unfolding searched
   trials-searched b₀ b r l e q = q ∙ ap (λ (k : Best). foldl (considered ends sums goal cs base) k (sets l)) e
 
+  -- without exceptions there are no other sets
+  pub none-searched : (b₀ b : Best) (l : List ℕ) → length l ≡ 0 → b ≡ considered ends sums goal cs base b₀ [] → b ≡ searched b₀ (trials (kept ends apart l))
+  unfolding searched sets kept
+  none-searched b₀ b [] h e = e
+  none-searched b₀ b (x ∷ l) h e = absurd (omega arith)
+
 -- the best tree, from the normal links, the base and the exceptions
 pub assembled : (ends sums : List ℕ) (goal r s : ℕ) (v w order normals base exceptions : List ℕ) (b : Best)
     → normals ≡ filter (free v w) order → base ≡ kept ends apart normals → exceptions ≡ filter (exception (two r v s w)) order
-    → b ≡ searched ends sums goal (two r v s w) base nothing (trials exceptions) → b ≡ bestOf ends sums goal (two r v s w) order
+    → b ≡ searched ends sums goal (two r v s w) base nothing (trials (kept ends apart exceptions)) → b ≡ bestOf ends sums goal (two r v s w) order
 unfolding searched bestOf
 assembled ends sums goal r s v w order normals base exceptions b e f g q = rw (← free-normal r s v w order, ← e, ← f, ← g) q
 

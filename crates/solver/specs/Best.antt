@@ -1,30 +1,28 @@
 -- THE THEOREM: the program's search finds the best tree of document 01.
 use Prim.Native.Nat.{ℕ, _-_, _≤_, _<_}
-use mathlib.Core.Bool.{Bool, true, not, _&&_}
-use mathlib.Core.List.{List, [], _∷_, map, foldl, List·Memᴰ·eq-of-singleton, Memᴰ·map, List·Memᴰ·head as here, List·Memᴰ·tail as there}
-use mathlib.Core.Option.{Option}
-use mathlib.Core.Path.{_≡_, refl, sym, ap, _∙_, fun-ext, subst}
+use mathlib.Core.Bool.{Bool, true, not}
+use mathlib.Core.List.{List, [], _∷_, List·Memᴰ·eq-of-singleton}
+use mathlib.Core.Path.{_≡_, sym, ap, _∙_, fun-ext}
 use native.Mathlib.Omega.{arith}
-use lib.Dec.{ltb}
-use lib.IntN.{ℤ}
-use borrow.Author.Tests.{lt-ltb, ltb-true}
-use Rattle.order.specs.Test.{both, by-test, left, refute, right}
-use Rattle.order.specs.Lists.{_∈_, count, filter, filter-mem, mapSome, mem-filter, numbersFrom}
-use Rattle.order.specs.Order.{dictionary, orderℕ, orderℤ, pairs}
-use Rattle.order.specs.Perm.{pairwise-filter, pairwise-imp, perm-sym}
-use Rattle.order.specs.Sorted.{Apart, apart-perm, mem-sort, numbers-mem, numbers-rising, rising-apart, sort-mem, sort-perm}
-use Rattle.order.specs.Least.{least, ranked}
+use lib.IntN.{ℤ, pos}
+use lib.ListN.{length}
+use Rattle.order.specs.Test.{by-test, left}
+use Rattle.order.specs.Lists.{_∈_, _⊆_, filter, filter-mem, mem-filter, numbersFrom}
+use Rattle.order.specs.Order.{orderℕ, orderℤ, pairs}
+use Rattle.order.specs.Perm.{pairwise-filter, pairwise-imp}
+use Rattle.order.specs.Sorted.{Apart, sublist-rising, numbers-mem, numbers-rising, rising-apart, sort-mem}
+use Rattle.order.specs.Least.{ranked}
 use Rattle.spanning.specs.Labelling.{Labelling}
 use Rattle.spanning.specs.Tree.{identity}
-use Rattle.spanning.specs.Kruskal.{greedy-⊆, kruskal, kruskal-greedy}
-use Rattle.spanning.specs.Best.{byCost}
-use Rattle.kmax.specs.KMax.{above, countAbove}
-use Rattle.kmax.specs.Ceilings.{Ceiling, admissible, exceptional, slackOf}
-use Rattle.kmax.specs.Search.{Candidates, searchIn}
-use Rattle.planning.specs.Graph.{completed, exceptionals, links, normals, searchSets, total, under}
-use Rattle.planning.specs.Search.{base, search-base, search-sets}
+use Rattle.spanning.specs.Kruskal.{greedy-forest, greedy-⊆, kruskal, kruskal-greedy}
+use Rattle.spanning.specs.Best.{byCost, forest-apart}
+use Rattle.kmax.specs.Ceilings.{Ceiling, admissible, ceilings-slack, exceptional, meets, meets-admissible, meets-few}
+use Rattle.kmax.specs.Pattern.{exceptional-lone, lone, lone-pattern}
+use Rattle.planning.specs.Graph.{exceptionals, links, normals, searchSets, under}
+use Rattle.planning.specs.Search.{EnoughSets, base, search-base, search-sets, trees-ranked}
+use Rattle.planning.specs.Exchange.{exchange}
 use Rattle.network.specs.Limits.{maxLinks}
-use Rattle.network.specs.Yard.{best, bounds, graph, ranks}
+use Rattle.network.specs.Yard.{best, bounds, graph, ranks, trees}
 use Rattle.network.specs.NetworkFine.{NetworkFine, graph-sound}
 use Rattle.network.specs.declared.Network.{Network}
 use Rattle.forest.specs.Groups.{apart, apart-labels, apart-led}
@@ -32,28 +30,12 @@ use Rattle.kruskal.specs.ByCost.{costOf, linkOrder, order-below}
 use Rattle.kruskal.specs.Tree.{endsOf}
 use Rattle.kruskal.specs.Base.{kept}
 use Rattle.kruskal.specs.Grown.{kept-kruskal}
-use Rattle.solver.specs.Filter.{filter-both, filter-ext, filter-sort}
-use Rattle.search.specs.Sets.{trials, trials-among, trials-candidates, trials-filter}
+use Rattle.solver.specs.Filter.{filter-ext, filter-sort}
+use Rattle.search.specs.Sets.{trials, trials-among, trials-complete, trials-sound}
 use Rattle.exceptions.specs.Ceilings.{exception, normal}
-use Rattle.exceptions.specs.Two.{two-admitted, two-bounds, two-few, two-normal, twoOf}
-use Rattle.search.specs.Search.{bestOf, considered, nothing}
+use Rattle.exceptions.specs.Two.{two-admitted, two-bounds, two-few, two-normal, two-one, twoOf}
+use Rattle.search.specs.Search.{bestOf}
 use Rattle.solver.specs.Found.{Shows, near, search-shown}
-
--- ---- a link that is no admissible exception by itself is in no admissible set
-
-count-one : {A : Type 0} (p : A → Bool) {x : A} {X : List A} → x ∈ X → count p (x ∷ []) ≤ count p X
-count-one p {X = y ∷ X} (here q) = rw q (by-test (p y) (λ e. rw e (omega arith)) (λ e. rw e (omega arith)))
-count-one p {X = y ∷ X} (there m) =
-    let rest = count-one p m in
-    by-test (p y) (λ e. rw e (omega arith)) (λ e. rw e rest)
-
-admissible-one : (cs : List (Ceiling ℤ)) (x : ℕ) (X : List ℕ) → x ∈ X → admissible orderℤ cs X ≡ true → admissible orderℤ cs (x ∷ []) ≡ true
-admissible-one [] x X m e = refl
-admissible-one (c ∷ cs) x X m e =
-    let n = countAbove orderℤ (c .bound) (map (c .cost) X) in
-    let few = ltb-true n (c .rank) (left (ltb n (c .rank)) (admissible orderℤ cs X) e) in
-    let one = count-one (above orderℤ (c .bound)) (Memᴰ·map (c .cost) m) in
-    both (lt-ltb (countAbove orderℤ (c .bound) (c .cost x ∷ [])) (c .rank) (omega arith)) (admissible-one cs x X m (right (ltb n (c .rank)) (admissible orderℤ cs X) e))
 
 -- the links have different numbers, and so different places in the order
 links-apart : (s : ℕ → ℕ) (m : ℕ) → Apart (ranked s (λ c. c)) (numbersFrom m 0)
@@ -72,82 +54,90 @@ module _ (net : Network) (fine : NetworkFine net) (b1 b2 : ℤ) where
   within : (X : List ℕ) → ((x : ℕ) → x ∈ X → x < net .m) → (x : ℕ) → x ∈ X → x < maxLinks
   within X below x k = let few = fine .few-links in omega (arith, below x k)
 
-  link-within : (e : ℕ) → e ∈ links (graph net) → e < maxLinks
-  link-within e k = within (links (graph net)) link-below e k
+  -- ---- what the program keeps of the normal links, and of the exceptions
 
-  -- the program's normal links and exceptions
-  normal-links : filter (normal (twoOf net b1 b2)) (linkOrder (net .sums) (net .m)) ≡ byCost (costOf (net .sums)) (normals (graph net) bs)
+  passing : (q : ℕ → Bool) (e : ℕ) → e ∈ byCost (costOf (net .sums)) (filter q (links (graph net))) → e ∈ filter q (links (graph net))
+  passing q e k = sort-mem (pairs orderℕ orderℕ) (ranked (costOf (net .sums)) (λ c. c)) (filter q (links (graph net))) k
+
+  candidate : (q : ℕ → Bool) (e : ℕ) → e ∈ byCost (costOf (net .sums)) (filter q (links (graph net))) → e < net .m
+  candidate q e k = link-below e (filter-mem q (links (graph net)) (passing q e k) .0)
+
+  -- the program's test p of a link is the theory's q
+  kept-links : (p q : ℕ → Bool) → ((e : ℕ) → e < maxLinks → p e ≡ q e)
+      → kept (net .ends) apart (filter p (linkOrder (net .sums) (net .m))) ≡ base (graph net) (byCost (costOf (net .sums)) (filter q (links (graph net))))
   unfolding linkOrder
-  normal-links =
-      filter-ext (normal (twoOf net b1 b2)) (λ e. not (exceptional orderℤ cs e)) (linkOrder (net .sums) (net .m))
-      (λ e k. two-normal net fine b1 b2 e (link-within e (sort-mem (pairs orderℕ orderℕ) (ranked (costOf (net .sums)) (λ c. c)) (links (graph net)) k)))
-      ∙ filter-sort (pairs orderℕ orderℕ) (ranked (costOf (net .sums)) (λ c. c)) (λ e. not (exceptional orderℤ cs e)) (links (graph net))
-      (links-apart (costOf (net .sums)) (net .m))
+  kept-links p q h =
+      let s = costOf (net .sums) in
+      ap (kept (net .ends) apart)
+      (filter-ext p q (linkOrder (net .sums) (net .m)) (λ e k. h e (within (linkOrder (net .sums) (net .m)) (order-below (net .sums) (net .m)) e k))
+      ∙ filter-sort (pairs orderℕ orderℕ) (ranked s (λ c. c)) q (links (graph net)) (links-apart s (net .m)))
+      ∙ kept-kruskal (net .ends) apart (byCost s (filter q (links (graph net)))) apart-led (near net fine _ (candidate q))
+      ∙ ap (λ (L : Labelling). kruskal (endsOf (net .ends)) L (byCost s (filter q (links (graph net))))) (fun-ext apart-labels)
 
-  alone : ℕ → Bool
-  alone e = admissible orderℤ cs (e ∷ [])
-
-  -- the exceptional links in their order
-  abbrev exceeding : List ℕ
-  exceeding = filter (exceptional orderℤ cs) (linkOrder (net .sums) (net .m))
-
-  exception-links : filter (exception (twoOf net b1 b2)) (linkOrder (net .sums) (net .m)) ≡ filter alone exceeding
-  unfolding exception alone
-  exception-links =
-      filter-ext (exception (twoOf net b1 b2)) (λ e. exceptional orderℤ cs e && alone e) (linkOrder (net .sums) (net .m))
-      (λ e k. let h = within (linkOrder (net .sums) (net .m)) (order-below (net .sums) (net .m)) e k in
-      rw (two-normal net fine b1 b2 e h, two-admitted net fine b1 b2 (e ∷ []) (λ x m. rw (List·Memᴰ·eq-of-singleton m) h)) (by-test (exceptional orderℤ cs e) (λ t. rw t) (λ t. rw t)))
-      ∙ filter-both (exceptional orderℤ cs) alone (linkOrder (net .sums) (net .m))
-
-  -- they are the exceptional links
-  exceeding-all : Candidates (exceptionals (graph net) bs) (slackOf (ranks net)) (trials exceeding)
-  unfolding linkOrder
-  exceeding-all =
-      let O = pairs orderℕ orderℕ in
-      let key = ranked (costOf (net .sums)) (λ c. c) in
-      let p = exceptional orderℤ cs in
-      let all = links (graph net) in
-      trials-candidates (exceptionals (graph net) bs) exceeding
-      (pairwise-filter p _ all (numbers-rising (net .m) 0))
-      (pairwise-filter p _ (linkOrder (net .sums) (net .m)) (apart-perm (λ x. x) (perm-sym (sort-perm O key all)) (rising-apart orderℕ (λ x. x) all (numbers-rising (net .m) 0))))
-      (λ e m. let r = filter-mem p (linkOrder (net .sums) (net .m)) m in mem-filter p (sort-mem O key all (r .0)) (r .1))
-      (λ e m. let r = filter-mem p all m in mem-filter p (mem-sort O key (r .0)) (r .1))
-      (slackOf (ranks net)) (two-few net fine)
-
-  -- the links that are kept of the normal ones
   abbrev cheapest : List ℕ
   cheapest = base (graph net) (byCost (costOf (net .sums)) (normals (graph net) bs))
 
-  candidate : (e : ℕ) → e ∈ byCost (costOf (net .sums)) (normals (graph net) bs) → e < net .m
-  candidate e k =
-      link-below e (filter-mem (λ e. not (exceptional orderℤ cs e)) (links (graph net)) (sort-mem (pairs orderℕ orderℕ) (ranked (costOf (net .sums)) (λ c. c)) (normals (graph net) bs) k) .0)
-
   base-links : kept (net .ends) apart (filter (normal (twoOf net b1 b2)) (linkOrder (net .sums) (net .m))) ≡ cheapest
-  base-links =
-      ap (kept (net .ends) apart) normal-links
-      ∙ kept-kruskal (net .ends) apart (byCost (costOf (net .sums)) (normals (graph net) bs)) apart-led (near net fine _ candidate)
-      ∙ ap (λ (L : Labelling). kruskal (endsOf (net .ends)) L (byCost (costOf (net .sums)) (normals (graph net) bs))) (fun-ext apart-labels)
+  base-links = kept-links (normal (twoOf net b1 b2)) (λ e. not (exceptional orderℤ cs e)) (two-normal net fine b1 b2)
 
-  -- the sets that the program tries find what all sets of exceptional links find
-  trials-best : searchSets (graph net) bs cheapest (trials (filter (exception (twoOf net b1 b2)) (linkOrder (net .sums) (net .m)))) ≡ best net bs
-  unfolding searchIn alone
+  abbrev exchangeable : List ℕ
+  exchangeable = base (graph net) (byCost (costOf (net .sums)) (filter (lone orderℤ cs) (links (graph net))))
+
+  exception-links : kept (net .ends) apart (filter (exception (twoOf net b1 b2)) (linkOrder (net .sums) (net .m))) ≡ exchangeable
+  unfolding exception
+  exception-links =
+      kept-links (exception (twoOf net b1 b2)) (lone orderℤ cs)
+      (λ e h. rw (two-normal net fine b1 b2 e h, two-admitted net fine b1 b2 (e ∷ []) (λ x m. rw (List·Memᴰ·eq-of-singleton m) h)) (by-test (exceptional orderℤ cs e) (λ t. rw t) (λ t. rw t)))
+
+  kept-below : (q : ℕ → Bool) (e : ℕ) → e ∈ base (graph net) (byCost (costOf (net .sums)) (filter q (links (graph net)))) → e < net .m
+  kept-below q e k = candidate q e (greedy-⊆ (endsOf (net .ends)) (kruskal-greedy (endsOf (net .ends)) identity _) e k)
+
+  -- ---- the sets that the program tries are enough
+
+  exchangeable-apart : Apart (λ x. x) exchangeable
+  exchangeable-apart =
+      forest-apart (endsOf (net .ends)) identity exchangeable (greedy-forest (endsOf (net .ends)) (kruskal-greedy (endsOf (net .ends)) identity _))
+
+  exchangeable-exceptional : exchangeable ⊆ exceptionals (graph net) bs
+  exchangeable-exceptional x k =
+      let p = lone orderℤ cs in
+      let r = filter-mem p (links (graph net)) (passing p x (greedy-⊆ (endsOf (net .ends)) (kruskal-greedy (endsOf (net .ends)) identity _) x k)) in
+      mem-filter (exceptional orderℤ cs) (r .0) (left (exceptional orderℤ cs x) (admissible orderℤ cs (x ∷ [])) (r .1))
+
+  -- the exceptional links of a tree that fits, if they are kept: at most two, and so a set that is tried
+  tried : (ts : List ℕ) → ts ∈ trees net → meets orderℤ cs (pos 0) ts ≡ true → ((x : ℕ) → x ∈ ts → lone orderℤ cs x ≡ true → x ∈ exchangeable)
+      → filter (exceptional orderℤ cs) ts ∈ trials exchangeable
+  tried ts k f keeps =
+      let T = trees-ranked (graph net) (graph-sound net fine) bs in
+      let X = filter (exceptional orderℤ cs) ts in
+      let few = meets-few orderℤ (pos 0) cs ts (T .ranks ts k) f in
+      let most = two-few net fine in
+      let small : length X ≤ 2 = omega (arith, ceilings-slack (graph net .cost) 0 (ranks net) bs) in
+      trials-complete exchangeable X
+      (pairwise-filter (exceptional orderℤ cs) _ ts (sublist-rising orderℕ (λ x. x) (T .subsequence ts k) (numbers-rising (net .m) 0)))
+      (λ x i. keeps x (filter-mem (exceptional orderℤ cs) ts i .0) (exceptional-lone orderℤ cs ts (sym (meets-admissible orderℤ (pos 0) cs ts (T .ranks ts k)) ∙ f) x i))
+      small
+
+  enough : EnoughSets (graph net) bs (trials exchangeable)
+  enough =
+      record {
+        sound = trials-sound (exceptionals (graph net) bs) exchangeable (pairwise-filter (exceptional orderℤ cs) _ (links (graph net)) (numbers-rising (net .m) 0))
+            exchangeable-apart exchangeable-exceptional;
+        covers = λ ts k f.
+            let u = exchange (graph net) (graph-sound net fine) bs (lone orderℤ cs) (lone-pattern orderℤ cs (two-one net fine b1 b2)) ts k in
+            let r = u .1 in
+            (u .0, r .tree, r .fits ∙ f, r .better, tried (u .0) (r .tree) (r .fits ∙ f) (r .kept));
+      }
+
+  trials-best : searchSets (graph net) bs cheapest (trials exchangeable) ≡ best net bs
   trials-best =
-      ap (λ (l : List ℕ). searchSets (graph net) bs cheapest (trials l)) exception-links
-      ∙ ap (λ (Xs : List (List ℕ)). least (pairs orderℤ (dictionary orderℕ)) (ranked (total (graph net)) (λ ts. ts)) (λ T. true) (mapSome (completed (graph net) cheapest) Xs))
-      (trials-filter (admissible orderℤ cs) alone (λ x X e m. refute (admissible orderℤ cs X) (alone x) (admissible-one cs x X m) e) exceeding)
-      ∙ search-base (graph net) bs (byCost (costOf (net .sums)) (normals (graph net) bs)) (trials exceeding)
-      ∙ search-sets (graph net) (graph-sound net fine) bs (two-bounds net fine b1 b2) (trials exceeding) exceeding-all
+      search-base (graph net) bs (byCost (costOf (net .sums)) (normals (graph net) bs)) (trials exchangeable)
+      ∙ search-sets (graph net) (graph-sound net fine) bs (two-bounds net fine b1 b2) (trials exchangeable) enough
 
   pub best-shown : Shows (costOf (net .sums)) (net .n - 1) (best net bs) (bestOf (net .ends) (net .sums) (net .n - 1) (twoOf net b1 b2) (linkOrder (net .sums) (net .m)))
   unfolding bestOf
   best-shown =
-      let l = filter (exception (twoOf net b1 b2)) (linkOrder (net .sums) (net .m)) in
-      let found : Shows (costOf (net .sums)) (net .n - 1) (searchSets (graph net) bs cheapest (trials l))
-      (foldl (considered (net .ends) (net .sums) (net .n - 1) (twoOf net b1 b2) cheapest) nothing (trials l)) =
-      search-shown net fine bs (twoOf net b1 b2) cheapest (λ e k. candidate e (greedy-⊆ (endsOf (net .ends)) (kruskal-greedy (endsOf (net .ends)) identity _) e k))
-      (λ X below. two-admitted net fine b1 b2 X (within X below)) (trials l)
-      (λ X k x m. order-below (net .sums) (net .m) x (filter-mem (exception (twoOf net b1 b2)) (linkOrder (net .sums) (net .m)) (trials-among l X k x m) .0)) in
-      subst (λ (o : Option (List ℕ)). Shows (costOf (net .sums)) (net .n - 1) o (foldl (considered (net .ends) (net .sums) (net .n - 1) (twoOf net b1 b2)
-      (kept (net .ends) apart (filter (normal (twoOf net b1 b2)) (linkOrder (net .sums) (net .m))))) nothing (trials l))) trials-best
-      (subst (λ (chosen : List ℕ). Shows (costOf (net .sums)) (net .n - 1) (searchSets (graph net) bs cheapest (trials l))
-      (foldl (considered (net .ends) (net .sums) (net .n - 1) (twoOf net b1 b2) chosen) nothing (trials l))) (sym base-links) found)
+      let found = search-shown net fine bs (twoOf net b1 b2) cheapest (kept-below (λ e. not (exceptional orderℤ cs e)))
+      (λ X below. two-admitted net fine b1 b2 X (within X below)) (trials exchangeable)
+      (λ X k x m. kept-below (lone orderℤ cs) x (trials-among exchangeable X k x m)) in
+      rw (base-links, exception-links, ← trials-best) found

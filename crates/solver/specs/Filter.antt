@@ -1,5 +1,5 @@
--- Filters: by tests that agree, by two tests one after the other, and before or after a sort.
-use mathlib.Core.Bool.{Bool, _&&_}
+-- Filters: by tests that agree, and before or after a sort.
+use mathlib.Core.Bool.{Bool}
 use mathlib.Core.List.{List, [], _∷_, List·Memᴰ·head as here, List·Memᴰ·tail as there}
 use mathlib.Core.Path.{_≡_, refl}
 use Rattle.order.specs.Test.{by-test}
@@ -14,12 +14,6 @@ module _ {A : Type 0} where
   filter-ext p q (x ∷ l) h =
       let rest = filter-ext p q l (λ y m. h y (there m)) in
       by-test (q x) (λ e. rw (h x (here refl), e, rest)) (λ e. rw (h x (here refl), e, rest))
-
-  pub filter-both : (p q : A → Bool) (l : List A) → filter (λ x. p x && q x) l ≡ filter q (filter p l)
-  filter-both p q [] = refl
-  filter-both p q (x ∷ l) =
-      let rest = filter-both p q l in
-      by-test (p x) (λ e. by-test (q x) (λ f. rw (e, f, rest)) (λ f. rw (e, f, rest))) (λ e. rw (e, rest))
 
   -- where no two have the same key
   pub filter-sort : {K : Type 0} (O : TotalOrder K) (key : A → K) (p : A → Bool) (l : List A) → Apart key l → filter p (sort O key l) ≡ sort O key (filter p l)

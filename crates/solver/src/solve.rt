@@ -14,8 +14,10 @@ ghost use Prim.Native.Nat.{_-_, _≤_};
 ghost use lib.ListN.{length, take};
 ghost use Rattle.network.specs.Yard.{treeSize};
 ghost use Rattle.network.specs.NetworkFine.{NetworkFine};
+ghost use Rattle.forest.specs.Groups.{apart};
 ghost use Rattle.kruskal.specs.ByCost.{linkOrder};
 ghost use Rattle.kruskal.specs.Tree.{Columns};
+ghost use Rattle.kruskal.specs.Base.{kept};
 ghost use Rattle.exceptions.specs.Select.{InOrder};
 ghost use Rattle.exceptions.specs.Two.{FlagsSize, two, twoOf};
 ghost use Rattle.search.specs.Sets.{trials};
@@ -23,7 +25,7 @@ ghost use Rattle.search.specs.Search.{bestOf, nothing};
 ghost use Rattle.search.specs.Tries.{Exceptions, Kept, searched};
 ghost use Rattle.solver.specs.Answer.{bestFound, treeLeft};
 
-// The best tree over all exception sets, with the base and the exceptions at hand.
+// The best tree over all exception sets, with the base and the exceptions at hand. Sets are tried of those exceptions that Kruskal's method keeps.
 fn best_from(
     ends: &[u8],
     sums: &[u32],
@@ -36,10 +38,16 @@ fn best_from(
     l: &[u8],
 ) -> Best
     requires { ⌜ Columns (now ends) (now sums) × InOrder (now sums) (now base) × FlagsSize (now v) (now w) × InOrder (now sums) (now l) × Exceptions (two r (now v) s (now w)) (now l) × Kept (now ends) (now base) ⌝ }
-    ensures { λ q. ⌜ q ≡ searched (now (ends .entry)) (now (sums .entry)) goal (two r (now (v .entry)) s (now (w .entry))) (now (base .entry)) nothing (trials (now (l .entry))) ⌝ }
+    ensures { λ q. ⌜ q ≡ searched (now (ends .entry)) (now (sums .entry)) goal (two r (now (v .entry)) s (now (w .entry))) (now (base .entry)) nothing (trials (kept (now (ends .entry)) apart (now (l .entry)))) ⌝ }
 {
     let b = base_alone(sums, base, goal, (0 < r) & (0 < s));
-    consider_sets(ends, sums, base, goal, v, w, r, s, l, b)
+    if l.len() == 0 {
+        return b;
+    }
+    let odd = base_of(ends, sums, l);
+    let x = odd.link;
+    let n = odd.count;
+    consider_sets(ends, sums, base, goal, v, w, r, s, &x[..n], b)
 }
 
 // The best tree of links in the given order, under ceilings with the ranks r and s and the flags v and w.

@@ -6,11 +6,11 @@ use mathlib.Core.Path.{_≡_, refl, ap, _∙_}
 use native.Mathlib.Omega.{arith}
 use lib.ListN.{length}
 use Rattle.order.specs.Test.{by-test}
-use Rattle.order.specs.Lists.{_∈_, any, filter, filter-mem}
+use Rattle.order.specs.Lists.{_∈_, any, filter, filter-mem, map-mem}
 use Rattle.order.specs.Order.{TotalOrder, dictionary, dictionaryLe, le-refl, tieBreak}
-use Rattle.order.specs.Sorted.{insert}
+use Rattle.order.specs.Sorted.{Rising, insert}
 use Rattle.frontier.specs.Dominance.{dominates, leAll, leAll-refl}
-use Rattle.frontier.specs.Frontier.{Problem, insertPlan, vector}
+use Rattle.frontier.specs.Frontier.{Problem, insertPlan, vector, vectorOrder}
 
 -- ---- the same entries added behind
 
@@ -86,3 +86,13 @@ module _ {C D S B : Type 0} (P : Problem C S) (Q : Problem D B) (f : S → B) wh
       go : (b : Bool) (r : List S) → cond b (map f l) (map f r) ≡ map f (cond b l r)
       go true r = refl
       go false r = refl
+
+  -- rising plans have rising images
+  pub rising-alike : (l : List S) → ((x y : S) → x ∈ l → y ∈ l → Alike x y) → Rising (vectorOrder P) (vector P) l → Rising (vectorOrder Q) (vector Q) (map f l)
+  rising-alike [] h r = tt
+  rising-alike (x ∷ l) h r = (
+    λ b m.
+        let w = map-mem f l b m in
+        ap (λ (c : B). dictionaryLe (Q .order) (vector Q c) (vector Q (f x))) (w .2) ∙ h (w .0) x (there (w .1)) (here refl) .in-order ∙ r .0 (w .0) (w .1),
+    rising-alike l (λ y z m n. h y z (there m) (there n)) (r .1),
+  )

@@ -104,42 +104,21 @@ module _ (z : ℕ) (d : List ℕ) (from to n : ℕ) (at : to ≡ n * z) (down : 
   pub behind-moved : drop (from + z) (overwrite d to (take z (drop from d))) ≡ drop (from + z) d
   behind-moved = let l = length-moved in drop-overwrite d to (take z (drop from d)) (from + z) (omega arith) (omega arith)
 
--- A record put in front of those from index i on: the later ones are moved up by a record, and it is written in the gap.
-module _ (z : ℕ) (d : List ℕ) (i n at : ℕ) (x : List ℕ) (index : at ≡ i * z) (inside : i ≤ n) (room : n * z + z ≤ length d) (size : length x ≡ z) where
-  -- the bytes of the records that are moved
-  bytes-moved : at + (n - i) * z ≡ n * z
-  bytes-moved =
-      let e : i + (n - i) ≡ n = omega arith in
-      ap (λ (k : ℕ). k + (n - i) * z) index ∙ sym (add-mul i (n - i) z) ∙ ap (λ (k : ℕ). k * z) e
-
-  pub blocks-inserted : blocks z (n + 1) (overwrite (overwrite d (at + z) (take (n * z - at) (drop at d))) at x) ≡ take i (blocks z n d) ++ x ∷ drop i (blocks z n d)
-  unfolding blocks
-  blocks-inserted =
-      let moved = bytes-moved in
-      let m : ℕ = n * z - at in
-      let s : List ℕ = take m (drop at d) in
-      let rest = length-drop at d in
-      let ls : length s ≡ m = length-take-le m (drop at d) (omega arith) in
-      let o : List ℕ = overwrite d (at + z) s in
-      let lo : length o ≡ length d = length-overwrite d (at + z) s (omega arith) in
-      let o′ : List ℕ = overwrite o at x in
-      let count : n + 1 ≡ i + suc (n - i) = omega arith in
-      let em : m ≡ (n - i) * z = omega arith in
-      let front : blocks z i o′ ≡ take i (blocks z n d) =
-      blocks-agree z i o′ d (rw (← index) (take-overwrite o at x at (omega arith) (omega arith) ∙ take-overwrite d (at + z) s at (omega arith) (omega arith)))
-      ∙ sym (take-blocks z i n d inside) in
-      let new : take z (drop (i * z) o′) ≡ x =
-      ap (λ (k : ℕ). take z (drop k o′)) (sym index) ∙ ap (λ (k : ℕ). take k (drop at o′)) (sym size) ∙ written o at x (omega arith) in
-      let later : blocks z (n - i) (drop z (drop (i * z) o′)) ≡ drop i (blocks z n d) =
-      ap (λ (k : ℕ). blocks z (n - i) (drop z (drop k o′))) (sym index)
-      ∙ ap (blocks z (n - i)) (drop-drop z at o′ ∙ drop-overwrite o at x (at + z) (omega arith) (omega arith))
-      ∙ blocks-agree z (n - i) (drop (at + z) o) (drop at d)
-      (ap (λ (k : ℕ). take k (drop (at + z) o)) (sym em ∙ sym ls) ∙ written d (at + z) s (omega arith) ∙ ap (λ (k : ℕ). take k (drop at d)) em)
-      ∙ ap (λ (k : ℕ). blocks z (n - i) (drop k d)) index
-      ∙ sym (drop-blocks z i n d inside) in
-      ap (λ (k : ℕ). blocks z k o′) count
-      ∙ blocks-split z i (suc (n - i)) o′
-      ∙ ap₂ (λ (l r : List (List ℕ)). l ++ r) front (ap₂ (λ (b : List ℕ) (r : List (List ℕ)). b ∷ r) new later)
+-- A record put in front of n others: they are moved up by a record, and it is written in the gap.
+pub blocks-inserted : (z : ℕ) (d : List ℕ) (n : ℕ) (x : List ℕ) → n * z + z ≤ length d → length x ≡ z
+    → blocks z (n + 1) (overwrite (overwrite d z (take (n * z) (drop 0 d))) 0 x) ≡ x ∷ blocks z n d
+unfolding blocks
+blocks-inserted z d n x room size =
+    let s : List ℕ = take (n * z) d in
+    let ls : length s ≡ n * z = length-take-le (n * z) d (omega arith) in
+    let o : List ℕ = overwrite d z s in
+    let lo : length o ≡ length d = length-overwrite d z s (omega arith) in
+    let o′ : List ℕ = overwrite o 0 x in
+    let new : take z o′ ≡ x = ap (λ (k : ℕ). take k o′) (sym size) ∙ written o 0 x (omega arith) in
+    let later : blocks z n (drop z o′) ≡ blocks z n d =
+    ap (blocks z n) (drop-overwrite o 0 x z (omega arith) (omega arith))
+    ∙ blocks-agree z n (drop z o) d (ap (λ (k : ℕ). take k (drop z o)) (sym ls) ∙ written d z s (omega arith)) in
+    ap (λ (k : ℕ). blocks z k o′) (add-one n) ∙ ap₂ (λ (b : List ℕ) (r : List (List ℕ)). b ∷ r) new later
 
 -- where n records and one more have room, so have fewer
 pub room-for : (k n z : ℕ) {l : ℕ} → (n + 1) * z ≤ l → k ≤ n → k * z + z ≤ l

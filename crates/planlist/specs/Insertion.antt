@@ -1,20 +1,22 @@
 -- Insertion into the frontier of plans that stand as records in their order: it is that of `frontier`, on records by the costs they hold.
 use mathlib.Core.Path.{_≡_, refl, sym, ap, ap₂, _∙_}
-use mathlib.Core.Bool.{Bool, true, false, not, cond, _||_}
-use mathlib.Core.List.{List, [], _∷_, _++_}
-use mathlib.Core.Logic.{⊎-elim}
+use mathlib.Core.Bool.{Bool, true, false, not, cond}
+use mathlib.Core.List.{List, [], _∷_, _++_, List·Memᴰ·cases-cons, List·Memᴰ·head as here}
+use mathlib.Core.Logic.{_⊎_, inl, inr, ⊎-elim}
 use Prim.Native.Nat.{ℕ, suc, _+_, _-_, _≤_, _<_}
+use native.Mathlib.Omega.{arith}
 use lib.IntN.{ℤ, pos}
-use lib.ListN.{take, drop}
+use lib.ListN.{length, take, drop}
 use Rattle.order.specs.Test.{by-test, clash, refute}
-use Rattle.order.specs.Lists.{any, filter}
-use Rattle.order.specs.Order.{TotalOrder, orderℤ, dictionary, dictionaryLe}
-use Rattle.order.specs.Sorted.{insert}
-use Rattle.frontier.specs.Dominance.{leAll, leAll-refl, dominates, le-cases}
-use Rattle.frontier.specs.Frontier.{Problem, insertPlan, vector}
+use Rattle.order.specs.Lists.{_∈_, any, filter, filter-mem, none-any}
+use Rattle.order.specs.Order.{TotalOrder, orderℤ, dictionary-trans, dictionaryLe}
+use Rattle.order.specs.Sorted.{Rising, Sorted, insert, rising-sorted}
+use Rattle.frontier.specs.Dominance.{leAll, leAll-refl, leAll→dictionaryLe, dominates, le-cases}
+use Rattle.frontier.specs.Frontier.{Problem, insertPlan, vector, vectorOrder}
 use Rattle.network.specs.PlanList.{planSize}
+use Rattle.network.specs.Calls.{costValues}
 use Rattle.network.specs.declared.Costs.{Costs}
-use Rattle.planlist.specs.Blocks.{blocks, blocks-turn}
+use Rattle.planlist.specs.Blocks.{blocks, blocks-turn, length-blocks}
 use Rattle.planlist.specs.Records.{costsAt, atMost, inOrder, at-most-before, costs-block}
 
 -- records as solutions: the sum is the objective, and y1 and y2 are the ceiling costs
@@ -50,9 +52,16 @@ leading p (x ∷ l) = let r = leading p l in cond (p x) 0 (suc r)
 unfoldable pub placeOf : Costs → List (List ℕ) → ℕ
 placeOf v bs = leading (λ b. inOrder v (costsAt b 0)) bs
 
--- a record put at the place of its costs v among those that v is not at most
-unfoldable pub putRecord : Costs → List ℕ → List (List ℕ) → List (List ℕ)
-putRecord v x bs = take (placeOf v (prunedBy v bs)) (prunedBy v bs) ++ x ∷ drop (placeOf v (prunedBy v bs)) (prunedBy v bs)
+-- the same by one pass that stops there; one more than all, where it meets a record with costs that are at most v
+unfoldable pub freePlace : Costs → List (List ℕ) → ℕ
+freePlace v [] = 0
+freePlace v (b ∷ bs) =
+    let r = suc (freePlace v bs) in
+    cond (atMost (costsAt b 0) v) (suc (length (b ∷ bs))) (cond (inOrder v (costsAt b 0)) 0 r)
+
+-- the records stand in strictly rising order of their costs
+pub record RecordsRise (bs : List (List ℕ)) : Type 0 where
+  pub rising : Rising (vectorOrder records) (vector records) bs
 
 -- a choice by the opposite test
 flip : {A : Type 0} (b : Bool) (x y : A) → cond (not b) y x ≡ cond b x y
@@ -67,12 +76,6 @@ module _ (v : Costs) (bs : List ℕ) (at left z : ℕ) (more : 0 < left) (wide :
       → f (blocks z left (drop at bs)) ≡ g (costsAt bs at)
   turn f g e = ap f (blocks-turn z left at bs more) ∙ e ∙ ap g (costs-block bs at z wide)
 
-  pub covered-turn : {b : Bool} → atMost (costsAt bs at) v ≡ b → coveredBy v (blocks z left (drop at bs)) ≡ b || coveredBy v (blocks z (left - 1) (drop (at + z) bs))
-  unfolding coveredBy
-  covered-turn e =
-      turn (coveredBy v) (λ w. atMost w v || coveredBy v (blocks z (left - 1) (drop (at + z) bs))) refl
-      ∙ ap (λ (b : Bool). b || coveredBy v (blocks z (left - 1) (drop (at + z) bs))) e
-
   pub pruned-turn : {b : Bool} → atMost v (costsAt bs at) ≡ b
       → prunedBy v (blocks z left (drop at bs))
       ≡ cond b (prunedBy v (blocks z (left - 1) (drop (at + z) bs))) (take z (drop at bs) ∷ prunedBy v (blocks z (left - 1) (drop (at + z) bs)))
@@ -84,34 +87,95 @@ module _ (v : Costs) (bs : List ℕ) (at left z : ℕ) (more : 0 < left) (wide :
       ∙ flip (atMost v (costsAt bs at)) rest (x ∷ rest)
       ∙ ap (λ (b : Bool). cond b rest (x ∷ rest)) e
 
-  pub place-turn : {b : Bool} → inOrder v (costsAt bs at) ≡ b
-      → placeOf v (blocks z left (drop at bs)) ≡ cond b 0 (suc (placeOf v (blocks z (left - 1) (drop (at + z) bs))))
-  unfolding placeOf
-  place-turn e =
-      let rest = placeOf v (blocks z (left - 1) (drop (at + z) bs)) in
-      turn (placeOf v) (λ w. cond (inOrder v w) 0 (suc rest)) refl ∙ ap (λ (b : Bool). cond b 0 (suc rest)) e
+  pub free-turn : {p q : Bool} → atMost (costsAt bs at) v ≡ p → inOrder v (costsAt bs at) ≡ q
+      → freePlace v (blocks z left (drop at bs)) ≡ cond p (suc left) (cond q 0 (suc (freePlace v (blocks z (left - 1) (drop (at + z) bs)))))
+  unfolding freePlace
+  free-turn e f =
+      let rest = blocks z (left - 1) (drop (at + z) bs) in
+      let all : suc (length rest) ≡ left = omega (arith, length-blocks z (left - 1) (drop (at + z) bs)) in
+      turn (freePlace v) (λ w. cond (atMost w v) (suc (suc (length rest))) (cond (inOrder v w) 0 (suc (freePlace v rest)))) refl
+      ∙ (λ i. cond (e i) (suc (all i)) (cond (f i) 0 (suc (freePlace v rest))))
 
 -- ---- with no record
-
-pub covered-none : (v : Costs) → coveredBy v [] ≡ false
-unfolding coveredBy
-covered-none v = refl
 
 pub pruned-none : (v : Costs) → prunedBy v [] ≡ []
 unfolding prunedBy
 pruned-none v = refl
 
-pub place-none : (v : Costs) → placeOf v [] ≡ 0
-unfolding placeOf
-place-none v = refl
+pub free-none : (v : Costs) → freePlace v [] ≡ 0
+unfolding freePlace
+free-none v = refl
+
+-- ---- one pass over rising records
+
+leading-few : {A : Type 0} (p : A → Bool) (l : List A) → leading p l ≤ length l
+leading-few p [] = omega arith
+leading-few p (x ∷ l) = let ih = leading-few p l in by-test (p x) (λ e. rw e (omega arith)) (λ e. rw e (omega arith))
+
+suc-cond : (t : Bool) (m n : ℕ) → suc (cond t m n) ≡ cond t (suc m) (suc n)
+suc-cond true m n = refl
+suc-cond false m n = refl
+
+module _ (v : Costs) where
+  -- from a record on that v stands before, none is at most v
+  free-from : (b : List ℕ) (bs : List (List ℕ)) → Rising (vectorOrder records) (vector records) (b ∷ bs) → inOrder v (costsAt b 0) ≡ true
+      → coveredBy v bs ≡ false
+  unfolding coveredBy inOrder atMost
+  free-from b bs r h =
+      none-any (λ c. atMost (costsAt c 0) v) bs
+      (λ c m. refute (atMost (costsAt c 0) v) (inOrder (costsAt c 0) (costsAt b 0))
+      (λ k. dictionary-trans orderℤ (vector records c) (costValues v) (vector records b) (at-most-before (costsAt c 0) v k) h) (r .0 c m))
+
+  by-one-pass : (bs : List (List ℕ)) → Rising (vectorOrder records) (vector records) bs
+      → freePlace v bs ≡ cond (coveredBy v bs) (suc (length bs)) (placeOf v bs)
+  unfolding freePlace coveredBy placeOf
+  by-one-pass [] r = refl
+  by-one-pass (b ∷ bs) r =
+      by-test (atMost (costsAt b 0) v)
+      (λ e. rw e refl)
+      (λ e. by-test (inOrder v (costsAt b 0))
+      (λ f. rw (e, f, free-from b bs r f))
+      (λ f. rw (e, f) (ap suc (by-one-pass bs (r .1)) ∙ suc-cond (coveredBy v bs) (suc (length bs)) (placeOf v bs))))
+
+  module _ (bs : List (List ℕ)) (r : RecordsRise bs) where
+    -- beyond all: a record is at most v
+    pub free-covered : length bs < freePlace v bs → coveredBy v bs ≡ true
+    unfolding placeOf
+    free-covered h =
+        by-test (coveredBy v bs) (λ e. e)
+        (λ e.
+        let one = by-one-pass bs (r .rising) ∙ ap (λ (t : Bool). cond t (suc (length bs)) (placeOf v bs)) e in
+        absurd (omega (arith, leading-few (λ b. inOrder v (costsAt b 0)) bs)))
+
+    -- else none is, and it is v's place
+    pub free-place : freePlace v bs ≤ length bs → (coveredBy v bs ≡ false) × (freePlace v bs ≡ placeOf v bs)
+    free-place h =
+        by-test (coveredBy v bs)
+        (λ e.
+        let one = by-one-pass bs (r .rising) ∙ ap (λ (t : Bool). cond t (suc (length bs)) (placeOf v bs)) e in
+        absurd (omega arith))
+        (λ e. (e, by-one-pass bs (r .rising) ∙ ap (λ (t : Bool). cond t (suc (length bs)) (placeOf v bs)) e))
 
 -- ---- insertion by its parts
 
--- insertion in order puts x before the first that is not below it
-insert-at : {K A : Type 0} (O : TotalOrder K) (key : A → K) (x : A) (l : List A)
-    → insert O key x l ≡ take (leading (λ y. O .le (key x) (key y)) l) l ++ x ∷ drop (leading (λ y. O .le (key x) (key y)) l) l
-insert-at O key x [] = refl
-insert-at O key x (y ∷ l) = by-test (O .le (key x) (key y)) (λ e. rw e refl) (λ e. rw e (ap (λ r. y ∷ r) (insert-at O key x l)))
+module _ {K A : Type 0} (O : TotalOrder K) (key : A → K) (x : A) where
+  -- x is put in front of members that are not below it
+  insert-first : (l : List A) → ((y : A) → y ∈ l → O .le (key x) (key y) ≡ true) → insert O key x l ≡ x ∷ l
+  insert-first [] h = refl
+  insert-first (y ∷ l) h = rw (h y (here refl))
+
+  -- among the members of a sorted list that pass a test, where those below x do: behind these, and before what is left of the others
+  insert-kept : (p : A → Bool) → ((y : A) → O .le (key x) (key y) ≡ false → p y ≡ true) → (l : List A) → Sorted O key l
+      → insert O key x (filter p l) ≡ take (leading (λ y. O .le (key x) (key y)) l) l ++ x ∷ filter p (drop (leading (λ y. O .le (key x) (key y)) l) l)
+  insert-kept p h [] s = refl
+  insert-kept p h (y ∷ l) s =
+      by-test (O .le (key x) (key y))
+      (λ e. rw e (insert-first (filter p (y ∷ l)) (λ z m. behind e z (List·Memᴰ·cases-cons (filter-mem p (y ∷ l) m .0)))))
+      (λ e. rw (h y e, e) (ap (λ (r : List A). y ∷ r) (insert-kept p h l (s .1))))
+    where
+      behind : O .le (key x) (key y) ≡ true → (z : A) → (z ≡ y) ⊎ (z ∈ l) → O .le (key x) (key z) ≡ true
+      behind e z (inl q) = rw q e
+      behind e z (inr m) = O .le-trans (key x) (key y) (key z) e (s .0 z m)
 
 module _ {C A : Type 0} (O : TotalOrder C) (key : A → List C) (x : A) where
   -- where y is not at most x, x dominates y if it is at most y
@@ -132,31 +196,34 @@ module _ {C A : Type 0} (O : TotalOrder C) (key : A → List C) (x : A) where
 
 -- insertion into a frontier, by the tests that the code makes
 module _ {C S : Type 0} (P : Problem C S) (s : S) where
-  -- s before the first plan that is not below it
+  -- s before the first plan that is not below it, and no later plan that it is at most
   abbrev placed : List S → List S
-  placed l = let n = leading (λ q. dictionaryLe (P .order) (vector P s) (vector P q)) l in take n l ++ s ∷ drop n l
+  placed l =
+      let n = leading (λ q. dictionaryLe (P .order) (vector P s) (vector P q)) l in
+      take n l ++ s ∷ filter (λ q. not (leAll (P .order) (vector P s) (vector P q))) (drop n l)
 
-  by-parts : (l : List S)
-      → insertPlan P s l
-      ≡ cond (any (λ q. leAll (P .order) (vector P q) (vector P s)) l) l (placed (filter (λ q. not (leAll (P .order) (vector P s) (vector P q))) l))
-  by-parts l = go (any (λ q. leAll (P .order) (vector P q) (vector P s)) l) refl
+  by-parts : (l : List S) → Rising (vectorOrder P) (vector P) l
+      → insertPlan P s l ≡ cond (any (λ q. leAll (P .order) (vector P q) (vector P s)) l) l (placed l)
+  by-parts l r = go (any (λ q. leAll (P .order) (vector P q) (vector P s)) l) refl
     where
       go : (b : Bool) → any (λ q. leAll (P .order) (vector P q) (vector P s)) l ≡ b
-          → cond b l (insert (dictionary (P .order)) (vector P) s (filter (λ q. not (dominates (P .order) (vector P s) (vector P q))) l))
-          ≡ cond b l (placed (filter (λ q. not (leAll (P .order) (vector P s) (vector P q))) l))
+          → cond b l (insert (vectorOrder P) (vector P) s (filter (λ q. not (dominates (P .order) (vector P s) (vector P q))) l))
+          ≡ cond b l (placed l)
       go true e = refl
       go false e =
-          ap (insert (dictionary (P .order)) (vector P) s) (dominated (P .order) (vector P) s l e)
-          ∙ insert-at (dictionary (P .order)) (vector P) s (filter (λ q. not (leAll (P .order) (vector P s) (vector P q))) l)
+          ap (insert (vectorOrder P) (vector P) s) (dominated (P .order) (vector P) s l e)
+          ∙ insert-kept (vectorOrder P) (vector P) s (λ q. not (leAll (P .order) (vector P s) (vector P q)))
+          (λ q k. ap not (refute (leAll (P .order) (vector P s) (vector P q)) (dictionaryLe (P .order) (vector P s) (vector P q)) (leAll→dictionaryLe (P .order) (vector P s) (vector P q)) k))
+          l (rising-sorted (vectorOrder P) (vector P) l r)
 
 -- of a record with the costs v
-module _ (x : List ℕ) (v : Costs) (bs : List (List ℕ)) (holds : costsAt x 0 ≡ v) where
+module _ (x : List ℕ) (v : Costs) (bs : List (List ℕ)) (rise : RecordsRise bs) (holds : costsAt x 0 ≡ v) where
   inserted : Costs → Bool → List (List ℕ)
-  inserted w b = cond b bs (putRecord w x bs)
+  inserted w b = cond b bs (take (placeOf w bs) bs ++ x ∷ prunedBy w (drop (placeOf w bs) bs))
 
   parts : insertRecord x bs ≡ inserted (costsAt x 0) (coveredBy (costsAt x 0) bs)
-  unfolding insertRecord inserted putRecord coveredBy prunedBy placeOf atMost inOrder
-  parts = by-parts records x bs
+  unfolding insertRecord inserted coveredBy prunedBy placeOf atMost inOrder
+  parts = by-parts records x bs (rise .rising)
 
   in-parts : {b : Bool} → coveredBy v bs ≡ b → insertRecord x bs ≡ inserted v b
   in-parts t = parts ∙ ap (λ (w : Costs). inserted w (coveredBy w bs)) holds ∙ ap (inserted v) t
@@ -165,16 +232,6 @@ module _ (x : List ℕ) (v : Costs) (bs : List (List ℕ)) (holds : costsAt x 0 
   unfolding inserted
   insert-covered t = in-parts t
 
-  pub insert-free : coveredBy v bs ≡ false → insertRecord x bs ≡ putRecord v x bs
+  pub insert-free : coveredBy v bs ≡ false → insertRecord x bs ≡ take (placeOf v bs) bs ++ x ∷ prunedBy v (drop (placeOf v bs) bs)
   unfolding inserted
   insert-free t = in-parts t
-
--- the records in front of the place of v stay, and the record is put among the others
-pub put-behind : (v : Costs) (x : List ℕ) (bs : List (List ℕ)) → putRecord v x bs ≡ take (placeOf v bs) bs ++ putRecord v x (drop (placeOf v bs) bs)
-unfolding putRecord prunedBy placeOf
-put-behind v x [] = refl
-put-behind v x (b ∷ bs) =
-    by-test (inOrder v (costsAt b 0))
-    (λ e. rw e refl)
-    (λ e. rw (refute (atMost v (costsAt b 0)) (inOrder v (costsAt b 0)) (at-most-before v (costsAt b 0)) e, e)
-    (ap (λ (l : List (List ℕ)). b ∷ l) (put-behind v x bs)))

@@ -1,15 +1,16 @@
 -- Plans of any problem of whole numbers, stored as records: a record in the frontier is its plan in the frontier.
 use mathlib.Core.List.{List, [], _∷_, _++_, map, List·Memᴰ·head as here, List·Memᴰ·tail as there, List·Memᴰ·not-nil}
 use mathlib.Core.Logic.{_⊎_, inl, inr}
-use mathlib.Core.Path.{_≡_, refl, sym, ap, ap₂, _∙_}
+use mathlib.Core.Path.{_≡_, refl, sym, ap, ap₂, _∙_, subst⁻¹}
 use Prim.Native.Nat.{ℕ, suc, _-_, _≤_}
 use native.Mathlib.Omega.{arith}
 use lib.IntN.{ℤ, pos}
 use lib.ListN.{getD, length, length-append, length-map, replicate}
 use Rattle.order.specs.Lists.{_∈_}
 use Rattle.order.specs.Order.{TotalOrder, dictionaryLe, orderℤ}
+use Rattle.order.specs.Sorted.{Rising}
 use Rattle.frontier.specs.Dominance.{leAll}
-use Rattle.frontier.specs.Frontier.{Problem, insertPlan, vector}
+use Rattle.frontier.specs.Frontier.{Problem, insertPlan, vector, vectorOrder}
 use Rattle.frontier.specs.Plans.{collect-member}
 use Rattle.planning.specs.Graph.{Graph, costsFrom}
 use Rattle.network.specs.Limits.{maxCeilings}
@@ -20,8 +21,8 @@ use Rattle.network.specs.declared.Costs.{Costs}
 use Rattle.network.specs.declared.Network.{Network}
 use Rattle.planlist.specs.Blocks.{blocks, blocks-none, length-blocks}
 use Rattle.planlist.specs.Records.{Writable, costs-encoded, encode}
-use Rattle.planlist.specs.Insertion.{insertRecord, records}
-use Rattle.planlist.specs.Alike.{Alike, dictionary-append, insert-alike, leAll-append}
+use Rattle.planlist.specs.Insertion.{RecordsRise, insertRecord, records}
+use Rattle.planlist.specs.Alike.{Alike, dictionary-append, insert-alike, leAll-append, rising-alike}
 
 -- Solutions with their costs and links; `pad` stands for the entries of absent ceilings.
 module _ {S : Type 0} (P : Problem ℤ S) (costs : S → Costs) (links : S → List ℕ) (pad : List ℤ) where
@@ -64,6 +65,12 @@ module _ {S : Type 0} (P : Problem ℤ S) (costs : S → Costs) (links : S → L
         → insertRecord (encode costs links s) (map (encode costs links) l) ≡ map (encode costs links) (insertPlan P s l)
     unfolding insertRecord
     insert-stored s l h = insert-alike P records (encode costs links) s l (λ x y m n. alike x y (h x m) (h y n))
+
+    -- the records of rising plans rise
+    pub holds-rise : {z n : ℕ} {bs : List ℕ} (l : List S) → Holds z n bs l → Rising (vectorOrder P) (vector P) l → RecordsRise (blocks z n bs)
+    holds-rise l h r =
+        subst⁻¹ RecordsRise (h .records-are)
+        (record { rising = rising-alike P records (encode costs links) l (λ x y m n. alike x y (h .stored x m) (h .stored y n)) r })
 
     -- what a call that inserts the record of s does to bytes that hold the plans l
     pub holds-inserted : {z n n′ : ℕ} {bs bs′ : List ℕ} (s : S) (l : List S) → Holds z n bs l → Stored s

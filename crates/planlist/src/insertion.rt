@@ -6,39 +6,27 @@ use crate::record::write_plan;
 use encoding::copy::move_down;
 use encoding::copy::move_up;
 use network::Costs;
+ghost use mathlib.Core.List.{_∷_};
 ghost use mathlib.Core.Path.{_≡_};
 ghost use Prim.Native.Nat.{_+_, _*_, _≤_};
 ghost use lib.ListN.{length};
 ghost use Rattle.network.specs.PlanList.{planBytes, planSize};
 ghost use Rattle.planlist.specs.Blocks.{blocks};
-ghost use Rattle.planlist.specs.Insertion.{coveredBy, insertRecord, placeOf, prunedBy, putRecord};
+ghost use Rattle.planlist.specs.Insertion.{RecordsRise, freePlace, insertRecord, prunedBy};
 
-// Whether a stored plan's costs are at most v.
-fn covered(plans: &[u8], count: usize, size: usize, v: Costs) -> bool
+// The number of records that stand before v; one more than all, where one of them is at most v. No later record is at most v, as they rise.
+fn free_place(plans: &[u8], count: usize, size: usize, v: Costs) -> usize
     requires { ⌜ (planSize 0 ≤ size) × (count * size ≤ length (now plans)) ⌝ }
-    ensures { λ r. ⌜ r ≡ coveredBy v (blocks size count (now (plans .entry))) ⌝ }
+    ensures { λ r. ⌜ r ≡ freePlace v (blocks size count (now (plans .entry))) ⌝ }
 {
     let mut at = 0;
     let mut left = count;
     while 0 < left {
-        if at_most(costs_at(plans, at), v) {
-            return true;
+        let w = costs_at(plans, at);
+        if at_most(w, v) {
+            return count + 1;
         }
-        at += size;
-        left -= 1;
-    }
-    false
-}
-
-// The number of records in front of the first that v does not stand behind.
-fn place(plans: &[u8], count: usize, size: usize, v: Costs) -> usize
-    requires { ⌜ (planSize 0 ≤ size) × (count * size ≤ length (now plans)) ⌝ }
-    ensures { λ r. ⌜ (r ≤ count) × (r ≡ placeOf v (blocks size count (now (plans .entry)))) ⌝ }
-{
-    let mut at = 0;
-    let mut left = count;
-    while 0 < left {
-        if in_order(v, costs_at(plans, at)) {
+        if in_order(v, w) {
             return count - left;
         }
         at += size;
@@ -71,29 +59,28 @@ fn prune(plans: &mut [u8], count: usize, size: usize, v: Costs) -> usize
     kept
 }
 
-// Drops the plans that v is at most out of `count` records, puts v's plan at its place among the others, and returns the new count.
+// Drops the plans that v is at most out of `count` records, puts v's plan in front of the others, and returns the new count.
 fn put(plans: &mut [u8], count: usize, v: Costs, links: &[u8]) -> usize
     requires { ⌜ (count + 1) * planSize (length (now links)) ≤ length (now plans) ⌝ }
-    ensures { λ r. ⌜ (r ≤ count + 1) × (blocks (planSize (length (now (links .entry)))) r (now (plans .exit)) ≡ putRecord v (planBytes v (now (links .entry))) (blocks (planSize (length (now (links .entry)))) count (now (plans .entry)))) ⌝ }
+    ensures { λ r. ⌜ (r ≤ count + 1) × (blocks (planSize (length (now (links .entry)))) r (now (plans .exit)) ≡ planBytes v (now (links .entry)) ∷ prunedBy v (blocks (planSize (length (now (links .entry)))) count (now (plans .entry)))) ⌝ }
 {
     let size = 10 + links.len();
     let kept = prune(plans, count, size, v);
-    let at = place(plans, kept, size, v) * size;
-    move_up(plans, at, at + size, kept * size - at);
-    write_plan(plans, at, v, links);
+    move_up(plans, 0, size, kept * size);
+    write_plan(plans, 0, v, links);
     kept + 1
 }
 
 // Puts a plan into the frontier of `count` records, and returns the new count. The records in front of its place stay as they are.
 pub(crate) fn insert(plans: &mut [u8], count: usize, v: Costs, links: &[u8]) -> usize
-    requires { ⌜ (count + 1) * planSize (length (now links)) ≤ length (now plans) ⌝ }
+    requires { ⌜ ((count + 1) * planSize (length (now links)) ≤ length (now plans)) × RecordsRise (blocks (planSize (length (now links))) count (now plans)) ⌝ }
     ensures { λ r. ⌜ (r ≤ count + 1) × (blocks (planSize (length (now (links .entry)))) r (now (plans .exit)) ≡ insertRecord (planBytes v (now (links .entry))) (blocks (planSize (length (now (links .entry)))) count (now (plans .entry)))) ⌝ }
 {
     let size = 10 + links.len();
-    if covered(plans, count, size, v) {
+    let front = free_place(plans, count, size, v);
+    if count < front {
         return count;
     }
-    let front = place(plans, count, size, v);
     let start = front * size;
     front + put(&mut plans[start..], count - front, v, links)
 }

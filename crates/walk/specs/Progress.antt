@@ -1,6 +1,6 @@
 -- The walk as its loop does it: what the marks and the records are when the first n positions have been visited.
 use mathlib.Core.Bool.{Bool, true, false, cond, _||_}
-use mathlib.Core.List.{List, [], _∷_, _++_, map}
+use mathlib.Core.List.{List, [], _∷_, _++_, map, List·Memᴰ·not-nil}
 use mathlib.Core.Option.{Option, none, some}
 use mathlib.Core.Path.{_≡_, refl, sym, ap, _∙_, ap₂, subst, subst⁻¹}
 use Prim.Native.Nat.{ℕ, _+_, _≤_, _<_}
@@ -9,6 +9,7 @@ use lib.IntN.{ℤ}
 use lib.ListN.{drop, getD, getD-replicate, length, length-append, replicate}
 use Rattle.order.specs.Lists.{any-snoc}
 use Rattle.frontier.specs.Frontier.{Entry, answers, collect, covered, covers, solve}
+use Rattle.frontier.specs.Plans.{collect-front}
 use Rattle.frontier.specs.Walk.{positions-length}
 use Rattle.planning.specs.Grid.{walk-lists}
 use Rattle.network.specs.Yard.{best, graph, treeSize, yard}
@@ -18,8 +19,8 @@ use Rattle.network.specs.NetworkFine.{NetworkFine, graph-sound}
 use Rattle.network.specs.declared.Network.{Network}
 use Rattle.planlist.specs.Blocks.{blocks}
 use Rattle.planlist.specs.Records.{Writable}
-use Rattle.planlist.specs.Insertion.{insertRecord}
-use Rattle.planlist.specs.Stored.{Holds, absent, costs-padded, holds-inserted, holds-none}
+use Rattle.planlist.specs.Insertion.{RecordsRise, insertRecord}
+use Rattle.planlist.specs.Stored.{Holds, absent, costs-padded, holds-inserted, holds-none, holds-rise}
 use Rattle.planlist.specs.Finished.{finished, finished-list, thenZeros}
 use Rattle.marking.specs.Settle.{Settled}
 use Rattle.marking.specs.Slots.{rank-count}
@@ -86,6 +87,13 @@ module _ (net : Network) where
   module _ (n : ℕ) (h : n < positionCount net) {ms bs : List ℕ} {count done : ℕ} (p : Progress n ms bs count done) where
     inside : n < length (positions net)
     inside = omega (arith, positions-length (values net))
+
+    -- the records rise
+    pub rise : RecordsRise (blocks (planSize (treeSize net)) count (drop headSize bs))
+    rise =
+        let found = answers (yard net) (entriesAt (yard net) n) in
+        let front = collect-front (yard net) found [] (record { rising = tt; antichain = λ a b m k. absurd (List·Memᴰ·not-nil m) }) in
+        holds-rise (yard net) (costsOf net) (λ ts. ts) (absent net) refl (collect (yard net) [] found) (p .records) (front .rising)
 
     -- a marked position is skipped
     pub skip : (getD ms n 0 ≡ 0 → ⊥) → Progress (n + 1) ms bs count done

@@ -1,48 +1,65 @@
 -- `planlist::insertion::insert` meets its contract. The records from the plan's place on are lent to `put`.
-use mathlib.Core.Path.{sym, ap, ap₂, _∙_}
-use mathlib.Core.List.{List, _++_}
+use mathlib.Core.Bool.{false}
+use mathlib.Core.Path.{_≡_, sym, ap, ap₂, _∙_}
+use mathlib.Core.List.{List, _∷_, _++_}
 use Prim.Native.Nat.{ℕ, _+_, _*_, _-_, _≤_}
 use native.Mathlib.Omega.{arith}
 use lib.ListN.{length, take, drop, length-drop}
 use denote.Ref.{now}
 use Rattle.network.specs.PlanList.{planBytes, planSize}
-use Rattle.planlist.specs.Blocks.{blocks, blocks-behind, take-blocks, drop-blocks, room-behind}
+use Rattle.planlist.specs.Blocks.{blocks, blocks-behind, take-blocks, drop-blocks, length-blocks, room-behind}
 use Rattle.planlist.specs.Records.{costs-encoded}
-use Rattle.planlist.specs.Insertion.{insert-covered, insert-free, put-behind, putRecord}
+use Rattle.planlist.specs.Insertion.{coveredBy, free-covered, free-place, insert-covered, insert-free, placeOf, prunedBy}
 use borrow.Author.Needs.{needs}
 use Rattle.planlist.proofs.Tail.{tail-lent, tail-back}
 use Rattle.planlist.proofs.insertion.insert.Statement.{statement}
 use Rattle.planlist.proofs.insertion.insert.Tie as tie
 
--- where the plan's place is known, the records from there on and one more have room
-room : (c : tie.After-place)
-    → let a = c .before .before .before .before .before .before .before .args in
+-- the records that are stored
+abbrev stored : tie.Start → List (List ℕ)
+stored s = blocks (planSize (length (now (s .args .links)))) (s .args .count) (now (s .args .plans))
+
+-- where the plan's place is free: no stored plan is at most it, and it is its place in the order
+free : (c : tie.Else1)
+    → (coveredBy (c .before .before .before .before .before .args .v) (stored (c .before .before .before .before .before)) ≡ false)
+    × (c .before .free-place .result ≡ placeOf (c .before .before .before .before .before .args .v) (stored (c .before .before .before .before .before)))
+free c =
+    let s = c .before .before .before .before .before in
+    let count = length-blocks (planSize (length (now (s .args .links)))) (s .args .count) (now (s .args .plans)) in
+    let e = c .before .free-place .ensures in
+    let r = free-place (s .args .v) (stored s) (s .pre .1) (omega (arith, c .if1 .left)) in
+    (r .0, e ∙ r .1)
+
+-- and the records from there on and one more have room
+room : (c : tie.Else1)
+    → let a = c .before .before .before .before .before .args in
     let size = planSize (length (now (a .links))) in
-    c .place .result * size + (a .count - c .place .result + 1) * size ≤ length (now (a .plans))
-room c = let a = c .before .before .before .before .before .before .before .args in room-behind (c .place .result) (a .count) (planSize (length (now (a .links)))) (c .before .before .before .before .before .before .before .pre) (c .place .ensures .0)
+    c .before .free-place .result * size + (a .count - c .before .free-place .result + 1) * size ≤ length (now (a .plans))
+room c =
+    let s = c .before .before .before .before .before in
+    room-behind (c .before .free-place .result) (s .args .count) (planSize (length (now (s .args .links)))) (s .pre .0) (omega (arith, c .if1 .left))
 
 add-size : tie.Need-add-size
 add-size c = search needs
 
-covered-requires : tie.Need-covered-requires
-covered-requires c κs = search needs
+free-place-requires : tie.Need-free-place-requires
+free-place-requires c κs = search needs
 
 same-length : tie.Need-same-length
 same-length c = search needs
 
 returns : tie.Need-returns
 returns c =
-    let a = c .before .before .before .before .before .args in
-    let links = now (a .links) in
-    let holds = costs-encoded (a .v) links (record { sum-fits = omega arith; y1-fits = search needs; y2-fits = search needs }) in
-    let size = planSize (length links) in
-    (omega arith, sym (insert-covered (planBytes (a .v) links) (a .v) (blocks size (a .count) (now (a .plans))) holds (sym (c .before .covered .ensures) ∙ c .if1 .taken)))
-
-place-requires : tie.Need-place-requires
-place-requires c κs = search needs
+    let s = c .before .before .before .before .before in
+    let links = now (s .args .links) in
+    let holds = costs-encoded (s .args .v) links (record { sum-fits = omega arith; y1-fits = search needs; y2-fits = search needs }) in
+    let count = length-blocks (planSize (length links)) (s .args .count) (now (s .args .plans)) in
+    let e = c .before .free-place .ensures in
+    let covered = free-covered (s .args .v) (stored s) (s .pre .1) (omega (arith, c .if1 .taken)) in
+    (omega arith, sym (insert-covered (planBytes (s .args .v) links) (s .args .v) (stored s) (s .pre .1) holds covered))
 
 mul-start : tie.Need-mul-start
-mul-start c = omega (arith, room c, c .before .before .before .before .before .before .before .good)
+mul-start c = omega (arith, room c, c .before .before .before .before .before .good)
 
 sub-put : tie.Need-sub-put
 sub-put c = omega (arith, room c)
@@ -53,13 +70,10 @@ part-put-start c = omega (arith, room c)
 part-put-end : tie.Need-part-put-end
 part-put-end c = search needs
 
-sub-put-2 : tie.Need-sub-put-2
-sub-put-2 c = search needs
-
 put-requires : tie.Need-put-requires
 put-requires c κs =
-    let a = c .before .before .before .before .before .before .before .before .args in
-    let start = c .before .place .result * planSize (length (now (a .links))) in
+    let a = c .before .before .before .before .before .before .args in
+    let start = c .before .before .free-place .result * planSize (length (now (a .links))) in
     omega (arith, room (c .before), ap length (tail-lent start (now (a .plans))), length-drop start (now (a .plans)))
 
 add-result : tie.Need-add-result
@@ -70,27 +84,26 @@ same-length-2 c = search needs
 
 returns-2 : tie.Need-returns-2
 returns-2 c =
-    let a = c .before .before .before .before .before .before .before .before .before .before .before .args in
-    let fits = room (c .before .before .before .before) in
-    let few = c .before .before .before .before .place .ensures .0 in
+    let e = c .before .before .before .before in
+    let s = e .before .before .before .before .before in
+    let a = s .args in
+    let fits = room e in
+    let few : e .before .free-place .result ≤ a .count = omega (arith, e .if1 .left) in
     let d = now (a .plans) in
     let links = now (a .links) in
     let size = planSize (length links) in
     let x = planBytes (a .v) links in
-    let stored = blocks size (a .count) d in
-    let i = c .before .before .before .before .place .result in
+    let i = e .before .free-place .result in
     let more = c .before .before .put .result in
     let last = c .before .before .put .last .0 in
-    let free = sym (c .before .before .before .before .before .before .before .covered .ensures) ∙ c .before .before .before .before .before .before .if1 .left in
     let holds = costs-encoded (a .v) links (record { sum-fits = omega arith; y1-fits = search needs; y2-fits = search needs }) in
     let behind = ap (blocks size (a .count - i)) (tail-lent (i * size) d) ∙ sym (drop-blocks size i (a .count) d few) in (
       omega (arith, c .before .before .put .ensures .0),
       ap (blocks size (i + more)) (tail-back (i * size) d last)
           ∙ blocks-behind size i more d last (omega arith)
-          ∙ ap₂ (λ (l r : List (List ℕ)). l ++ r) (sym (take-blocks size i (a .count) d few)) (c .before .before .put .ensures .1 ∙ ap (putRecord (a .v) x) behind)
-          ∙ ap (λ (k : ℕ). take k stored ++ putRecord (a .v) x (drop k stored)) (c .before .before .before .before .place .ensures .1)
-          ∙ sym (put-behind (a .v) x stored)
-          ∙ sym (insert-free x (a .v) stored holds free),
+          ∙ ap₂ (λ (l r : List (List ℕ)). l ++ r) (sym (take-blocks size i (a .count) d few)) (c .before .before .put .ensures .1 ∙ ap (λ (l : List (List ℕ)). x ∷ prunedBy (a .v) l) behind)
+          ∙ ap (λ (k : ℕ). take k (stored s) ++ x ∷ prunedBy (a .v) (drop k (stored s))) (free e .1)
+          ∙ sym (insert-free x (a .v) (stored s) (s .pre .1) holds (free e .0)),
     )
 
 pub insert-spec : {M : Type 1} → statement M
@@ -98,15 +111,13 @@ insert-spec =
     tie.close
     (tie.spec
     add-size
-    covered-requires
+    free-place-requires
     same-length
     returns
-    place-requires
     mul-start
     sub-put
     part-put-start
     part-put-end
-    sub-put-2
     put-requires
     add-result
     same-length-2

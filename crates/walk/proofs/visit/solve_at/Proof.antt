@@ -16,7 +16,7 @@ use Rattle.network.specs.PlanList.{costsOf, headSize, planBytes, planSize}
 use Rattle.network.specs.Walk.{positions}
 use Rattle.network.specs.declared.Costs.{Costs}
 use Rattle.planlist.specs.Blocks.{blocks}
-use Rattle.planlist.specs.Insertion.{insertRecord}
+use Rattle.planlist.specs.Insertion.{RecordsRise, insertRecord}
 use Rattle.planlist.specs.Records.{Writable}
 use Rattle.marking.specs.Settle.{Settled}
 use Rattle.marking.specs.Paint.{paint, through}
@@ -183,9 +183,10 @@ insert-plan-requires : tie.Need-insert-plan-requires
 insert-plan-requires c κs =
     let s = c .before .before .before .before .before .before .before .before .before .before .before .before .before .before .before .before .before .before .before .before .before .before .before in
     let a = s .args in
-    let e = ap (λ (k : ℕ). (a .count + 1) * planSize k) (links-count (c .before .before .before .before .before .before .before .before .before .before .before)) in
+    let size = links-count (c .before .before .before .before .before .before .before .before .before .before .before) in
+    let e = ap (λ (k : ℕ). (a .count + 1) * planSize k) size in
     let room = s .pre .3 in
-    omega arith
+    (omega arith, subst⁻¹ (λ (k : ℕ). RecordsRise (blocks (planSize k) (a .count) (drop headSize (a .out .now)))) size (s .pre .4))
 
 same-length-2 : tie.Need-same-length-2
 same-length-2 c = search needs

@@ -1,9 +1,9 @@
 -- Bytes that hold records of one size, one after the other.
-use mathlib.Core.Path.{_≡_, refl, sym, ap, ap₂, _∙_}
+use mathlib.Core.Path.{_≡_, refl, sym, ap, ap₂, _∙_, subst}
 use mathlib.Core.List.{List, [], _∷_, _++_, append-assoc, List·Memᴰ·head as here, List·Memᴰ·tail as there}
 use Prim.Native.Nat.{ℕ, zero, suc, _+_, _*_, _-_, _≤_, _<_}
 use native.Mathlib.Omega.{arith}
-use native.Mathlib.Nat.{suc-mul, zero-mul, zero-add, suc-add, add-mul, mul-le-mul-right}
+use native.Mathlib.Nat.{one-mul, suc-mul, zero-mul, zero-add, suc-add, add-mul, mul-le-mul-right}
 use native.Mathlib.Numerals.{add-one}
 use lib.ListN.{length, take, drop, getD, length-append, length-drop}
 use lib.Seq.{length-take-le, take-at, drop-at, take-nil, take-take, drop-drop, take-add}
@@ -85,24 +85,35 @@ blocks-behind z i n d e h =
     ∙ ap₂ (λ (a b : List (List ℕ)). a ++ b) (blocks-agree z i (take (i * z) d ++ e) d (take-at (take (i * z) d) e (i * z) l))
     (ap (blocks z n) (drop-at (take (i * z) d) e (i * z) l))
 
--- A record that is written behind the first n, from a place no lower: the n + 1 records, and the bytes behind its old place.
-module _ (z : ℕ) (d : List ℕ) (from to n : ℕ) (at : to ≡ n * z) (down : to ≤ from) (fits : from + z ≤ length d) where
-  length-moved : length (take z (drop from d)) ≡ z
-  length-moved = let l = length-drop from d in length-take-le z (drop from d) (omega arith)
+-- m records that are written behind the first n, from a place no lower: the n + m records.
+pub blocks-joined : (z : ℕ) (d : List ℕ) (from to n m : ℕ) → to ≡ n * z → to ≤ from → from + m * z ≤ length d
+    → blocks z (n + m) (overwrite d to (take (m * z) (drop from d))) ≡ blocks z n d ++ blocks z m (drop from d)
+blocks-joined z d from to n m at down fits =
+    let x : List ℕ = take (m * z) (drop from d) in
+    let l = length-drop from d in
+    let lx : length x ≡ m * z = length-take-le (m * z) (drop from d) (omega arith) in
+    let o : List ℕ = overwrite d to x in
+    let front : blocks z n o ≡ blocks z n d =
+    blocks-agree z n o d (ap (λ (k : ℕ). take k o) (sym at) ∙ take-overwrite d to x to (omega arith) (omega arith) ∙ ap (λ (k : ℕ). take k d) at) in
+    let later : blocks z m (drop (n * z) o) ≡ blocks z m (drop from d) =
+    blocks-agree z m (drop (n * z) o) (drop from d)
+    (ap (λ (k : ℕ). take (m * z) (drop k o)) (sym at) ∙ ap (λ (k : ℕ). take k (drop to o)) (sym lx) ∙ written d to x (omega arith)) in
+    blocks-split z n m o ∙ ap₂ (λ (a b : List (List ℕ)). a ++ b) front later
 
+-- One record: the n + 1 records, and the bytes behind its old place.
+module _ (z : ℕ) (d : List ℕ) (from to n : ℕ) (at : to ≡ n * z) (down : to ≤ from) (fits : from + z ≤ length d) where
   pub blocks-moved : blocks z (n + 1) (overwrite d to (take z (drop from d))) ≡ blocks z n d ++ (take z (drop from d) ∷ [])
   unfolding blocks
   blocks-moved =
-      let x : List ℕ = take z (drop from d) in
-      let o : List ℕ = overwrite d to x in
-      let front : blocks z n o ≡ blocks z n d =
-      blocks-agree z n o d (ap (λ (k : ℕ). take k o) (sym at) ∙ take-overwrite d to x to (omega arith) (omega arith) ∙ ap (λ (k : ℕ). take k d) at) in
-      let last : take z (drop (n * z) o) ≡ x =
-      ap (λ (k : ℕ). take z (drop k o)) (sym at) ∙ ap (λ (k : ℕ). take k (drop to o)) (sym length-moved) ∙ written d to x (omega arith) in
-      blocks-split z n 1 o ∙ ap₂ (λ (l : List (List ℕ)) (b : List ℕ). l ++ (b ∷ [])) front last
+      let e = one-mul z in
+      subst (λ (k : ℕ). blocks z (n + 1) (overwrite d to (take k (drop from d))) ≡ blocks z n d ++ (take z (drop from d) ∷ [])) e
+      (blocks-joined z d from to n 1 at down (omega arith))
 
   pub behind-moved : drop (from + z) (overwrite d to (take z (drop from d))) ≡ drop (from + z) d
-  behind-moved = let l = length-moved in drop-overwrite d to (take z (drop from d)) (from + z) (omega arith) (omega arith)
+  behind-moved =
+      let l = length-drop from d in
+      let m = length-take-le z (drop from d) (omega arith) in
+      drop-overwrite d to (take z (drop from d)) (from + z) (omega arith) (omega arith)
 
 -- A record put in front of n others: they are moved up by a record, and it is written in the gap.
 pub blocks-inserted : (z : ℕ) (d : List ℕ) (n : ℕ) (x : List ℕ) → n * z + z ≤ length d → length x ≡ z

@@ -3,21 +3,17 @@ use mathlib.Core.Path.{_≡_, refl, sym, ap, ap₂, _∙_}
 use mathlib.Core.Bool.{Bool, true, false, not, cond}
 use mathlib.Core.List.{List, [], _∷_, _++_, List·Memᴰ·cases-cons, List·Memᴰ·head as here}
 use mathlib.Core.Logic.{_⊎_, inl, inr, ⊎-elim}
-use Prim.Native.Nat.{ℕ, suc, _+_, _-_, _≤_, _<_}
-use native.Mathlib.Omega.{arith}
+use Prim.Native.Nat.{ℕ, suc}
 use lib.IntN.{ℤ, pos}
-use lib.ListN.{length, take, drop}
+use lib.ListN.{take, drop}
 use Rattle.order.specs.Test.{by-test, clash, refute}
-use Rattle.order.specs.Lists.{_∈_, any, filter, filter-mem, none-any}
-use Rattle.order.specs.Order.{TotalOrder, orderℤ, dictionary-trans, dictionaryLe}
+use Rattle.order.specs.Lists.{_∈_, any, filter, filter-mem}
+use Rattle.order.specs.Order.{TotalOrder, orderℤ, dictionaryLe}
 use Rattle.order.specs.Sorted.{Rising, Sorted, insert, rising-sorted}
 use Rattle.frontier.specs.Dominance.{leAll, leAll-refl, leAll→dictionaryLe, dominates, le-cases}
 use Rattle.frontier.specs.Frontier.{Problem, insertPlan, vector, vectorOrder}
-use Rattle.network.specs.PlanList.{planSize}
-use Rattle.network.specs.Calls.{costValues}
 use Rattle.network.specs.declared.Costs.{Costs}
-use Rattle.planlist.specs.Blocks.{blocks, blocks-turn, length-blocks}
-use Rattle.planlist.specs.Records.{costsAt, atMost, inOrder, at-most-before, costs-block}
+use Rattle.planlist.specs.Records.{costsAt, atMost, inOrder}
 
 -- records as solutions: the sum is the objective, and y1 and y2 are the ceiling costs
 abbrev pub records : Problem ℤ (List ℕ)
@@ -44,7 +40,7 @@ unfoldable pub prunedBy : Costs → List (List ℕ) → List (List ℕ)
 prunedBy v bs = filter (λ b. not (atMost v (costsAt b 0))) bs
 
 -- how many members stand before the first that passes the test
-abbrev leading : {A : Type 0} → (A → Bool) → List A → ℕ
+abbrev pub leading : {A : Type 0} → (A → Bool) → List A → ℕ
 leading p [] = 0
 leading p (x ∷ l) = let r = leading p l in cond (p x) 0 (suc r)
 
@@ -52,109 +48,9 @@ leading p (x ∷ l) = let r = leading p l in cond (p x) 0 (suc r)
 unfoldable pub placeOf : Costs → List (List ℕ) → ℕ
 placeOf v bs = leading (λ b. inOrder v (costsAt b 0)) bs
 
--- the same by one pass that stops there; one more than all, where it meets a record with costs that are at most v
-unfoldable pub freePlace : Costs → List (List ℕ) → ℕ
-freePlace v [] = 0
-freePlace v (b ∷ bs) =
-    let r = suc (freePlace v bs) in
-    cond (atMost (costsAt b 0) v) (suc (length (b ∷ bs))) (cond (inOrder v (costsAt b 0)) 0 r)
-
 -- the records stand in strictly rising order of their costs
 pub record RecordsRise (bs : List (List ℕ)) : Type 0 where
   pub rising : Rising (vectorOrder records) (vector records) bs
-
--- a choice by the opposite test
-flip : {A : Type 0} (b : Bool) (x y : A) → cond (not b) y x ≡ cond b x y
-flip true x y = refl
-flip false x y = refl
-
--- ---- a turn of a loop over them, at the record at index `at`
-
-module _ (v : Costs) (bs : List ℕ) (at left z : ℕ) (more : 0 < left) (wide : planSize 0 ≤ z) where
-  -- a function of the records, by what it makes of the first one's costs
-  turn : {A : Type 0} (f : List (List ℕ) → A) (g : Costs → A) → f (take z (drop at bs) ∷ blocks z (left - 1) (drop (at + z) bs)) ≡ g (costsAt (take z (drop at bs)) 0)
-      → f (blocks z left (drop at bs)) ≡ g (costsAt bs at)
-  turn f g e = ap f (blocks-turn z left at bs more) ∙ e ∙ ap g (costs-block bs at z wide)
-
-  pub pruned-turn : {b : Bool} → atMost v (costsAt bs at) ≡ b
-      → prunedBy v (blocks z left (drop at bs))
-      ≡ cond b (prunedBy v (blocks z (left - 1) (drop (at + z) bs))) (take z (drop at bs) ∷ prunedBy v (blocks z (left - 1) (drop (at + z) bs)))
-  unfolding prunedBy
-  pruned-turn e =
-      let x = take z (drop at bs) in
-      let rest = prunedBy v (blocks z (left - 1) (drop (at + z) bs)) in
-      turn (prunedBy v) (λ w. cond (not (atMost v w)) (x ∷ rest) rest) refl
-      ∙ flip (atMost v (costsAt bs at)) rest (x ∷ rest)
-      ∙ ap (λ (b : Bool). cond b rest (x ∷ rest)) e
-
-  pub free-turn : {p q : Bool} → atMost (costsAt bs at) v ≡ p → inOrder v (costsAt bs at) ≡ q
-      → freePlace v (blocks z left (drop at bs)) ≡ cond p (suc left) (cond q 0 (suc (freePlace v (blocks z (left - 1) (drop (at + z) bs)))))
-  unfolding freePlace
-  free-turn e f =
-      let rest = blocks z (left - 1) (drop (at + z) bs) in
-      let all : suc (length rest) ≡ left = omega (arith, length-blocks z (left - 1) (drop (at + z) bs)) in
-      turn (freePlace v) (λ w. cond (atMost w v) (suc (suc (length rest))) (cond (inOrder v w) 0 (suc (freePlace v rest)))) refl
-      ∙ (λ i. cond (e i) (suc (all i)) (cond (f i) 0 (suc (freePlace v rest))))
-
--- ---- with no record
-
-pub pruned-none : (v : Costs) → prunedBy v [] ≡ []
-unfolding prunedBy
-pruned-none v = refl
-
-pub free-none : (v : Costs) → freePlace v [] ≡ 0
-unfolding freePlace
-free-none v = refl
-
--- ---- one pass over rising records
-
-leading-few : {A : Type 0} (p : A → Bool) (l : List A) → leading p l ≤ length l
-leading-few p [] = omega arith
-leading-few p (x ∷ l) = let ih = leading-few p l in by-test (p x) (λ e. rw e (omega arith)) (λ e. rw e (omega arith))
-
-suc-cond : (t : Bool) (m n : ℕ) → suc (cond t m n) ≡ cond t (suc m) (suc n)
-suc-cond true m n = refl
-suc-cond false m n = refl
-
-module _ (v : Costs) where
-  -- from a record on that v stands before, none is at most v
-  free-from : (b : List ℕ) (bs : List (List ℕ)) → Rising (vectorOrder records) (vector records) (b ∷ bs) → inOrder v (costsAt b 0) ≡ true
-      → coveredBy v bs ≡ false
-  unfolding coveredBy inOrder atMost
-  free-from b bs r h =
-      none-any (λ c. atMost (costsAt c 0) v) bs
-      (λ c m. refute (atMost (costsAt c 0) v) (inOrder (costsAt c 0) (costsAt b 0))
-      (λ k. dictionary-trans orderℤ (vector records c) (costValues v) (vector records b) (at-most-before (costsAt c 0) v k) h) (r .0 c m))
-
-  by-one-pass : (bs : List (List ℕ)) → Rising (vectorOrder records) (vector records) bs
-      → freePlace v bs ≡ cond (coveredBy v bs) (suc (length bs)) (placeOf v bs)
-  unfolding freePlace coveredBy placeOf
-  by-one-pass [] r = refl
-  by-one-pass (b ∷ bs) r =
-      by-test (atMost (costsAt b 0) v)
-      (λ e. rw e refl)
-      (λ e. by-test (inOrder v (costsAt b 0))
-      (λ f. rw (e, f, free-from b bs r f))
-      (λ f. rw (e, f) (ap suc (by-one-pass bs (r .1)) ∙ suc-cond (coveredBy v bs) (suc (length bs)) (placeOf v bs))))
-
-  module _ (bs : List (List ℕ)) (r : RecordsRise bs) where
-    -- beyond all: a record is at most v
-    pub free-covered : length bs < freePlace v bs → coveredBy v bs ≡ true
-    unfolding placeOf
-    free-covered h =
-        by-test (coveredBy v bs) (λ e. e)
-        (λ e.
-        let one = by-one-pass bs (r .rising) ∙ ap (λ (t : Bool). cond t (suc (length bs)) (placeOf v bs)) e in
-        absurd (omega (arith, leading-few (λ b. inOrder v (costsAt b 0)) bs)))
-
-    -- else none is, and it is v's place
-    pub free-place : freePlace v bs ≤ length bs → (coveredBy v bs ≡ false) × (freePlace v bs ≡ placeOf v bs)
-    free-place h =
-        by-test (coveredBy v bs)
-        (λ e.
-        let one = by-one-pass bs (r .rising) ∙ ap (λ (t : Bool). cond t (suc (length bs)) (placeOf v bs)) e in
-        absurd (omega arith))
-        (λ e. (e, by-one-pass bs (r .rising) ∙ ap (λ (t : Bool). cond t (suc (length bs)) (placeOf v bs)) e))
 
 -- ---- insertion by its parts
 

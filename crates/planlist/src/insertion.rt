@@ -12,9 +12,10 @@ ghost use Prim.Native.Nat.{_+_, _*_, _≤_};
 ghost use lib.ListN.{length};
 ghost use Rattle.network.specs.PlanList.{planBytes, planSize};
 ghost use Rattle.planlist.specs.Blocks.{blocks};
-ghost use Rattle.planlist.specs.Insertion.{RecordsRise, freePlace, insertRecord, prunedBy};
+ghost use Rattle.planlist.specs.Insertion.{RecordsRise, insertRecord};
+ghost use Rattle.planlist.specs.Passes.{Level, freePlace, prunedLevel};
 
-// The number of records that stand before v; one more than all, where one of them is at most v. No later record is at most v, as they rise.
+// The number of records that stand before v; one more than all, where a record with v's sum is at most v. None with another sum is.
 fn free_place(plans: &[u8], count: usize, size: usize, v: Costs) -> usize
     requires { ⌜ (planSize 0 ≤ size) × (count * size ≤ length (now plans)) ⌝ }
     ensures { λ r. ⌜ r ≡ freePlace v (blocks size count (now (plans .entry))) ⌝ }
@@ -23,29 +24,39 @@ fn free_place(plans: &[u8], count: usize, size: usize, v: Costs) -> usize
     let mut left = count;
     while 0 < left {
         let w = costs_at(plans, at);
-        if at_most(w, v) {
-            return count + 1;
+        if w.sum < v.sum {
+            at += size;
+            left -= 1;
+        } else {
+            if at_most(w, v) {
+                return count + 1;
+            }
+            if in_order(v, w) {
+                return count - left;
+            }
+            at += size;
+            left -= 1;
         }
-        if in_order(v, w) {
-            return count - left;
-        }
-        at += size;
-        left -= 1;
     }
     count
 }
 
-// Drops the plans that v is at most, keeps the others' order, and returns their count.
+// Drops the plans that v is at most, keeps the others' order, and returns their count. None with a higher sum is dropped.
 fn prune(plans: &mut [u8], count: usize, size: usize, v: Costs) -> usize
     requires { ⌜ (planSize 0 ≤ size) × (count * size ≤ length (now plans)) ⌝ }
-    ensures { λ r. ⌜ (r ≤ count) × (blocks size r (now (plans .exit)) ≡ prunedBy v (blocks size count (now (plans .entry)))) ⌝ }
+    ensures { λ r. ⌜ (r ≤ count) × (blocks size r (now (plans .exit)) ≡ prunedLevel v (blocks size count (now (plans .entry)))) ⌝ }
 {
     let mut from = 0;
     let mut to = 0;
     let mut kept = 0;
     let mut left = count;
     while 0 < left {
-        if at_most(v, costs_at(plans, from)) {
+        let w = costs_at(plans, from);
+        if v.sum < w.sum {
+            move_down(plans, from, to, left * size);
+            return kept + left;
+        }
+        if at_most(v, w) {
             from += size;
             left -= 1;
         } else {
@@ -62,7 +73,7 @@ fn prune(plans: &mut [u8], count: usize, size: usize, v: Costs) -> usize
 // Drops the plans that v is at most out of `count` records, puts v's plan in front of the others, and returns the new count.
 fn put(plans: &mut [u8], count: usize, v: Costs, links: &[u8]) -> usize
     requires { ⌜ (count + 1) * planSize (length (now links)) ≤ length (now plans) ⌝ }
-    ensures { λ r. ⌜ (r ≤ count + 1) × (blocks (planSize (length (now (links .entry)))) r (now (plans .exit)) ≡ planBytes v (now (links .entry)) ∷ prunedBy v (blocks (planSize (length (now (links .entry)))) count (now (plans .entry)))) ⌝ }
+    ensures { λ r. ⌜ (r ≤ count + 1) × (blocks (planSize (length (now (links .entry)))) r (now (plans .exit)) ≡ planBytes v (now (links .entry)) ∷ prunedLevel v (blocks (planSize (length (now (links .entry)))) count (now (plans .entry)))) ⌝ }
 {
     let size = 10 + links.len();
     let kept = prune(plans, count, size, v);
@@ -73,7 +84,7 @@ fn put(plans: &mut [u8], count: usize, v: Costs, links: &[u8]) -> usize
 
 // Puts a plan into the frontier of `count` records, and returns the new count. The records in front of its place stay as they are.
 pub(crate) fn insert(plans: &mut [u8], count: usize, v: Costs, links: &[u8]) -> usize
-    requires { ⌜ ((count + 1) * planSize (length (now links)) ≤ length (now plans)) × RecordsRise (blocks (planSize (length (now links))) count (now plans)) ⌝ }
+    requires { ⌜ ((count + 1) * planSize (length (now links)) ≤ length (now plans)) × RecordsRise (blocks (planSize (length (now links))) count (now plans)) × Level v (blocks (planSize (length (now links))) count (now plans)) ⌝ }
     ensures { λ r. ⌜ (r ≤ count + 1) × (blocks (planSize (length (now (links .entry)))) r (now (plans .exit)) ≡ insertRecord (planBytes v (now (links .entry))) (blocks (planSize (length (now (links .entry)))) count (now (plans .entry)))) ⌝ }
 {
     let size = 10 + links.len();

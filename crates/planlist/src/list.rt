@@ -11,11 +11,12 @@ ghost use Rattle.network.specs.Limits.{maxPlans};
 ghost use Rattle.network.specs.PlanList.{headSize, planBytes, planSize};
 ghost use Rattle.planlist.specs.Blocks.{blocks};
 ghost use Rattle.planlist.specs.Insertion.{RecordsRise, insertRecord};
+ghost use Rattle.planlist.specs.Passes.{Level};
 ghost use Rattle.planlist.specs.Finished.{finished};
 
 // Puts a plan into the frontier that stands behind the place of the list head, and returns the new count.
 pub fn insert_plan(out: &mut [u8], count: usize, v: Costs, links: &[u8]) -> usize
-    requires { ⌜ (headSize + (count + 1) * planSize (length (now links)) ≤ length (now out)) × RecordsRise (blocks (planSize (length (now links))) count (drop headSize (now out))) ⌝ }
+    requires { ⌜ (headSize + (count + 1) * planSize (length (now links)) ≤ length (now out)) × RecordsRise (blocks (planSize (length (now links))) count (drop headSize (now out))) × Level v (blocks (planSize (length (now links))) count (drop headSize (now out))) ⌝ }
     ensures { λ r. ⌜ (r ≤ count + 1) × (blocks (planSize (length (now (links .entry)))) r (drop headSize (now (out .exit))) ≡ insertRecord (planBytes v (now (links .entry))) (blocks (planSize (length (now (links .entry)))) count (drop headSize (now (out .entry))))) ⌝ }
 {
     insert(&mut out[10..], count, v, links)

@@ -1,6 +1,7 @@
 -- The entries of the walk when the first n positions have been visited, and the plans that they leave.
 use mathlib.Core.Bool.{true, false}
-use mathlib.Core.List.{List, [], _∷_, _++_}
+use mathlib.Core.List.{List, [], _∷_, _++_, List·Memᴰ·not-nil}
+use mathlib.Core.Logic.{_⊎_, inl, inr}
 use mathlib.Core.Option.{Option, none, some}
 use mathlib.Core.Path.{_≡_, refl, sym, ap, _∙_}
 use Prim.Native.Nat.{ℕ, _+_, _≤_, _<_}
@@ -8,13 +9,15 @@ use native.Mathlib.Numerals.{add-one}
 use native.Mathlib.Omega.{arith}
 use lib.ListN.{drop, getD, length, length-append, take, take-append-drop}
 use lib.Seq.{take-all, take-suc}
-use Rattle.order.specs.Lists.{mapSome-append, prepend}
-use Rattle.frontier.specs.Frontier.{Entry, Problem, answers, collect, covered, insertPlan, positions, solve, solved, visit, walk}
+use Rattle.order.specs.Lists.{_∈_, mapSome-append, mapSome-mem, prepend}
+use Rattle.frontier.specs.Best.{best-some}
+use Rattle.frontier.specs.Dominance.{leAll, leAll-tail, leAll-trans}
+use Rattle.frontier.specs.Frontier.{Entry, Problem, answers, best, collect, covered, insertPlan, positions, solve, solved, vector, visit, walk}
 use Rattle.frontier.specs.Plans.{collect-append}
-use Rattle.frontier.specs.Walk.{walk-grows}
+use Rattle.frontier.specs.Walk.{walk-grows, walk-member}
 
 module _ {C S : Type 0} (P : Problem C S) where
-  open Problem P using (values)
+  open Problem P using (order, objective, ceilings, values)
 
   unfoldable pub entriesAt : ℕ → List (Entry C S)
   entriesAt n = walk P (take n (positions values)) []
@@ -71,3 +74,22 @@ module _ {C S : Type 0} (P : Problem C S) where
       go : (o : Option S) → collect P (collect P [] (answers P es)) (prepend o []) ≡ takeAnswer o (collect P [] (answers P es))
       go none = refl
       go (some s) = refl
+
+  -- an answer is the best solution at a position
+  pub answered : (n : ℕ) {s : S} → s ∈ answers P (entriesAt n) → (b : List C) × (best P b ≡ some s)
+  unfolding entriesAt
+  answered n {s} m =
+      let w = mapSome-mem (λ e. e .answer) (entriesAt n) m in
+      go (w .0) (w .2) (walk-member P (take n (positions values)) [] (w .1))
+    where
+      go : (e : Entry C S) → e .answer ≡ some s → (e ∈ []) ⊎ ((b : List C) × (b ∈ take n (positions values)) × (e ≡ solve P b)) → (b : List C) × (best P b ≡ some s)
+      go e k (inl o) = absurd (List·Memᴰ·not-nil o)
+      go e k (inr w) = (w .0, sym (ap (λ (x : Entry C S). x .answer) (w .2)) ∙ k)
+
+  -- a best solution's objective is no higher than that of a best solution whose costs are at most its own
+  pub no-lower : (b c : List C) (s t : S) → best P b ≡ some t → best P c ≡ some s → leAll order (vector P s) (vector P t) ≡ true
+      → order .le (objective t) (objective s) ≡ true
+  no-lower b c s t e f h =
+      let o = best-some P b t e in
+      o .lowest s (best-some P c s f .member)
+      (leAll-trans order (ceilings s) (ceilings t) b (leAll-tail order (objective s) (objective t) (ceilings s) (ceilings t) h) (o .passes))

@@ -1,15 +1,17 @@
 -- The walk as its loop does it: what the marks and the records are when the first n positions have been visited.
 use mathlib.Core.Bool.{Bool, true, false, cond, _||_}
 use mathlib.Core.List.{List, [], _∷_, _++_, map, List·Memᴰ·not-nil}
+use mathlib.Core.Logic.{_⊎_, inl, inr}
 use mathlib.Core.Option.{Option, none, some}
 use mathlib.Core.Path.{_≡_, refl, sym, ap, _∙_, ap₂, subst, subst⁻¹}
 use Prim.Native.Nat.{ℕ, _+_, _≤_, _<_}
 use native.Mathlib.Omega.{arith}
+use borrow.Author.Tests.{leb-true}
 use lib.IntN.{ℤ}
 use lib.ListN.{drop, getD, getD-replicate, length, length-append, replicate}
-use Rattle.order.specs.Lists.{any-snoc}
+use Rattle.order.specs.Lists.{_∈_, any-snoc}
 use Rattle.frontier.specs.Frontier.{Entry, answers, collect, covered, covers, solve}
-use Rattle.frontier.specs.Plans.{collect-front}
+use Rattle.frontier.specs.Plans.{Front, collect-front, collect-member}
 use Rattle.frontier.specs.Walk.{positions-length}
 use Rattle.planning.specs.Grid.{walk-lists}
 use Rattle.network.specs.Yard.{best, graph, treeSize, yard}
@@ -20,12 +22,13 @@ use Rattle.network.specs.declared.Network.{Network}
 use Rattle.planlist.specs.Blocks.{blocks}
 use Rattle.planlist.specs.Records.{Writable}
 use Rattle.planlist.specs.Insertion.{RecordsRise, insertRecord}
-use Rattle.planlist.specs.Stored.{Holds, absent, costs-padded, holds-inserted, holds-none, holds-rise}
+use Rattle.planlist.specs.Passes.{Level}
+use Rattle.planlist.specs.Stored.{Holds, Padded, absent, costs-padded, holds-inserted, holds-level, holds-none, holds-rise}
 use Rattle.planlist.specs.Finished.{finished, finished-list, thenZeros}
 use Rattle.marking.specs.Settle.{Settled}
 use Rattle.marking.specs.Slots.{rank-count}
 use Rattle.marking.specs.Unmarked.{nextUnmarked, unmarked-keeps}
-use Rattle.walk.specs.Entries.{collect-more, entries-all, entries-fewer, entries-none, entries-skip, entries-solve, entriesAt, takeAnswer}
+use Rattle.walk.specs.Entries.{answered, collect-more, entries-all, entries-fewer, entries-none, entries-skip, entries-solve, entriesAt, no-lower, takeAnswer}
 
 -- a mark
 abbrev pub bit : Bool → ℕ
@@ -65,6 +68,15 @@ module _ (net : Network) where
     pub writable : (ts : List ℕ) → best net (getD (positions net) n []) ≡ some ts → Writable (costsOf net ts)
     pub bounded : count′ ≤ count + 1
 
+  -- what taking in the plan of position n asks of the `count` records of bs: they rise, and it compares with none of another sum. Of two plans found,
+  -- one that is at most the other fits where the other is best, so its sum is not the lower one.
+  pub record Prepared (n : ℕ) (bs : List ℕ) (count : ℕ) : Type 0 where
+    pub rise : RecordsRise (blocks (planSize (treeSize net)) count (drop headSize bs))
+    pub level : (ts : List ℕ) → best net (getD (positions net) n []) ≡ some ts → Level (costsOf net ts) (blocks (planSize (treeSize net)) count (drop headSize bs))
+
+  padded : NetworkFine net → (ts : List ℕ) → Padded (yard net) (costsOf net) (λ ts. ts) (absent net) ts
+  padded fine ts = costs-padded net ts (omega (arith, rank-count net fine, fine .few-ceilings))
+
   -- the marks, the records and the counts when the entries es have been solved
   pub record Reached (es : List (Entry ℤ (List ℕ))) (ms bs : List ℕ) (count done : ℕ) : Type 0 where
     pub marks : (x : ℕ) → x < positionCount net → getD ms x 0 ≡ bit (covered (yard net) es (getD (positions net) x []))
@@ -88,12 +100,31 @@ module _ (net : Network) where
     inside : n < length (positions net)
     inside = omega (arith, positions-length (values net))
 
-    -- the records rise
-    pub rise : RecordsRise (blocks (planSize (treeSize net)) count (drop headSize bs))
-    rise =
-        let found = answers (yard net) (entriesAt (yard net) n) in
-        let front = collect-front (yard net) found [] (record { rising = tt; antichain = λ a b m k. absurd (List·Memᴰ·not-nil m) }) in
-        holds-rise (yard net) (costsOf net) (λ ts. ts) (absent net) refl (collect (yard net) [] found) (p .records) (front .rising)
+    -- its plan can be taken in
+    pub prepared : NetworkFine net → Prepared n bs count
+    prepared fine = record {
+      rise = holds-rise (yard net) (costsOf net) (λ ts. ts) (absent net) refl plans (p .records) (front .rising);
+      level = λ ts e.
+          holds-level (yard net) (costsOf net) (λ ts. ts) (absent net) refl plans (p .records) ts (padded fine ts)
+          (λ s m h. let w = best-at s m in leb-true (costsOf net ts .sum) (costsOf net s .sum) (no-lower (yard net) (getD (positions net) n []) (w .0) s ts e (w .1) h))
+          (λ s m h. let w = best-at s m in leb-true (costsOf net s .sum) (costsOf net ts .sum) (no-lower (yard net) (w .0) (getD (positions net) n []) ts s (w .1) e h));
+    }
+      where
+        found : List (List ℕ)
+        found = answers (yard net) (entriesAt (yard net) n)
+
+        plans : List (List ℕ)
+        plans = collect (yard net) [] found
+
+        front : Front (yard net) plans
+        front = collect-front (yard net) found [] (record { rising = tt; antichain = λ a b m k. absurd (List·Memᴰ·not-nil m) })
+
+        best-at : (s : List ℕ) → s ∈ plans → (b : List ℤ) × (best net b ≡ some s)
+        best-at s m = go (collect-member (yard net) found [] m)
+          where
+            go : (s ∈ []) ⊎ (s ∈ found) → (b : List ℤ) × (best net b ≡ some s)
+            go (inl k) = absurd (List·Memᴰ·not-nil k)
+            go (inr k) = answered (yard net) n k
 
     -- a marked position is skipped
     pub skip : (getD ms n 0 ≡ 0 → ⊥) → Progress (n + 1) ms bs count done
@@ -130,7 +161,7 @@ module _ (net : Network) where
           taken none b e = record { records-are = e ∙ p .records .records-are; stored = p .records .stored }
           taken (some ts) b e =
               holds-inserted (yard net) (costsOf net) (λ ts. ts) (absent net) refl ts (collect (yard net) [] (answers (yard net) (entriesAt (yard net) n))) (p .records)
-              (record { writable = v .writable ts b; padded = costs-padded net ts (omega (arith, rank-count net fine, fine .few-ceilings)) }) e
+              (record { writable = v .writable ts b; padded = padded fine ts }) e
 
   -- all marked positions among n from number `at` on are skipped
   pub skip-all : {ms bs : List ℕ} {count done : ℕ} (n at : ℕ) → at + n ≤ positionCount net → Progress at ms bs count done

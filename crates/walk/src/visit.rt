@@ -6,13 +6,11 @@ use network::Network;
 use planlist::list::insert_plan;
 use question::solve;
 ghost use Prim.Native.Nat.{_+_, _*_, _≤_, _<_};
-ghost use lib.ListN.{length, drop};
+ghost use lib.ListN.{length};
 ghost use Rattle.network.specs.PlanList.{headSize, planSize};
 ghost use Rattle.network.specs.Walk.{positionCount};
 ghost use Rattle.network.specs.Yard.{treeSize};
-ghost use Rattle.planlist.specs.Blocks.{blocks};
-ghost use Rattle.planlist.specs.Insertion.{RecordsRise};
-ghost use Rattle.walk.specs.Progress.{Visited};
+ghost use Rattle.walk.specs.Progress.{Prepared, Visited};
 ghost use Rattle.walk.specs.Visit.{Ready};
 
 // Solves position n, marks what the answer settles, and takes the plan into the frontier; returns the new number of plans.
@@ -26,7 +24,7 @@ pub fn solve_at(
     out: &mut [u8],
     count: usize,
 ) -> usize
-    requires { ⌜ Ready net (now order) (now v1) (now v2) × (n < positionCount net) × (positionCount net ≤ length (now marks)) × (headSize + (count + 1) * planSize (treeSize net) ≤ length (now out)) × RecordsRise (blocks (planSize (treeSize net)) count (drop headSize (now out))) ⌝ }
+    requires { ⌜ Ready net (now order) (now v1) (now v2) × (n < positionCount net) × (positionCount net ≤ length (now marks)) × (headSize + (count + 1) * planSize (treeSize net) ≤ length (now out)) × Prepared net n (now out) count ⌝ }
     ensures { λ r. ⌜ Visited net n (now (marks .entry)) (now (marks .exit)) (now (out .entry)) (now (out .exit)) count r ⌝ }
 {
     let m1 = v1.len();

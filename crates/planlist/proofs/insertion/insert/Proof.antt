@@ -9,7 +9,8 @@ use denote.Ref.{now}
 use Rattle.network.specs.PlanList.{planBytes, planSize}
 use Rattle.planlist.specs.Blocks.{blocks, blocks-behind, take-blocks, drop-blocks, length-blocks, room-behind}
 use Rattle.planlist.specs.Records.{costs-encoded}
-use Rattle.planlist.specs.Insertion.{coveredBy, free-covered, free-place, insert-covered, insert-free, placeOf, prunedBy}
+use Rattle.planlist.specs.Insertion.{coveredBy, insert-covered, insert-free, placeOf, prunedBy}
+use Rattle.planlist.specs.Passes.{free-covered, free-place, pruned-behind, prunedLevel}
 use borrow.Author.Needs.{needs}
 use Rattle.planlist.proofs.Tail.{tail-lent, tail-back}
 use Rattle.planlist.proofs.insertion.insert.Statement.{statement}
@@ -27,7 +28,7 @@ free c =
     let s = c .before .before .before .before .before in
     let count = length-blocks (planSize (length (now (s .args .links)))) (s .args .count) (now (s .args .plans)) in
     let e = c .before .free-place .ensures in
-    let r = free-place (s .args .v) (stored s) (s .pre .1) (omega (arith, c .if1 .left)) in
+    let r = free-place (s .args .v) (stored s) (s .pre .1) (s .pre .2) (omega (arith, c .if1 .left)) in
     (r .0, e ∙ r .1)
 
 -- and the records from there on and one more have room
@@ -55,7 +56,7 @@ returns c =
     let holds = costs-encoded (s .args .v) links (record { sum-fits = omega arith; y1-fits = search needs; y2-fits = search needs }) in
     let count = length-blocks (planSize (length links)) (s .args .count) (now (s .args .plans)) in
     let e = c .before .free-place .ensures in
-    let covered = free-covered (s .args .v) (stored s) (s .pre .1) (omega (arith, c .if1 .taken)) in
+    let covered = free-covered (s .args .v) (stored s) (s .pre .1) (s .pre .2) (omega (arith, c .if1 .taken)) in
     (omega arith, sym (insert-covered (planBytes (s .args .v) links) (s .args .v) (stored s) (s .pre .1) holds covered))
 
 mul-start : tie.Need-mul-start
@@ -101,7 +102,7 @@ returns-2 c =
       omega (arith, c .before .before .put .ensures .0),
       ap (blocks size (i + more)) (tail-back (i * size) d last)
           ∙ blocks-behind size i more d last (omega arith)
-          ∙ ap₂ (λ (l r : List (List ℕ)). l ++ r) (sym (take-blocks size i (a .count) d few)) (c .before .before .put .ensures .1 ∙ ap (λ (l : List (List ℕ)). x ∷ prunedBy (a .v) l) behind)
+          ∙ ap₂ (λ (l r : List (List ℕ)). l ++ r) (sym (take-blocks size i (a .count) d few)) (c .before .before .put .ensures .1 ∙ ap (λ (l : List (List ℕ)). x ∷ l) (ap (prunedLevel (a .v)) behind ∙ pruned-behind (a .v) (stored s) (s .pre .1) (s .pre .2) i))
           ∙ ap (λ (k : ℕ). take k (stored s) ++ x ∷ prunedBy (a .v) (drop k (stored s))) (free e .1)
           ∙ sym (insert-free x (a .v) (stored s) (s .pre .1) holds (free e .0)),
     )

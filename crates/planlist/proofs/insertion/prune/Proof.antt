@@ -1,43 +1,89 @@
 -- `planlist::insertion::prune` meets its contract. The invariant: what is to be kept is the records in front, `kept` of them, and what is to be kept of those
 -- from `from` on.
 use mathlib.Core.Path.{_≡_, refl, sym, ap, ap₂, _∙_}
+use mathlib.Core.Bool.{Bool, false}
 use mathlib.Core.List.{List, _++_, append-nil}
 use Prim.Native.Nat.{ℕ, _+_, _*_, _-_, _≤_}
 use native.Mathlib.Omega.{arith}
 use native.Mathlib.Nat.{zero-mul, suc-mul}
 use native.Mathlib.Numerals.{add-one}
+use borrow.Author.Tests.{le-ltb, lt-ltb}
+use lib.Dec.{ltb}
 use lib.ListN.{length, take, drop}
 use lib.Seq.{append-snoc}
 use denote.Ref.{now}
 use Rattle.network.specs.PlanList.{planSize}
-use Rattle.planlist.specs.Blocks.{blocks, blocks-none, mul-step, blocks-moved, behind-moved}
-use Rattle.planlist.specs.Records.{atMost}
-use Rattle.planlist.specs.Insertion.{prunedBy, pruned-turn, pruned-none}
+use Rattle.network.specs.declared.Costs.{Costs}
+use Rattle.planlist.specs.Blocks.{blocks, blocks-none, mul-step, blocks-joined, blocks-moved, behind-moved}
+use Rattle.planlist.specs.Records.{atMost, costsAt}
+use Rattle.planlist.specs.Passes.{prunedLevel, pruned-turn, pruned-none}
 use Rattle.planlist.proofs.insertion.prune.Statement.{statement}
 use Rattle.planlist.proofs.insertion.prune.Tie as tie
 
 abbrev Inv-loop : tie.InvT-loop
 Inv-loop plans₀ count size v from₀ to₀ kept₀ left₀ plans from to kept left =
     (length plans ≡ length plans₀) × (planSize 0 ≤ size) × (to ≤ from) × (from + left * size ≤ length plans) × (to ≡ kept * size) × (kept + left ≤ count)
-    × (prunedBy v (blocks size count plans₀) ≡ blocks size kept plans ++ prunedBy v (blocks size left (drop from plans)))
+    × (prunedLevel v (blocks size count plans₀) ≡ blocks size kept plans ++ prunedLevel v (blocks size left (drop from plans)))
 
 abbrev μ-loop : tie.MeasureT-loop
 μ-loop plans₀ count size v from₀ to₀ kept₀ left₀ plans from to kept left = left
 
+-- the costs in the record at `from`
+abbrev held : tie.After-struct-known2 Inv-loop μ-loop → Costs
+held k = costsAt (k .before .before .before .before .before .loop .plans) (k .before .before .before .before .before .loop .from)
+
+-- that its sum is no higher than that of v
+no-higher : (c : tie.Else1 Inv-loop μ-loop) → ltb (c .before .before .before .before .before .before .before .before .args .v .sum) (held (c .before) .sum) ≡ false
+no-higher c =
+    let e = ap (λ (w : Costs). w .sum) (c .before .before .before .costs-at .ensures) in
+    le-ltb (c .before .before .before .before .before .before .before .before .args .v .sum) (held (c .before) .sum) (omega (arith, c .if1 .left))
+
+-- and whether v is at most it
+compared : (c : tie.After-at-most Inv-loop μ-loop) → {b : Bool} → c .at-most .result ≡ b → atMost (c .before .before .before .before .before .before .before .before .before .args .v) (held (c .before .before)) ≡ b
+compared c e = sym (c .at-most .ensures ∙ ap (atMost (c .before .before .before .before .before .before .before .before .before .args .v)) (c .before .before .before .before .costs-at .ensures)) ∙ e
+
 loop-holds : tie.Need-loop-holds Inv-loop μ-loop
 loop-holds c =
     let a = c .before .args in
-    let none = ap (λ (l : List (List ℕ)). l ++ prunedBy (a .v) (blocks (a .size) (a .count) (now (a .plans)))) (sym (blocks-none (a .size) 0 (now (a .plans)) refl)) in
+    let none = ap (λ (l : List (List ℕ)). l ++ prunedLevel (a .v) (blocks (a .size) (a .count) (now (a .plans)))) (sym (blocks-none (a .size) 0 (now (a .plans)) refl)) in
     (refl, omega arith, omega arith, omega arith, omega (arith, zero-mul (a .size)), omega arith, none)
 
 costs-at-requires : tie.Need-costs-at-requires Inv-loop μ-loop
 costs-at-requires c κs = omega (arith, mul-step (c .before .before .loop .left) (c .before .before .before .before .args .size) (c .before .loop-test .taken))
 
+mul-move-down : tie.Need-mul-move-down Inv-loop μ-loop
+mul-move-down c = omega (arith, c .before .before .before .before .before .before .before .loop .inv .0, c .before .before .before .before .before .before .before .loop .inv .3, c .before .before .before .before .before .before .before .before .before .good)
+
+move-down-requires : tie.Need-move-down-requires Inv-loop μ-loop
+move-down-requires c κs = (omega arith, omega arith)
+
+add-result : tie.Need-add-result Inv-loop μ-loop
+add-result c = omega (arith, c .before .before .before .before .before .before .before .before .before .before .loop .inv .5, c .before .before .before .before .before .before .before .before .before .before .before .before .fits .count)
+
+same-length : tie.Need-same-length Inv-loop μ-loop
+same-length c = omega (arith, c .before .before .before .before .before .before .before .before .before .before .loop .inv .0, c .before .before .move-down .kept .0)
+
+returns : tie.Need-returns Inv-loop μ-loop
+returns c =
+    let l = c .before .before .before .before .before .before .before .before .before .before .loop in
+    let a = c .before .before .before .before .before .before .before .before .before .before .before .before .args in
+    let size = a .size in
+    let sum = ap (λ (w : Costs). w .sum) (c .before .before .before .before .before .before .before .costs-at .ensures) in
+    let higher = lt-ltb (a .v .sum) (held (c .before .before .before .before .before) .sum) (omega (arith, c .before .before .before .before .if1 .taken)) in
+    let down : l .to ≤ l .from = omega arith in
+    let fits : l .from + l .left * size ≤ length (l .plans) = omega arith in (
+      omega arith,
+      ap (blocks size (l .kept + l .left)) (c .before .before .move-down .ensures)
+          ∙ blocks-joined size (l .plans) (l .from) (l .to) (l .kept) (l .left) (l .inv .4) down fits
+          ∙ sym (l .inv .6 ∙ ap (λ (r : List (List ℕ)). blocks size (l .kept) (l .plans) ++ r)
+          (pruned-turn (a .v) (l .plans) (l .from) (l .left) size (c .before .before .before .before .before .before .before .before .before .loop-test .taken) (l .inv .1) higher refl)),
+    )
+
 at-most-requires : tie.Need-at-most-requires Inv-loop μ-loop
 at-most-requires c κs = tt
 
 add-from : tie.Need-add-from Inv-loop μ-loop
-add-from c = omega (arith, mul-step (c .before .before .before .before .before .loop .left) (c .before .before .before .before .before .before .before .args .size) (c .before .before .before .before .loop-test .taken))
+add-from c = omega (arith, mul-step (c .before .before .before .before .before .before .before .before .loop .left) (c .before .before .before .before .before .before .before .before .before .before .args .size) (c .before .before .before .before .before .before .before .loop-test .taken))
 
 sub-left : tie.Need-sub-left Inv-loop μ-loop
 sub-left c = omega arith
@@ -47,11 +93,10 @@ loop-less c = omega arith
 
 loop-again : tie.Need-loop-again Inv-loop μ-loop
 loop-again c =
-    let l = c .before .before .before .before .before .loop in
-    let a = c .before .before .before .before .before .before .before .args in
-    let more = c .before .before .before .before .loop-test .taken in
-    let step = mul-step (l .left) (a .size) more in
-    let test = sym (c .before .at-most .ensures ∙ ap (atMost (a .v)) (c .before .before .costs-at .ensures)) ∙ c .if1 .taken in (
+    let l = c .before .before .before .before .before .before .before .before .loop in
+    let a = c .before .before .before .before .before .before .before .before .before .before .args in
+    let more = c .before .before .before .before .before .before .before .loop-test .taken in
+    let step = mul-step (l .left) (a .size) more in (
       omega arith,
       omega arith,
       omega arith,
@@ -59,22 +104,22 @@ loop-again c =
       omega arith,
       omega arith,
       l .inv .6 ∙ ap (λ (r : List (List ℕ)). blocks (a .size) (l .kept) (l .plans) ++ r)
-          (pruned-turn (a .v) (l .plans) (l .from) (l .left) (a .size) more (l .inv .1) test),
+          (pruned-turn (a .v) (l .plans) (l .from) (l .left) (a .size) more (l .inv .1) (no-higher (c .before .before)) (compared (c .before) (c .if2 .taken))),
     )
 
-move-down-requires : tie.Need-move-down-requires Inv-loop μ-loop
-move-down-requires c κs =
-    let step = mul-step (c .before .before .before .before .before .before .loop .left) (c .before .before .before .before .before .before .before .before .args .size) (c .before .before .before .before .before .loop-test .taken) in
+move-down-requires-2 : tie.Need-move-down-requires-2 Inv-loop μ-loop
+move-down-requires-2 c κs =
+    let step = mul-step (c .before .before .before .before .before .before .before .before .before .loop .left) (c .before .before .before .before .before .before .before .before .before .before .before .args .size) (c .before .before .before .before .before .before .before .before .loop-test .taken) in
     (omega arith, omega arith)
 
 add-to : tie.Need-add-to Inv-loop μ-loop
-add-to c = omega (arith, mul-step (c .before .before .before .before .before .before .before .before .before .loop .left) (c .before .before .before .before .before .before .before .before .before .before .before .args .size) (c .before .before .before .before .before .before .before .before .loop-test .taken))
+add-to c = omega (arith, mul-step (c .before .before .before .before .before .before .before .before .before .before .before .before .loop .left) (c .before .before .before .before .before .before .before .before .before .before .before .before .before .before .args .size) (c .before .before .before .before .before .before .before .before .before .before .before .loop-test .taken))
 
 add-kept : tie.Need-add-kept Inv-loop μ-loop
-add-kept c = omega (arith, c .before .before .before .before .before .before .before .before .before .before .before .fits .count)
+add-kept c = omega (arith, c .before .before .before .before .before .before .before .before .before .before .before .before .before .before .fits .count)
 
 add-from-2 : tie.Need-add-from-2 Inv-loop μ-loop
-add-from-2 c = omega (arith, mul-step (c .before .before .before .before .before .before .before .before .before .loop .left) (c .before .before .before .before .before .before .before .before .before .before .before .args .size) (c .before .before .before .before .before .before .before .before .loop-test .taken))
+add-from-2 c = omega (arith, mul-step (c .before .before .before .before .before .before .before .before .before .before .before .before .loop .left) (c .before .before .before .before .before .before .before .before .before .before .before .before .before .before .args .size) (c .before .before .before .before .before .before .before .before .before .before .before .loop-test .taken))
 
 sub-left-2 : tie.Need-sub-left-2 Inv-loop μ-loop
 sub-left-2 c = omega arith
@@ -84,16 +129,15 @@ loop-less-2 c = omega arith
 
 loop-again-2 : tie.Need-loop-again-2 Inv-loop μ-loop
 loop-again-2 c =
-    let l = c .before .before .before .before .before .before .before .before .before .loop in
-    let a = c .before .before .before .before .before .before .before .before .before .before .before .args in
-    let more = c .before .before .before .before .before .before .before .before .loop-test .taken in
+    let l = c .before .before .before .before .before .before .before .before .before .before .before .before .loop in
+    let a = c .before .before .before .before .before .before .before .before .before .before .before .before .before .before .args in
+    let more = c .before .before .before .before .before .before .before .before .before .before .before .loop-test .taken in
     let step = mul-step (l .left) (a .size) more in
-    let test = sym (c .before .before .before .before .before .at-most .ensures ∙ ap (atMost (a .v)) (c .before .before .before .before .before .before .costs-at .ensures)) ∙ c .before .before .before .before .if1 .left in
     let size = a .size in
     let old = l .plans in
     let part = take size (drop (l .from) old) in
-    let rest = prunedBy (a .v) (blocks size (l .left - 1) (drop (l .from + size) old)) in
-    let same = c .before .before .move-down .kept .0 in
+    let rest = prunedLevel (a .v) (blocks size (l .left - 1) (drop (l .from + size) old)) in
+    let same = c .before .before .move-down2 .kept .0 in
     let fits : l .from + size ≤ length old = omega arith in
     let down : l .to ≤ l .from = omega arith in
     let product = ap (λ (k : ℕ). k * size) (add-one (l .kept)) ∙ suc-mul (l .kept) size in (
@@ -104,21 +148,22 @@ loop-again-2 c =
       omega arith,
       omega arith,
       l .inv .6
-          ∙ ap (λ (r : List (List ℕ)). blocks size (l .kept) old ++ r) (pruned-turn (a .v) old (l .from) (l .left) size more (l .inv .1) test)
+          ∙ ap (λ (r : List (List ℕ)). blocks size (l .kept) old ++ r)
+          (pruned-turn (a .v) old (l .from) (l .left) size more (l .inv .1) (no-higher (c .before .before .before .before .before .before)) (compared (c .before .before .before .before .before) (c .before .before .before .before .if2 .left)))
           ∙ sym (append-snoc (blocks size (l .kept) old) part rest)
-          ∙ sym (ap₂ (λ (r : List (List ℕ)) (t : List ℕ). r ++ prunedBy (a .v) (blocks size (l .left - 1) t))
+          ∙ sym (ap₂ (λ (r : List (List ℕ)) (t : List ℕ). r ++ prunedLevel (a .v) (blocks size (l .left - 1) t))
           (blocks-moved size old (l .from) (l .to) (l .kept) (l .inv .4) down fits) (behind-moved size old (l .from) (l .to) (l .kept) (l .inv .4) down fits))
-          ∙ ap (λ (o : List ℕ). blocks size (l .kept + 1) o ++ prunedBy (a .v) (blocks size (l .left - 1) (drop (l .from + size) o))) (sym (c .before .before .move-down .ensures)),
+          ∙ ap (λ (o : List ℕ). blocks size (l .kept + 1) o ++ prunedLevel (a .v) (blocks size (l .left - 1) (drop (l .from + size) o))) (sym (c .before .before .move-down2 .ensures)),
     )
 
-same-length : tie.Need-same-length Inv-loop μ-loop
-same-length c = omega arith
+same-length-2 : tie.Need-same-length-2 Inv-loop μ-loop
+same-length-2 c = omega arith
 
-returns : tie.Need-returns Inv-loop μ-loop
-returns c =
+returns-2 : tie.Need-returns-2 Inv-loop μ-loop
+returns-2 c =
     let l = c .before .loop in
     let a = c .before .before .before .args in
-    let none = ap (prunedBy (a .v)) (blocks-none (a .size) (l .left) (drop (l .from) (l .plans)) (omega arith)) ∙ pruned-none (a .v) in (
+    let none = ap (prunedLevel (a .v)) (blocks-none (a .size) (l .left) (drop (l .from) (l .plans)) (omega arith)) ∙ pruned-none (a .v) in (
       omega arith,
       sym (l .inv .6 ∙ ap (λ (r : List (List ℕ)). blocks (a .size) (l .kept) (l .plans) ++ r) none ∙ append-nil (blocks (a .size) (l .kept) (l .plans))),
     )
@@ -131,17 +176,22 @@ prune-spec =
     μ-loop
     loop-holds
     costs-at-requires
+    mul-move-down
+    move-down-requires
+    add-result
+    same-length
+    returns
     at-most-requires
     add-from
     sub-left
     loop-less
     loop-again
-    move-down-requires
+    move-down-requires-2
     add-to
     add-kept
     add-from-2
     sub-left-2
     loop-less-2
     loop-again-2
-    same-length
-    returns)
+    same-length-2
+    returns-2)

@@ -9,6 +9,7 @@ use denote.Ref.{now}
 use Rattle.network.specs.PlanList.{planBytes, planSize}
 use Rattle.planlist.specs.Blocks.{blocks}
 use Rattle.planlist.specs.Insertion.{RecordsRise, insertRecord}
+use Rattle.planlist.specs.Passes.{Level}
 use borrow.Author.Needs.{needs}
 use Rattle.planlist.proofs.Tail.{tail-lent, tail-back}
 use Rattle.planlist.proofs.list.insert_plan.Statement.{statement}
@@ -28,7 +29,11 @@ insert-requires c κs =
     let s = c .before .before .before in
     let d = now (s .args .out) in
     let lent = tail-lent 10 d in
-    (omega (arith, s .pre .0, ap length lent, length-drop 10 d), subst⁻¹ (λ (l : List ℕ). RecordsRise (blocks (planSize (length (now (s .args .links)))) (s .args .count) l)) lent (s .pre .1))
+    let size = planSize (length (now (s .args .links))) in (
+      omega (arith, s .pre .0, ap length lent, length-drop 10 d),
+      subst⁻¹ (λ (l : List ℕ). RecordsRise (blocks size (s .args .count) l)) lent (s .pre .1),
+      subst⁻¹ (λ (l : List ℕ). Level (s .args .v) (blocks size (s .args .count) l)) lent (s .pre .2),
+    )
 
 same-length : tie.Need-same-length
 same-length c = search needs

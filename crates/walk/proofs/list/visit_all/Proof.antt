@@ -14,7 +14,7 @@ use Rattle.network.specs.Limits.{maxPlans}
 use Rattle.network.specs.PlanList.{filled, planSize}
 use Rattle.network.specs.Walk.{passes, positionCount, solvedCount}
 use Rattle.network.specs.Yard.{treeSize}
-use Rattle.walk.specs.Progress.{Progress, finish, full, rise, skip, skip-all, spent, start, step}
+use Rattle.walk.specs.Progress.{Progress, finish, full, prepared, skip, skip-all, spent, start, step}
 use Rattle.walk.specs.Visit.{count-is, count-limit}
 use Rattle.walk.proofs.list.visit_all.Statement.{statement}
 use Rattle.walk.proofs.list.visit_all.Tie as tie
@@ -71,7 +71,7 @@ solve-at-requires c κs =
     let all = count-is (s .pre .0) in
     let fewer : l .count + 1 ≤ positionCount (a .net) = omega arith in
     let room = mul-le-mul-right (planSize (treeSize (a .net))) fewer in
-    (s .pre .0, omega arith, omega (arith, few s), omega (arith, s .pre .3), rise (a .net) (l .n) (omega arith) (l .inv .5))
+    (s .pre .0, omega arith, omega (arith, few s), omega (arith, s .pre .3), prepared (a .net) (l .n) (omega arith) (l .inv .5) (s .pre .0 .fine))
 
 add-solved : tie.Need-add-solved Inv-loop μ-loop
 add-solved c = omega (arith, c .before .before .before .before .before .before .before .before .before .before .before .before .fits .allowance)

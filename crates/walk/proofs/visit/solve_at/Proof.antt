@@ -17,6 +17,7 @@ use Rattle.network.specs.Walk.{positions}
 use Rattle.network.specs.declared.Costs.{Costs}
 use Rattle.planlist.specs.Blocks.{blocks}
 use Rattle.planlist.specs.Insertion.{RecordsRise, insertRecord}
+use Rattle.planlist.specs.Passes.{Level}
 use Rattle.planlist.specs.Records.{Writable}
 use Rattle.marking.specs.Settle.{Settled}
 use Rattle.marking.specs.Paint.{paint, through}
@@ -183,10 +184,17 @@ insert-plan-requires : tie.Need-insert-plan-requires
 insert-plan-requires c κs =
     let s = c .before .before .before .before .before .before .before .before .before .before .before .before .before .before .before .before .before .before .before .before .before .before .before in
     let a = s .args in
-    let size = links-count (c .before .before .before .before .before .before .before .before .before .before .before) in
+    let told = c .before .before .before .before .before .before .before .before .before .before .before in
+    let size = links-count told in
     let e = ap (λ (k : ℕ). (a .count + 1) * planSize k) size in
     let room = s .pre .3 in
-    (omega arith, subst⁻¹ (λ (k : ℕ). RecordsRise (blocks (planSize k) (a .count) (drop headSize (a .out .now)))) size (s .pre .4))
+    let f = found told in
+    let bs = drop headSize (a .out .now) in
+    let level = subst⁻¹ (λ (v : Costs). Level v (blocks (planSize (treeSize (a .net))) (a .count) bs)) (f .costs-are) (s .pre .4 .level (f .tree) (f .best-is)) in (
+      omega arith,
+      subst⁻¹ (λ (k : ℕ). RecordsRise (blocks (planSize k) (a .count) bs)) size (s .pre .4 .rise),
+      subst⁻¹ (λ (k : ℕ). Level (told .before .answer .given .0 .0) (blocks (planSize k) (a .count) bs)) size level,
+    )
 
 same-length-2 : tie.Need-same-length-2
 same-length-2 c = search needs

@@ -10,7 +10,7 @@ use Rattle.order.specs.Test.{by-test, left}
 use Rattle.order.specs.Lists.{_∈_, _⊆_, filter, filter-mem, mem-filter, numbersFrom}
 use Rattle.order.specs.Order.{orderℕ, orderℤ, pairs}
 use Rattle.order.specs.Perm.{pairwise-filter, pairwise-imp}
-use Rattle.order.specs.Sorted.{Apart, sublist-rising, numbers-mem, numbers-rising, rising-apart, sort-mem}
+use Rattle.order.specs.Sorted.{Apart, numbers-mem, numbers-rising, rising-apart, sort-mem, sublist-rising}
 use Rattle.order.specs.Least.{ranked}
 use Rattle.spanning.specs.Labelling.{Labelling}
 use Rattle.spanning.specs.Tree.{identity}
@@ -56,13 +56,14 @@ module _ (net : Network) (fine : NetworkFine net) (b1 b2 : ℤ) where
 
   -- ---- what the program keeps of the normal links, and of the exceptions
 
+  -- links by cost are links
   passing : (q : ℕ → Bool) (e : ℕ) → e ∈ byCost (costOf (net .sums)) (filter q (links (graph net))) → e ∈ filter q (links (graph net))
   passing q e k = sort-mem (pairs orderℕ orderℕ) (ranked (costOf (net .sums)) (λ c. c)) (filter q (links (graph net))) k
 
   candidate : (q : ℕ → Bool) (e : ℕ) → e ∈ byCost (costOf (net .sums)) (filter q (links (graph net))) → e < net .m
   candidate q e k = link-below e (filter-mem q (links (graph net)) (passing q e k) .0)
 
-  -- the program's test p of a link is the theory's q
+  -- where the program's test p of a link is the theory's q
   kept-links : (p q : ℕ → Bool) → ((e : ℕ) → e < maxLinks → p e ≡ q e)
       → kept (net .ends) apart (filter p (linkOrder (net .sums) (net .m))) ≡ base (graph net) (byCost (costOf (net .sums)) (filter q (links (graph net))))
   unfolding linkOrder
@@ -74,16 +75,18 @@ module _ (net : Network) (fine : NetworkFine net) (b1 b2 : ℤ) where
       ∙ kept-kruskal (net .ends) apart (byCost s (filter q (links (graph net)))) apart-led (near net fine _ (candidate q))
       ∙ ap (λ (L : Labelling). kruskal (endsOf (net .ends)) L (byCost s (filter q (links (graph net))))) (fun-ext apart-labels)
 
+  -- the links that are kept of the normal ones,
   abbrev cheapest : List ℕ
   cheapest = base (graph net) (byCost (costOf (net .sums)) (normals (graph net) bs))
 
   base-links : kept (net .ends) apart (filter (normal (twoOf net b1 b2)) (linkOrder (net .sums) (net .m))) ≡ cheapest
   base-links = kept-links (normal (twoOf net b1 b2)) (λ e. not (exceptional orderℤ cs e)) (two-normal net fine b1 b2)
 
-  abbrev exchangeable : List ℕ
-  exchangeable = base (graph net) (byCost (costOf (net .sums)) (filter (lone orderℤ cs) (links (graph net))))
+  -- and of the exceptions
+  abbrev cheapestLone : List ℕ
+  cheapestLone = base (graph net) (byCost (costOf (net .sums)) (filter (lone orderℤ cs) (links (graph net))))
 
-  exception-links : kept (net .ends) apart (filter (exception (twoOf net b1 b2)) (linkOrder (net .sums) (net .m))) ≡ exchangeable
+  exception-links : kept (net .ends) apart (filter (exception (twoOf net b1 b2)) (linkOrder (net .sums) (net .m))) ≡ cheapestLone
   unfolding exception
   exception-links =
       kept-links (exception (twoOf net b1 b2)) (lone orderℤ cs)
@@ -94,50 +97,51 @@ module _ (net : Network) (fine : NetworkFine net) (b1 b2 : ℤ) where
 
   -- ---- the sets that the program tries are enough
 
-  exchangeable-apart : Apart (λ x. x) exchangeable
-  exchangeable-apart =
-      forest-apart (endsOf (net .ends)) identity exchangeable (greedy-forest (endsOf (net .ends)) (kruskal-greedy (endsOf (net .ends)) identity _))
+  lone-apart : Apart (λ x. x) cheapestLone
+  lone-apart =
+      forest-apart (endsOf (net .ends)) identity cheapestLone (greedy-forest (endsOf (net .ends)) (kruskal-greedy (endsOf (net .ends)) identity _))
 
-  exchangeable-exceptional : exchangeable ⊆ exceptionals (graph net) bs
-  exchangeable-exceptional x k =
+  lone-exceptional : cheapestLone ⊆ exceptionals (graph net) bs
+  lone-exceptional x k =
       let p = lone orderℤ cs in
       let r = filter-mem p (links (graph net)) (passing p x (greedy-⊆ (endsOf (net .ends)) (kruskal-greedy (endsOf (net .ends)) identity _) x k)) in
       mem-filter (exceptional orderℤ cs) (r .0) (left (exceptional orderℤ cs x) (admissible orderℤ cs (x ∷ [])) (r .1))
 
   -- the exceptional links of a tree that fits, if they are kept: at most two, and so a set that is tried
-  tried : (ts : List ℕ) → ts ∈ trees net → meets orderℤ cs (pos 0) ts ≡ true → ((x : ℕ) → x ∈ ts → lone orderℤ cs x ≡ true → x ∈ exchangeable)
-      → filter (exceptional orderℤ cs) ts ∈ trials exchangeable
+  tried : (ts : List ℕ) → ts ∈ trees net → meets orderℤ cs (pos 0) ts ≡ true → ((x : ℕ) → x ∈ ts → lone orderℤ cs x ≡ true → x ∈ cheapestLone)
+      → filter (exceptional orderℤ cs) ts ∈ trials cheapestLone
   tried ts k f keeps =
       let T = trees-ranked (graph net) (graph-sound net fine) bs in
       let X = filter (exceptional orderℤ cs) ts in
       let few = meets-few orderℤ (pos 0) cs ts (T .ranks ts k) f in
       let most = two-few net fine in
       let small : length X ≤ 2 = omega (arith, ceilings-slack (graph net .cost) 0 (ranks net) bs) in
-      trials-complete exchangeable X
+      trials-complete cheapestLone X
       (pairwise-filter (exceptional orderℤ cs) _ ts (sublist-rising orderℕ (λ x. x) (T .subsequence ts k) (numbers-rising (net .m) 0)))
       (λ x i. keeps x (filter-mem (exceptional orderℤ cs) ts i .0) (exceptional-lone orderℤ cs ts (sym (meets-admissible orderℤ (pos 0) cs ts (T .ranks ts k)) ∙ f) x i))
       small
 
-  enough : EnoughSets (graph net) bs (trials exchangeable)
+  -- for each tree that fits, one whose exceptions are all kept will do
+  enough : EnoughSets (graph net) bs (trials cheapestLone)
   enough =
       record {
-        sound = trials-sound (exceptionals (graph net) bs) exchangeable (pairwise-filter (exceptional orderℤ cs) _ (links (graph net)) (numbers-rising (net .m) 0))
-            exchangeable-apart exchangeable-exceptional;
+        sound = trials-sound (exceptionals (graph net) bs) cheapestLone (pairwise-filter (exceptional orderℤ cs) _ (links (graph net)) (numbers-rising (net .m) 0))
+            lone-apart lone-exceptional;
         covers = λ ts k f.
             let u = exchange (graph net) (graph-sound net fine) bs (lone orderℤ cs) (lone-pattern orderℤ cs (two-one net fine b1 b2)) ts k in
             let r = u .1 in
             (u .0, r .tree, r .fits ∙ f, r .better, tried (u .0) (r .tree) (r .fits ∙ f) (r .kept));
       }
 
-  trials-best : searchSets (graph net) bs cheapest (trials exchangeable) ≡ best net bs
+  trials-best : searchSets (graph net) bs cheapest (trials cheapestLone) ≡ best net bs
   trials-best =
-      search-base (graph net) bs (byCost (costOf (net .sums)) (normals (graph net) bs)) (trials exchangeable)
-      ∙ search-sets (graph net) (graph-sound net fine) bs (two-bounds net fine b1 b2) (trials exchangeable) enough
+      search-base (graph net) bs (byCost (costOf (net .sums)) (normals (graph net) bs)) (trials cheapestLone)
+      ∙ search-sets (graph net) (graph-sound net fine) bs (two-bounds net fine b1 b2) (trials cheapestLone) enough
 
   pub best-shown : Shows (costOf (net .sums)) (net .n - 1) (best net bs) (bestOf (net .ends) (net .sums) (net .n - 1) (twoOf net b1 b2) (linkOrder (net .sums) (net .m)))
   unfolding bestOf
   best-shown =
       let found = search-shown net fine bs (twoOf net b1 b2) cheapest (kept-below (λ e. not (exceptional orderℤ cs e)))
-      (λ X below. two-admitted net fine b1 b2 X (within X below)) (trials exchangeable)
-      (λ X k x m. kept-below (lone orderℤ cs) x (trials-among exchangeable X k x m)) in
+      (λ X below. two-admitted net fine b1 b2 X (within X below)) (trials cheapestLone)
+      (λ X k x m. kept-below (lone orderℤ cs) x (trials-among cheapestLone X k x m)) in
       rw (base-links, exception-links, ← trials-best) found

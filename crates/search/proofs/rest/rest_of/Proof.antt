@@ -1,5 +1,5 @@
 -- The base has too few links, or the first of them are summed.
-use mathlib.Core.Path.{_≡_, sym, ap, _∙_}
+use mathlib.Core.Path.{sym, ap, _∙_}
 use Prim.Native.Nat.{ℕ, _-_, _≤_, _<_}
 use mathlib.Core.Bool.{true}
 use native.Mathlib.Omega.{arith}
@@ -8,7 +8,6 @@ use lib.ListN.{length, take}
 use lib.Seq.{length-take-le}
 use denote.Ref.{now}
 use Rattle.trees.specs.TreeCosts.{sumOf}
-use Rattle.search.specs.declared.rest.Rest.{Rest}
 use Rattle.search.specs.Rest.{first-fits, first-known, rest-enough, rest-few}
 use Rattle.search.proofs.rest.rest_of.Statement.{statement}
 use Rattle.search.proofs.rest.rest_of.Tie as tie

@@ -16,12 +16,14 @@ mod figures;
 mod files;
 mod labels;
 mod layout;
+mod store;
 mod svg;
 mod table;
 mod text;
 mod words;
 
 pub use failure::Failure;
+pub use store::store;
 
 use std::ffi::OsString;
 use std::io::Read;

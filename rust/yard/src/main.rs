@@ -1,10 +1,9 @@
 //! The program `yard`.
 
 use std::env;
-use std::fs;
 use std::io::{self, ErrorKind, Write};
 use std::process::ExitCode;
-use yard::{run, Failure, Output};
+use yard::{run, store, Failure, Output};
 
 fn main() -> ExitCode {
     match run(env::args_os().skip(1), &mut io::stdin().lock()).and_then(deliver) {
@@ -19,7 +18,7 @@ fn main() -> ExitCode {
 
 fn deliver(output: Output) -> Result<(), Failure> {
     match output.file {
-        Some(file) => fs::write(&file, output.bytes)
+        Some(file) => store(&file, &output.bytes)
             .map_err(|error| Failure::input(format!("{}: {error}", file.display()))),
         None => match print(&output.bytes) {
             // A reader that has read enough is no failure.

@@ -56,6 +56,27 @@ fn results_go_to_the_named_file() {
 }
 
 #[test]
+fn a_file_is_written_whole_or_stays() {
+    let file = scratch("kept.txt", "kept");
+    let part = scratch("kept.txt.part", "another's");
+    let failed = on_a(&["plans", "-", "-o", &file]);
+    assert_eq!(failed.status.code(), Some(1));
+    assert_eq!(std::fs::read(&file).ok(), Some(b"kept".to_vec()));
+    assert_eq!(std::fs::read(&part).ok(), Some(b"another's".to_vec()));
+    std::fs::remove_file(&part).expect("the test wrote it");
+    assert_eq!(on_a(&["plans", "-", "-o", &file]).status.code(), Some(0));
+    assert_eq!(
+        std::fs::read(&file).ok(),
+        Some(on_a(&["plans", "-"]).stdout)
+    );
+    assert!(std::fs::read(&part).is_err());
+    assert_eq!(
+        on_a(&["plans", "-", "-o", "/dev/null"]).status.code(),
+        Some(0)
+    );
+}
+
+#[test]
 fn a_closed_pipe_is_no_failure() {
     let mut child = program(&["draw", "-"]).spawn().expect("the program starts");
     drop(child.stdout.take());

@@ -1,37 +1,31 @@
--- The search as the code comes to it: the base alone, one set, and what is left of a loop over the sets at a turn.
+-- The search as the code comes to it: one set, and what is left of a loop over the sets at a turn.
 use Prim.Native.Nat.{ℕ, zero, suc, _+_, _-_, _≤_, _<_}
-use mathlib.Core.Bool.{Bool, cond, true, false, not, and-false, _&&_, _||_}
+use mathlib.Core.Bool.{Bool, cond, true, false, and-false, _&&_}
 use mathlib.Core.List.{List, [], _∷_, map, foldl, foldl-append, List·Memᴰ·cases-cons, List·Memᴰ·eq-of-singleton, List·Memᴰ·head as here, List·Memᴰ·tail as there}
 use mathlib.Core.Logic.{⊎-elim}
 use mathlib.Core.Path.{_≡_, refl, sym, ap, _∙_, subst}
 use native.Mathlib.Numerals.{add-one}
 use native.Mathlib.Omega.{arith}
-use borrow.Author.Tests.{eq-eqb, eqb-false, leb-true, ltb-false, ltb-true, ne-eqb, not-true}
+use borrow.Author.Tests.{eq-eqb, leb-true, ne-eqb}
 use lib.Dec.{eqb, leb, ltb}
 use lib.IntN.{ℤ}
-use lib.ListN.{length, getD, drop, drop-of-length-le, take}
+use lib.ListN.{length, getD, drop, drop-of-length-le}
 use lib.Seq.{drop-cons}
-use Rattle.order.specs.Test.{by-test, fails, left, right}
-use Rattle.order.specs.Lists.{_∈_, _⊆_, filter, filter-mem, map-mem}
+use Rattle.order.specs.Test.{by-test}
+use Rattle.order.specs.Lists.{_∈_, _⊆_, filter, map-mem}
 use Rattle.order.specs.Order.{orderℕ}
 use Rattle.order.specs.Perm.{sum}
 use Rattle.order.specs.Sorted.{Sorted}
-use Rattle.network.specs.Accepted.{or-false}
-use Rattle.trees.specs.TreeCosts.{sumOf}
 use Rattle.network.specs.declared.Network.{Network}
 use Rattle.kruskal.specs.ByCost.{costOf, linkOrder}
-use Rattle.spanning.specs.Labelling.{crosses}
-use Rattle.spanning.specs.LabelList.{labelOf}
-use Rattle.forest.specs.Groups.{apart, joined}
-use Rattle.kruskal.specs.Tree.{Light, Usable, Walkable, added, bare, endsOf, light-linked, light-up, linked}
-use Rattle.kruskal.specs.Base.{Holding, kept, kept-among}
-use Rattle.kruskal.specs.declared.links.Links.{Links}
-use Rattle.kruskal.specs.Grown.{mark, marks}
+use Rattle.forest.specs.Groups.{apart}
+use Rattle.kruskal.specs.Tree.{Light, Usable, Walkable, bare, light-linked, light-up, linked}
+use Rattle.kruskal.specs.Base.{kept}
 use Rattle.kruskal.specs.declared.tree.Tree.{Tree}
-use Rattle.exceptions.specs.Ceilings.{Flagged, admitted, exception, normal}
+use Rattle.exceptions.specs.Ceilings.{Flagged, admitted, exception}
 use Rattle.exceptions.specs.Two.{aboveFlags, free, free-normal, rankOf, two, twoOf}
 use Rattle.search.specs.Sets.{higher, lower, pair, sets, trials}
-use Rattle.search.specs.Search.{beats, bestOf, considered, nothing, offered}
+use Rattle.search.specs.Search.{bestOf, considered, nothing, offered}
 use Rattle.search.specs.Rest.{loses-more, losesTo, losing, restOf}
 use Rattle.search.specs.declared.best.Best.{Best}
 use Rattle.search.specs.declared.rest.Rest.{Rest}
@@ -79,59 +73,6 @@ pub two-walkable : {sums : List ℕ} (x y : ℕ) → Usable sums x → Usable su
 two-walkable {sums} x y u w =
     record { few = omega arith; usable = λ e m. ⊎-elim (λ q. subst (Usable sums) (sym q) u) (λ k. subst (Usable sums) (sym (List·Memᴰ·eq-of-singleton k)) w) (List·Memᴰ·cases-cons m) }
 
--- a link is an exception, and all of a list are
-pub record Exceptional (cs : List Flagged) (x : ℕ) : Type 0 where
-  pub exceeds : exception cs x ≡ true
-
-pub record Exceptions (cs : List Flagged) (l : List ℕ) : Type 0 where
-  pub each : (x : ℕ) → x ∈ l → exception cs x ≡ true
-
-pub held-exceptions : (cs : List Flagged) (order : List ℕ) {r : Links} → Holding (filter (exception cs) order) r → Exceptions cs (take (r .count) (r .link))
-held-exceptions cs order h = rw (h .links) (record { each = λ x m. filter-mem (exception cs) order m .1 })
-
-pub kept-exceptions : (cs : List Flagged) (ends l : List ℕ) {r : Links} → Exceptions cs l → Holding (kept ends apart l) r → Exceptions cs (take (r .count) (r .link))
-kept-exceptions cs ends l v h = rw (h .links) (record { each = λ x m. v .each x (kept-among ends apart l x m) })
-
--- ---- pairs of exceptions that no ranks r and s admit
-
--- some two exceptions are admitted
-unfoldable pub pairsFit : ℕ → ℕ → Bool
-pairsFit r s = ltb 2 r || (ltb 2 s || (ltb 1 r && ltb 1 s))
-
-module _ (r s : ℕ) (v w : List ℕ) where
-  -- an exception is above some bound, and within each rank
-  exceeding : (e : ℕ) → exception (two r v s w) e ≡ true → (0 < getD v e 0 + getD w e 0) × (getD v e 0 < r) × (getD w e 0 < s)
-  unfolding exception normal admitted
-  exceeding e h =
-      let some : eqb (getD v e 0) 0 && eqb (getD w e 0) 0 ≡ false = not-true _ (left (not (eqb (getD v e 0) 0 && eqb (getD w e 0) 0)) _ h) in
-      let within = right (not (eqb (getD v e 0) 0 && eqb (getD w e 0) 0)) _ h in (
-        by-test (eqb (getD v e 0) 0)
-            (λ k. let above = eqb-false (getD w e 0) 0 (rw k at some) in omega arith)
-            (λ k. let above = eqb-false (getD v e 0) 0 k in omega arith),
-        ltb-true (getD v e 0) r (left (ltb (getD v e 0) r) _ within),
-        ltb-true (getD w e 0) s (right (ltb (getD v e 0) r) _ within),
-      )
-
-  two-exceed : (x y : ℕ) → pairsFit r s ≡ false → exception (two r v s w) x ≡ true → exception (two r v s w) y ≡ true → admitted (two r v s w) (x ∷ y ∷ []) ≡ false
-  unfolding pairsFit admitted
-  two-exceed x y e f g =
-      fails _ (λ k.
-      let a = exceeding x f in
-      let b = exceeding y g in
-      let first : getD v x 0 + getD v y 0 < r = ltb-true _ _ (left (ltb (getD v x 0 + getD v y 0) r) _ k) in
-      let second : getD w x 0 + getD w y 0 < s = ltb-true _ _ (right (ltb (getD v x 0 + getD v y 0) r) _ k) in
-      let large = or-false (ltb 2 r) _ e in
-      let other = or-false (ltb 2 s) _ (large .1) in
-      let r2 = ltb-false 2 r (large .0) in
-      let s2 = ltb-false 2 s (other .0) in
-      by-test (ltb 1 r)
-      (λ q. let s1 = ltb-false 1 s (rw q at (other .1)) in omega (arith, a, b))
-      (λ q. let r1 = ltb-false 1 r q in omega (arith, a, b)))
-
-  pub pair-exceeds : (x y : ℕ) → pairsFit r s ≡ false → exception (two r v s w) x ≡ true → exception (two r v s w) y ≡ true → admitted (two r v s w) (pair x y) ≡ false
-  unfolding lower higher
-  pair-exceeds x y e f g = by-test (leb x y) (λ k. rw k (two-exceed x y e f g)) (λ k. rw k (two-exceed y x e g f))
-
 pair-sum : (c : ℕ → ℕ) (x y : ℕ) → sum c (pair x y) ≡ c x + c y
 unfolding lower higher
 pair-sum c x y = by-test (leb x y) (λ k. rw k (omega arith)) (λ k. rw k (omega arith))
@@ -153,49 +94,6 @@ later-dearer c l i y s h m =
     let q = drop-cons l i 0 h in
     let sorted = rw q at (sorted-drop c l i s) in
     ⊎-elim (λ e. rw e (omega arith)) (λ k. leb-true (c (getD l i 0)) (c y) (sorted .0 y k)) (List·Memᴰ·cases-cons (rw q at m))
-
--- ---- the base
-
--- the base as the best tree so far, where the test holds and it has `goal` links
-unfoldable pub baseAlone : List ℕ → List ℕ → ℕ → Bool → Best
-baseAlone sums base goal ok = cond (ok && eqb (length base) goal) (record { found = true; sum = sum (costOf sums) base; taken = marks base }) nothing
-
-pub alone-found : (sums base : List ℕ) (goal : ℕ) (ok : Bool) (total : ℕ) (taken : List Bool) → ok && eqb (length base) goal ≡ true → total ≡ sumOf sums base
-    → taken ≡ marks base → record { found = true; sum = total; taken = taken } ≡ baseAlone sums base goal ok
-unfolding baseAlone sumOf
-alone-found sums base goal ok total taken k e f = rw (k, e, f)
-
-pub alone-none : (sums base : List ℕ) (goal : ℕ) (ok : Bool) → ok && eqb (length base) goal ≡ false → nothing ≡ baseAlone sums base goal ok
-unfolding baseAlone
-alone-none sums base goal ok k = rw k
-
--- the base is what Kruskal's method keeps of some links
-pub record Kept (ends base : List ℕ) : Type 0 where
-  pub links : List ℕ
-  pub kept-of : base ≡ kept ends apart links
-
--- a walk over links that are kept takes them all
-pub record Took (sums : List ℕ) (t : Tree) (l : List ℕ) (u : Tree) : Type 0 where
-  pub flags : u .taken ≡ foldl mark (t .taken) l
-  pub total : u .sum ≡ t .sum + sum (costOf sums) l
-  pub size : u .count ≡ t .count + length l
-
-taken-added : (ends sums : List ℕ) (t : Tree) (e : ℕ) → crosses (labelOf (t .forest .leader)) (endsOf ends e) ≡ true → linked ends sums t e ≡ added ends sums t e
-unfolding linked
-taken-added ends sums t e c = rw c
-
-kept-walk : (ends sums : List ℕ) (t : Tree) (l : List ℕ) → Took sums t (kept ends (t .forest) l) (foldl (linked ends sums) t (kept ends (t .forest) l))
-unfolding kept added
-kept-walk ends sums t [] = record { flags = refl; total = omega arith; size = omega arith }
-kept-walk ends sums t (e ∷ l) =
-    by-test (crosses (labelOf (t .forest .leader)) (endsOf ends e))
-    (λ c.
-    let more : List ℕ = kept ends (joined (t .forest) (endsOf ends e .a) (endsOf ends e .b)) l in
-    let w = kept-walk ends sums (added ends sums t e) l in
-    let step : Took sums t (e ∷ more) (foldl (linked ends sums) (added ends sums t e) more) =
-    record { flags = w .flags; total = omega (arith, w .total); size = omega (arith, w .size) } in
-    rw c (subst (λ (u : Tree). Took sums t (e ∷ more) (foldl (linked ends sums) u more)) (sym (taken-added ends sums t e c)) step))
-    (λ c. rw c (kept-walk ends sums t l))
 
 module _ (ends sums : List ℕ) (goal : ℕ) (cs : List Flagged) (base : List ℕ) where
   -- what a list of sets leaves of the best so far
@@ -273,25 +171,6 @@ module _ (ends sums : List ℕ) (goal : ℕ) (cs : List Flagged) (base : List �
   pub sets-end : (b w : Best) (l : List ℕ) (i : ℕ) → length l ≤ i → withSets b l i ≡ w → b ≡ w
   unfolding withSets searched sets
   sets-end b w l i h e = rw (drop-of-length-le l h) at e
-
-  -- ---- the base alone
-
-  -- the first tree that is offered
-  offered-first : (u : Tree) → offered goal nothing u ≡ cond (eqb (u .count) goal) (record { found = true; sum = u .sum; taken = u .taken }) nothing
-  unfolding offered beats nothing
-  offered-first u = by-test (eqb (u .count) goal) (λ k. rw k) (λ k. rw k)
-
-  pub base-considered : Kept ends base → (b : Best) (ok : Bool) → ok ≡ admitted cs [] → b ≡ baseAlone sums base goal ok → b ≡ considered ends sums goal cs base nothing []
-  unfolding considered baseAlone bare marks
-  base-considered made b ok e r =
-      let u = foldl (linked ends sums) bare base in
-      let took : Took sums bare base u = subst (λ (b : List ℕ). Took sums bare b (foldl (linked ends sums) bare b)) (sym (made .kept-of)) (kept-walk ends sums bare (made .links)) in
-      let size : length base ≡ u .count = omega (arith, took .size) in
-      let total : sum (costOf sums) base ≡ u .sum = omega (arith, took .total) in
-      let flags : marks base ≡ u .taken = sym (took .flags) in
-      r ∙ by-test ok
-      (λ k. rw (k, sym e ∙ k) ((λ i. cond (eqb (size i) goal) (record { found = true; sum = total i; taken = flags i }) nothing) ∙ sym (offered-first u)))
-      (λ k. rw (k, sym e ∙ k))
 
   -- ---- all sets
 

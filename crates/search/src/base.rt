@@ -6,7 +6,7 @@ ghost use lib.ListN.{length};
 ghost use Rattle.network.specs.Limits.{maxLinks};
 ghost use Rattle.kruskal.specs.Grown.{marks};
 ghost use Rattle.kruskal.specs.Tree.{Walkable};
-ghost use Rattle.search.specs.Tries.{baseAlone};
+ghost use Rattle.search.specs.BaseAlone.{baseAlone};
 
 // A flag for each link, set for the links of l.
 fn flags_of(sums: &[u32], l: &[u8]) -> [bool; 40]

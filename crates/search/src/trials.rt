@@ -17,7 +17,8 @@ ghost use Rattle.exceptions.specs.Two.{FlagsSize, two};
 ghost use Rattle.search.specs.Sets.{higher, lower, pair, sets};
 ghost use Rattle.search.specs.Search.{considered};
 ghost use Rattle.search.specs.Rest.{restOf};
-ghost use Rattle.search.specs.Tries.{Exceptional, Exceptions, pairsFit, searched, tried, withPairs};
+ghost use Rattle.search.specs.Exceptional.{Exceptional, Exceptions, pairsFit};
+ghost use Rattle.search.specs.Tries.{searched, tried, withPairs};
 
 // A set of exceptions, completed by the base and compared with b, where it is admitted and has no ring.
 fn consider(ends: &[u8], sums: &[u32], base: &[u8], goal: u8, set: &[u8], ok: bool, b: Best) -> Best

@@ -22,7 +22,9 @@ ghost use Rattle.exceptions.specs.Select.{InOrder};
 ghost use Rattle.exceptions.specs.Two.{FlagsSize, two, twoOf};
 ghost use Rattle.search.specs.Sets.{trials};
 ghost use Rattle.search.specs.Search.{bestOf, nothing};
-ghost use Rattle.search.specs.Tries.{Exceptions, Kept, searched};
+ghost use Rattle.search.specs.Exceptional.{Exceptions};
+ghost use Rattle.search.specs.BaseAlone.{Kept};
+ghost use Rattle.search.specs.Tries.{searched};
 ghost use Rattle.solver.specs.Answer.{bestFound, treeLeft};
 
 // The best tree over all exception sets, with the base and the exceptions at hand. Sets are tried of those exceptions that Kruskal's method keeps.

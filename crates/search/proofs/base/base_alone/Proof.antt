@@ -2,7 +2,7 @@
 use borrow.Author.Needs.{needs}
 use Rattle.search.specs.Rest.{base-fits, base-known}
 use Rattle.search.specs.Search.{nothing}
-use Rattle.search.specs.Tries.{alone-found, alone-none}
+use Rattle.search.specs.BaseAlone.{alone-found, alone-none}
 use Rattle.search.proofs.base.base_alone.Statement.{statement}
 use Rattle.search.proofs.base.base_alone.Tie as tie
 

@@ -11,7 +11,8 @@ use Rattle.network.specs.Limits.{maxSum}
 use Rattle.kruskal.specs.Tree.{Usable, Walkable}
 use Rattle.exceptions.specs.Two.{two}
 use Rattle.search.specs.Rest.{least-fits}
-use Rattle.search.specs.Tries.{pair-exceeds, pairs-end, pairs-lose, pairs-turn, pairs-unfit, withPairs}
+use Rattle.search.specs.Exceptional.{pair-exceeds}
+use Rattle.search.specs.Tries.{pairs-end, pairs-lose, pairs-turn, pairs-unfit, withPairs}
 use Rattle.search.proofs.trials.consider_pairs.Statement.{statement}
 use Rattle.search.proofs.trials.consider_pairs.Tie as tie
 

@@ -1,6 +1,6 @@
 -- The ranks are compared as the definition has it.
 use mathlib.Core.Path.{refl}
-use Rattle.search.specs.Tries.{pairsFit}
+use Rattle.search.specs.Exceptional.{pairsFit}
 use Rattle.search.proofs.trials.pairs_fit.Statement.{statement}
 use Rattle.search.proofs.trials.pairs_fit.Tie as tie
 

@@ -2,7 +2,9 @@
 use borrow.Author.Needs.{needs}
 use Rattle.exceptions.specs.Select.{held-in-order, held-length, kept-in-order}
 use Rattle.exceptions.specs.Two.{none-admitted}
-use Rattle.search.specs.Tries.{base-considered, kept-exceptions, none-searched, trials-searched}
+use Rattle.search.specs.Exceptional.{kept-exceptions}
+use Rattle.search.specs.BaseAlone.{base-considered}
+use Rattle.search.specs.Tries.{none-searched, trials-searched}
 use Rattle.solver.proofs.solve.best_from.Statement.{statement}
 use Rattle.solver.proofs.solve.best_from.Tie as tie
 

@@ -1,7 +1,8 @@
 -- Each call is what it ensures, and selected links can be walked where all links can.
 use borrow.Author.Needs.{needs}
 use Rattle.exceptions.specs.Select.{filter-in-order, held-in-order, held-length, kept-in-order}
-use Rattle.search.specs.Tries.{assembled, held-exceptions}
+use Rattle.search.specs.Exceptional.{held-exceptions}
+use Rattle.search.specs.Tries.{assembled}
 use Rattle.solver.proofs.solve.best_of.Statement.{statement}
 use Rattle.solver.proofs.solve.best_of.Tie as tie
 

@@ -17,10 +17,7 @@ use Rattle.exceptions.specs.Ceilings.{Flagged, admitted, exception, normal}
 use Rattle.exceptions.specs.Two.{two}
 use Rattle.search.specs.Sets.{higher, lower, pair}
 
--- a link is an exception, and all of a list are
-pub record Exceptional (cs : List Flagged) (x : ℕ) : Type 0 where
-  pub exceeds : exception cs x ≡ true
-
+-- the links of a list are exceptions
 pub record Exceptions (cs : List Flagged) (l : List ℕ) : Type 0 where
   pub each : (x : ℕ) → x ∈ l → exception cs x ≡ true
 

@@ -58,13 +58,9 @@ light-grown ends sums j t (e ∷ l) u h =
 
 -- ---- sets of one and of two links
 
-pub lower-usable : {sums : List ℕ} (x y : ℕ) → Usable sums x → Usable sums y → Usable sums (lower x y)
-unfolding lower
-lower-usable x y u w = by-test (leb x y) (λ k. rw k u) (λ k. rw k w)
-
-pub higher-usable : {sums : List ℕ} (x y : ℕ) → Usable sums x → Usable sums y → Usable sums (higher x y)
-unfolding higher
-higher-usable x y u w = by-test (leb x y) (λ k. rw k w) (λ k. rw k u)
+pub either-usable : {sums : List ℕ} (t : Bool) (x y : ℕ) → Usable sums x → Usable sums y → Usable sums (cond t x y)
+either-usable true x y u w = u
+either-usable false x y u w = w
 
 pub one-walkable : {sums : List ℕ} (x : ℕ) → Usable sums x → Walkable sums (x ∷ [])
 one-walkable x u = record { few = omega arith; usable = λ e m. rw (List·Memᴰ·eq-of-singleton m) u }

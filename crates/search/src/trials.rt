@@ -7,17 +7,20 @@ use exceptions::ceilings::admits;
 use exceptions::ceilings::admits_alone;
 use kruskal::tree::empty;
 use kruskal::tree::grow;
+use trees::costs::sum_at;
 ghost use mathlib.Core.Path.{_≡_};
+ghost use mathlib.Core.Bool.{true};
 ghost use mathlib.Core.List.{_∷_, []};
 ghost use Prim.Native.Nat.{_≤_};
-ghost use lib.ListN.{getD, length};
+ghost use lib.ListN.{length};
 ghost use Rattle.kruskal.specs.Tree.{Columns, Usable, Walkable};
+ghost use Rattle.exceptions.specs.Ceilings.{exception};
 ghost use Rattle.exceptions.specs.Select.{InOrder};
 ghost use Rattle.exceptions.specs.Two.{FlagsSize, two};
 ghost use Rattle.search.specs.Sets.{higher, lower, pair, sets};
 ghost use Rattle.search.specs.Search.{considered};
 ghost use Rattle.search.specs.Rest.{restOf};
-ghost use Rattle.search.specs.Exceptional.{Exceptional, Exceptions, pairsFit};
+ghost use Rattle.search.specs.Exceptional.{Exceptions, pairsFit};
 ghost use Rattle.search.specs.Tries.{searched, tried, withPairs};
 
 // A set of exceptions, completed by the base and compared with b, where it is admitted and has no ring.
@@ -32,14 +35,6 @@ fn consider(ends: &[u8], sums: &[u32], base: &[u8], goal: u8, set: &[u8], ok: bo
         }
     }
     b
-}
-
-// The cost of a link.
-fn cost_of(sums: &[u32], e: u8) -> u32
-    requires { ⌜ (length (now sums) ≡ 40) × Usable (now sums) e ⌝ }
-    ensures { λ r. ⌜ r ≡ getD (now (sums .entry)) e 0 ⌝ }
-{
-    sums[e as usize]
 }
 
 // The set of the one link x.
@@ -59,7 +54,7 @@ fn consider_one(
     requires { ⌜ Columns (now ends) (now sums) × InOrder (now sums) (now base) × FlagsSize (now v) (now w) × Usable (now sums) x × (rest ≡ restOf (now sums) (now base) goal 1) ⌝ }
     ensures { λ q. ⌜ q ≡ considered (now (ends .entry)) (now (sums .entry)) goal (two r (now (v .entry)) s (now (w .entry))) (now (base .entry)) b (x ∷ []) ⌝ }
 {
-    if rest.loses(cost_of(sums, x), b.found, b.sum) {
+    if rest.loses(sum_at(sums, x), b.found, b.sum) {
         return b;
     }
     let set = [x];
@@ -141,18 +136,18 @@ fn consider_pairs(
     i: usize,
     b: Best,
 ) -> Best
-    requires { ⌜ Columns (now ends) (now sums) × InOrder (now sums) (now base) × FlagsSize (now v) (now w) × Usable (now sums) x × InOrder (now sums) (now l) × (rest ≡ restOf (now sums) (now base) goal 2) × Exceptional (two r (now v) s (now w)) x × Exceptions (two r (now v) s (now w)) (now l) ⌝ }
+    requires { ⌜ Columns (now ends) (now sums) × InOrder (now sums) (now base) × FlagsSize (now v) (now w) × Usable (now sums) x × InOrder (now sums) (now l) × (rest ≡ restOf (now sums) (now base) goal 2) × (exception (two r (now v) s (now w)) x ≡ true) × Exceptions (two r (now v) s (now w)) (now l) ⌝ }
     ensures { λ q. ⌜ q ≡ withPairs (now (ends .entry)) (now (sums .entry)) goal (two r (now (v .entry)) s (now (w .entry))) (now (base .entry)) b x (now (l .entry)) i ⌝ }
 {
     if !pairs_fit(r, s) {
         return b;
     }
-    let cost = cost_of(sums, x);
+    let cost = sum_at(sums, x);
     let mut best = b;
     let mut j = i;
     while j < l.len() {
         let y = l[j];
-        if rest.loses(cost + cost_of(sums, y), best.found, best.sum) {
+        if rest.loses(cost + sum_at(sums, y), best.found, best.sum) {
             return best;
         }
         best = consider_pair(ends, sums, base, goal, v, w, r, s, x, y, best);

@@ -12,7 +12,7 @@ ghost use Rattle.network.specs.PlanList.{costsOf};
 ghost use Rattle.trees.specs.TreeCosts.{Below, CeilingFine, FiguresFine, TreeLinks, ceilingAt, costAt, figuresOf, sumAt, sumOf};
 
 // The sum cost of a link.
-fn sum_at(sums: &[u32], link: u8) -> u32
+pub fn sum_at(sums: &[u32], link: u8) -> u32
     requires { ⌜ link < length (now sums) ⌝ }
     ensures { λ r. ⌜ r ≡ sumAt (now (sums .entry)) link ⌝ }
 {

@@ -7,18 +7,18 @@ use Rattle.search.specs.Tries.{considered-tried, one-loses, one-walkable
 use Rattle.search.proofs.trials.consider_one.Statement.{statement}
 use Rattle.search.proofs.trials.consider_one.Tie as tie
 
-cost-of-requires : tie.Need-cost-of-requires
-cost-of-requires c κs = let p = c .before .before .before .before .before .pre in (p .0 .sums-size, p .3)
+sum-at-requires : tie.Need-sum-at-requires
+sum-at-requires c κs = let p = c .before .before .before .before .before .pre in omega (arith, p .0 .sums-size, p .3 .below)
 
 loses-requires : tie.Need-loses-requires
 loses-requires c κs =
     let p = c .before .before .before .before .before .before .pre in
-    rw (p .4) (least-fits _ _ (p .1 .walkable) _ 1 _ (omega (arith, p .3 .cheap, c .cost-of .ensures)))
+    rw (p .4) (least-fits _ _ (p .1 .walkable) _ 1 _ (omega (arith, p .3 .cheap, c .sum-at .ensures)))
 
 returns : tie.Need-returns
 returns c =
     let p = c .before .before .before .before .before .before .before .before .pre in
-    one-loses _ _ _ _ _ (p .1 .sorted) _ _ _ _ (p .4) (c .before .before .cost-of .ensures) (sym (c .before .loses .ensures) ∙ c .if1 .taken)
+    one-loses _ _ _ _ _ (p .1 .sorted) _ _ _ _ (p .4) (c .before .before .sum-at .ensures) (sym (c .before .loses .ensures) ∙ c .if1 .taken)
 
 slice-aggregate-consider : tie.Need-slice-aggregate-consider
 slice-aggregate-consider c = search needs
@@ -36,7 +36,7 @@ pub consider-one-spec : {M : Type 1} → statement M
 consider-one-spec =
     tie.close
     (tie.spec
-    cost-of-requires
+    sum-at-requires
     loses-requires
     returns
     slice-aggregate-consider

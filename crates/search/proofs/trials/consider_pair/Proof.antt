@@ -1,8 +1,10 @@
 -- The set is tried where both links together are admitted.
 use native.Mathlib.Omega.{arith}
 use borrow.Author.Needs.{needs}
+use lib.Dec.{leb}
 use Rattle.kruskal.specs.Tree.{Usable}
-use Rattle.search.specs.Tries.{considered-tried, higher-usable, lower-usable, two-walkable}
+use Rattle.search.specs.Sets.{higher, lower}
+use Rattle.search.specs.Tries.{considered-tried, either-usable, two-walkable}
 use Rattle.search.proofs.trials.consider_pair.Statement.{statement}
 use Rattle.search.proofs.trials.consider_pair.Tie as tie
 
@@ -17,9 +19,11 @@ slice-aggregate-consider c = search needs
 
 -- both links
 usable : (c : tie.After-higher-of) → Usable (c .before .before .before .before .before .before .before .args .sums .now) (c .before .lower-of .result) × Usable (c .before .before .before .before .before .before .before .args .sums .now) (c .higher-of .result)
+unfolding lower higher
 usable c =
     let p = c .before .before .before .before .before .before .before .pre in
-    (rw (c .before .lower-of .ensures) (lower-usable _ _ (p .3) (p .4)), rw (c .higher-of .ensures) (higher-usable _ _ (p .3) (p .4)))
+    let i = c .before .before .before .before .before .before .before .args in
+    (rw (c .before .lower-of .ensures) (either-usable (leb (i .x) (i .y)) _ _ (p .3) (p .4)), rw (c .higher-of .ensures) (either-usable (leb (i .x) (i .y)) _ _ (p .4) (p .3)))
 
 cast-admits : tie.Need-cast-admits
 cast-admits c = let u = usable (c .before) in record { fits = omega (arith, u .0 .below) }

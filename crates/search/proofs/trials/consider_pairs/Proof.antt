@@ -32,10 +32,10 @@ returns : tie.Need-returns Inv-loop μ-loop
 returns c =
     let p = c .before .before .before .before .before .before .before .before .pre in
     let unfit = sym (c .before .pairs-fit .ensures) ∙ not-true _ (c .if1 .taken) in
-    pairs-unfit _ _ _ _ _ _ _ _ _ (λ y m. pair-exceeds _ _ _ _ _ y unfit (p .6 .exceeds) (p .7 .each y m))
+    pairs-unfit _ _ _ _ _ _ _ _ _ (λ y m. pair-exceeds _ _ _ _ _ y unfit (p .6) (p .7 .each y m))
 
-cost-of-requires : tie.Need-cost-of-requires Inv-loop μ-loop
-cost-of-requires c κs = let p = c .before .before .before .before .before .before .before .before .pre in (p .0 .sums-size, p .3)
+sum-at-requires : tie.Need-sum-at-requires Inv-loop μ-loop
+sum-at-requires c κs = let p = c .before .before .before .before .before .before .before .before .pre in omega (arith, p .0 .sums-size, p .3 .below)
 
 loop-holds : tie.Need-loop-holds Inv-loop μ-loop
 loop-holds c = refl
@@ -43,16 +43,16 @@ loop-holds c = refl
 shared-slice-read-y : tie.Need-shared-slice-read-y Inv-loop μ-loop
 shared-slice-read-y c = search needs
 
-cost-of-requires-2 : tie.Need-cost-of-requires-2 Inv-loop μ-loop
-cost-of-requires-2 c κs =
+sum-at-requires-2 : tie.Need-sum-at-requires-2 Inv-loop μ-loop
+sum-at-requires-2 c κs =
     let i = c .before .before .before .before .before .before .before .before .before .before .before .before in
-    (i .pre .0 .sums-size, usable _ _ _ (i .pre .4 .walkable) (c .before .loop-test .taken))
+    omega (arith, i .pre .0 .sums-size, usable _ _ _ (i .pre .4 .walkable) (c .before .loop-test .taken) .below)
 
 -- both costs are in range
-costs : (c : tie.After-cost-of2 Inv-loop μ-loop) → c .before .before .before .before .cost-of .result + c .cost-of2 .result ≤ 2 * maxSum
+costs : (c : tie.After-sum-at2 Inv-loop μ-loop) → c .before .before .before .before .sum-at .result + c .sum-at2 .result ≤ 2 * maxSum
 costs c =
     let p = c .before .before .before .before .before .before .before .before .before .before .before .before .before .pre in
-    omega (arith, p .3 .cheap, usable _ _ _ (p .4 .walkable) (c .before .before .loop-test .taken) .cheap, c .before .before .before .before .cost-of .ensures, c .cost-of2 .ensures)
+    omega (arith, p .3 .cheap, usable _ _ _ (p .4 .walkable) (c .before .before .loop-test .taken) .cheap, c .before .before .before .before .sum-at .ensures, c .sum-at2 .ensures)
 
 add-loses : tie.Need-add-loses Inv-loop μ-loop
 add-loses c =
@@ -68,7 +68,7 @@ returns-2 : tie.Need-returns-2 Inv-loop μ-loop
 returns-2 c =
     let p = c .before .before .before .before .before .before .before .before .before .before .before .before .before .before .before .pre in
     let v = c .before .before .before .before .before .loop in
-    pairs-lose _ _ _ _ _ (p .1 .sorted) _ _ _ _ _ _ _ _ (p .4 .sorted) (c .before .before .before .before .loop-test .taken) (p .5) (c .before .before .before .before .before .before .cost-of .ensures) (c .before .before .cost-of2 .ensures) (sym (c .before .loses .ensures) ∙ c .if2 .taken) (v .inv)
+    pairs-lose _ _ _ _ _ (p .1 .sorted) _ _ _ _ _ _ _ _ (p .4 .sorted) (c .before .before .before .before .loop-test .taken) (p .5) (c .before .before .before .before .before .before .sum-at .ensures) (c .before .before .sum-at2 .ensures) (sym (c .before .loses .ensures) ∙ c .if2 .taken) (v .inv)
 
 consider-pair-requires : tie.Need-consider-pair-requires Inv-loop μ-loop
 consider-pair-requires c κs =
@@ -95,10 +95,10 @@ consider-pairs-spec =
     μ-loop
     pairs-fit-requires
     returns
-    cost-of-requires
+    sum-at-requires
     loop-holds
     shared-slice-read-y
-    cost-of-requires-2
+    sum-at-requires-2
     add-loses
     loses-requires
     returns-2

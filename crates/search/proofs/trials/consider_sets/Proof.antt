@@ -43,7 +43,7 @@ consider-pairs-requires c κs =
     let p = c .before .before .before .before .before .before .before .before .before .before .before .before .pre in
     let h : c .before .before .before .loop .i < length (c .before .before .before .before .before .before .before .before .before .before .before .before .args .l .now) = omega arith in
     let m = getD-mem {A = ℕ} _ _ 0 h in
-    (p .0, p .1, p .2, p .3 .walkable .usable _ m, p .3, c .before .before .before .before .rest-of2 .ensures, record { exceeds = p .4 .each _ m }, p .4)
+    (p .0, p .1, p .2, p .3 .walkable .usable _ m, p .3, c .before .before .before .before .rest-of2 .ensures, p .4 .each _ m, p .4)
 
 add-i : tie.Need-add-i Inv-loop μ-loop
 add-i c = omega (arith, c .before .before .before .loop-test .taken, c .before .before .before .before .loop .inv .0, c .before .before .before .before .before .before .before .before .before .before .before .before .before .pre .3 .walkable .few)

@@ -11,7 +11,7 @@ use lib.ListN.{drop, getD, length, length-drop, take}
 use lib.Seq.{length-take-le}
 use Rattle.order.specs.Test.{decide}
 use Rattle.network.specs.Calls.{Reply as Answered, says}
-use Rattle.network.specs.Fetching.{fetchLinks, fetchNumber, fetchStart, linksStart, treeSizeIn}
+use Rattle.network.specs.Fetching.{fetchLinks, fetchNumber, fetchStart, linksStart, headTreeSize}
 use Rattle.network.specs.declared.Answer.{Answer}
 use Rattle.network.specs.declared.Answer.the-variants.{Plan, Refused}
 use Rattle.network.specs.declared.Costs.{Costs}
@@ -19,6 +19,10 @@ use Rattle.network.specs.declared.Refusal.{Refusal}
 use Rattle.planlist.specs.Fetched.{found, links-found, links-none, plan-inside, start-found, start-none}
 use Rattle.capi.specs.declared.Reply.{Reply}
 use Rattle.capi.specs.declared.Part.{Part}
+
+-- the version of the calls that C sees
+abbrev pub version : ℕ
+version = 1
 
 -- value i of a reply: the plan's sum, y1 or y2; 0 where the reply is a refusal
 abbrev pub valueAt : Answered → ℕ → ℤ
@@ -51,12 +55,12 @@ flat-refused a r e = rw e
 
 module _ (list : List ℕ) (r : ℕ) where
   -- plan r is found: its t link bytes stand inside the list
-  found-part : fetchNumber list r ≡ 0 → (linksStart list r + treeSizeIn list ≤ length list) × (length (fetchLinks list r) ≡ treeSizeIn list)
+  found-part : fetchNumber list r ≡ 0 → (linksStart list r + headTreeSize list ≤ length list) × (length (fetchLinks list r) ≡ headTreeSize list)
   found-part e =
       let f = found list r e in
       let inside = plan-inside list r (f .0) (f .1) in
       let rest = length-drop (linksStart list r) list in
-      (omega arith, ap length (links-found list r e) ∙ length-take-le (treeSizeIn list) (drop (linksStart list r) list) (omega arith))
+      (omega arith, ap length (links-found list r e) ∙ length-take-le (headTreeSize list) (drop (linksStart list r) list) (omega arith))
 
   -- the part lies inside the list
   pub part-inside : partOf list r .start + partOf list r .count ≤ length list

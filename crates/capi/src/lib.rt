@@ -1,10 +1,11 @@
 // The calls of `planner` for programs in C and Rust: replies are structs of plain numbers.
 use network::Answer;
-use network::Refusal;
+use network::Status;
+use planlist::fetch::fetch_start;
 ghost use mathlib.Core.Path.{_≡_};
 ghost use lib.ListN.{length};
 ghost use Rattle.network.specs.Calls.{asked, judged, listAfter, listStatus, says, treeAfter};
-ghost use Rattle.capi.specs.Replies.{flatReply, partOf};
+ghost use Rattle.capi.specs.Replies.{flatReply, partOf, version};
 
 // The costs of a plan with number 0 and place 0, or a refusal with costs 0.
 #[repr(C)]
@@ -15,6 +16,9 @@ pub struct Reply {
     pub y1: i16,
     pub y2: i16,
 }
+
+// The version of these calls: it changes whenever a struct, a call or the meaning of a reply does.
+pub const VERSION: u32 = 1;
 
 // A part of a plan list: `count` bytes from byte `start` on. It is empty, from 0 on, if the number is not 0.
 #[repr(C)]
@@ -46,6 +50,14 @@ fn flat(answer: Answer) -> Reply
     }
 }
 
+// The version of the calls that this archive has.
+#[no_mangle]
+pub extern "C" fn ranqustei_version() -> u32
+    ensures { λ r. ⌜ r ≡ version ⌝ }
+{
+    VERSION
+}
+
 // The judge of a drawn tree.
 #[no_mangle]
 pub extern "C" fn ranqustei_judge(survey: &[u8], drawn: &[u8]) -> Reply
@@ -64,7 +76,7 @@ pub extern "C" fn ranqustei_best(survey: &[u8], b1: i16, b2: i16, tree: &mut [u8
 
 // The list of plans that no other plan beats.
 #[no_mangle]
-pub extern "C" fn ranqustei_list(survey: &[u8], allowance: u32, buffer: &mut [u8]) -> Refusal
+pub extern "C" fn ranqustei_list(survey: &[u8], allowance: u32, buffer: &mut [u8]) -> Status
     ensures { λ r. ⌜ (r ≡ listStatus (now (survey .entry)) allowance (length (now (buffer .entry)))) × (now (buffer .exit) ≡ listAfter (now (survey .entry)) allowance (now (buffer .entry))) ⌝ }
 {
     planner::list(survey, allowance, buffer)
@@ -76,7 +88,7 @@ pub extern "C" fn ranqustei_fetch(list: &[u8], r: u32) -> Part
     ensures { λ part. ⌜ part ≡ partOf (now (list .entry)) r ⌝ }
 {
     let number = planner::fetch_number(list, r);
-    let start = planner::fetch_start(list, r);
+    let start = fetch_start(list, r);
     let links = planner::fetch_links(list, r);
     Part {
         number,

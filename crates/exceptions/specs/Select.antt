@@ -18,9 +18,10 @@ use Rattle.spanning.specs.Labelling.{crosses}
 use Rattle.spanning.specs.LabelList.{labelOf}
 use Rattle.forest.specs.Groups.{joined}
 use Rattle.network.specs.Limits.{maxLinks}
+use Rattle.network.specs.Yard.{endsAt, sumAt}
 use Rattle.forest.specs.declared.Forest.{Forest}
-use Rattle.kruskal.specs.ByCost.{Cheap, costOf, linkOrder, order-below, order-length}
-use Rattle.kruskal.specs.Tree.{Walkable, endsOf}
+use Rattle.kruskal.specs.ByCost.{Cheap, linkOrder, order-below, order-length}
+use Rattle.kruskal.specs.Tree.{Walkable}
 use Rattle.kruskal.specs.Base.{Holding, kept, kept-among, kept-few}
 use Rattle.kruskal.specs.declared.links.Links.{Links}
 use Rattle.exceptions.specs.Ceilings.{flagOf}
@@ -61,14 +62,14 @@ module _ (p : ℕ → Bool) where
 -- links that can be walked, in rising order of cost
 pub record InOrder (sums l : List ℕ) : Type 0 where
   pub walkable : Walkable sums l
-  pub sorted : Sorted orderℕ (costOf sums) l
+  pub sorted : Sorted orderℕ (sumAt sums) l
 
 kept-sorted : (ends : List ℕ) (w : ℕ → ℕ) (f : Forest) (l : List ℕ) → Sorted orderℕ w l → Sorted orderℕ w (kept ends f l)
 unfolding kept
 kept-sorted ends w f [] s = s
 kept-sorted ends w f (e ∷ l) s =
-    let more = joined f (endsOf ends e .a) (endsOf ends e .b) in
-    by-test (crosses (labelOf (f .leader)) (endsOf ends e))
+    let more = joined f (endsAt ends e .a) (endsAt ends e .b) in
+    by-test (crosses (labelOf (f .leader)) (endsAt ends e))
     (λ c. rw c ((λ y m. s .0 y (kept-among ends more l y m)), kept-sorted ends w more l (s .1)))
     (λ c. rw c (kept-sorted ends w f l (s .1)))
 
@@ -76,7 +77,7 @@ module _ (sums : List ℕ) where
   pub order-in-order : (m : ℕ) {l : List ℕ} → m ≤ maxLinks → Cheap sums m → l ≡ linkOrder sums m → InOrder sums l
   unfolding linkOrder
   order-in-order m h cheap e =
-      let key = ranked (costOf sums) (λ c. c) in
+      let key = ranked (sumAt sums) (λ c. c) in
       rw e (record {
         walkable = record {
           few = omega (arith, order-length sums m);
@@ -101,7 +102,7 @@ module _ (sums : List ℕ) where
       let few = v .walkable .few in
       record {
         walkable = record { few = omega (arith, kept-few ends f l); usable = λ e k. v .walkable .usable e (kept-among ends f l e k) };
-        sorted = kept-sorted ends (costOf sums) f l (v .sorted);
+        sorted = kept-sorted ends (sumAt sums) f l (v .sorted);
       }
 
   pub held-in-order : {l : List ℕ} {r : Links} → Holding l r → InOrder sums l → InOrder sums (take (r .count) (r .link))

@@ -6,7 +6,6 @@ use crate::listing::sum_of;
 use crate::listing::y1;
 use crate::listing::y2;
 use crate::questions::DIRT;
-use crate::questions::is_refusal;
 use crate::questions::link_at;
 use crate::small::Yard;
 use crate::small::byte;
@@ -117,7 +116,7 @@ fn differs(survey: &[u8], allowance: u32, number: u8, plans: &[u64], head: u64, 
     let mut given = [DIRT; ROOM];
     let reply = list(survey, allowance, &mut given);
     let size = 10 + (tail % 256) as usize;
-    if is_refusal(reply, number) & is_list(&given, plans, head, tail, size) {
+    if (reply.number == number) & (reply.place == 0) & is_list(&given, plans, head, tail, size) {
         return 0;
     }
     1

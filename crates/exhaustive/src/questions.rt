@@ -84,7 +84,7 @@ fn is_plan(costs: Costs, tree: u64) -> bool {
     s & (costs.y1 == bound(y1(tree) % 8 * 2)) & (costs.y2 == bound(y2(tree) % 8 * 2))
 }
 
-pub fn is_refusal(refusal: Refusal, number: u8) -> bool {
+fn is_refusal(refusal: Refusal, number: u8) -> bool {
     (refusal.number == number) & (refusal.place == 0)
 }
 

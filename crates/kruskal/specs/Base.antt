@@ -13,9 +13,9 @@ use Rattle.order.specs.Lists.{_∈_, _⊆_}
 use Rattle.spanning.specs.Labelling.{crosses}
 use Rattle.spanning.specs.LabelList.{labelOf}
 use Rattle.network.specs.Limits.{maxLinks}
+use Rattle.network.specs.Yard.{endsAt}
 use Rattle.forest.specs.Groups.{joined}
 use Rattle.forest.specs.declared.Forest.{Forest}
-use Rattle.kruskal.specs.Tree.{endsOf}
 use Rattle.kruskal.specs.declared.links.Links.{Links}
 
 -- r holds the links l
@@ -29,16 +29,16 @@ module _ (ends : List ℕ) where
   unfoldable pub kept : Forest → List ℕ → List ℕ
   kept f [] = []
   kept f (e ∷ l) =
-      let more = kept (joined f (endsOf ends e .a) (endsOf ends e .b)) l in
+      let more = kept (joined f (endsAt ends e .a) (endsAt ends e .b)) l in
       let rest = kept f l in
-      cond (crosses (labelOf (f .leader)) (endsOf ends e)) (e ∷ more) rest
+      cond (crosses (labelOf (f .leader)) (endsAt ends e)) (e ∷ more) rest
 
   -- they are links of the list
   pub kept-among : (f : Forest) (l : List ℕ) → kept f l ⊆ l
   unfolding kept
-  kept-among f (e ∷ l) x m = go (decide (crosses (labelOf (f .leader)) (endsOf ends e))) (kept-among (joined f (endsOf ends e .a) (endsOf ends e .b)) l x) (kept-among f l x) m
+  kept-among f (e ∷ l) x m = go (decide (crosses (labelOf (f .leader)) (endsAt ends e))) (kept-among (joined f (endsAt ends e .a) (endsAt ends e .b)) l x) (kept-among f l x) m
     where
-      go : Decided (crosses (labelOf (f .leader)) (endsOf ends e)) → (x ∈ kept (joined f (endsOf ends e .a) (endsOf ends e .b)) l → x ∈ l)
+      go : Decided (crosses (labelOf (f .leader)) (endsAt ends e)) → (x ∈ kept (joined f (endsAt ends e .a) (endsAt ends e .b)) l → x ∈ l)
           → (x ∈ kept f l → x ∈ l) → x ∈ kept f (e ∷ l) → x ∈ e ∷ l
       go (inl c) more rest m = ⊎-elim (λ q. here q) (λ k. there (more k)) (List·Memᴰ·cases-cons (rw c at m))
       go (inr c) more rest m = there (rest (rw c at m))
@@ -47,8 +47,8 @@ module _ (ends : List ℕ) where
   unfolding kept
   kept-few f [] = omega arith
   kept-few f (e ∷ l) =
-      by-test (crosses (labelOf (f .leader)) (endsOf ends e))
-      (λ c. rw c (omega (arith, kept-few (joined f (endsOf ends e .a) (endsOf ends e .b)) l)))
+      by-test (crosses (labelOf (f .leader)) (endsAt ends e))
+      (λ c. rw c (omega (arith, kept-few (joined f (endsAt ends e .a) (endsAt ends e .b)) l)))
       (λ c. rw c (omega (arith, kept-few f l)))
 
   -- the first n links of an array, and those kept of l from place k on, from the groups f
@@ -61,13 +61,13 @@ module _ (ends : List ℕ) where
   collect-start l f link = refl
 
   module _ (l : List ℕ) (f : Forest) (link w : List ℕ) (n k : ℕ) (i : collected l f link n k ≡ w) where
-    pub collect-taken : k < length l → n < length link → crosses (labelOf (f .leader)) (endsOf ends (getD l k 0)) ≡ true
-        → collected l (joined f (endsOf ends (getD l k 0) .a) (endsOf ends (getD l k 0) .b)) (set link n (getD l k 0)) (n + 1) (k + 1) ≡ w
+    pub collect-taken : k < length l → n < length link → crosses (labelOf (f .leader)) (endsAt ends (getD l k 0)) ≡ true
+        → collected l (joined f (endsAt ends (getD l k 0) .a) (endsAt ends (getD l k 0) .b)) (set link n (getD l k 0)) (n + 1) (k + 1) ≡ w
     unfolding collected kept
     collect-taken h m e =
         rw (add-one n, add-one k, take-suc-set link n (getD l k 0) m, append-snoc) (rw (drop-cons l k 0 h, e) at i)
 
-    pub collect-left : k < length l → crosses (labelOf (f .leader)) (endsOf ends (getD l k 0)) ≡ false → collected l f link n (k + 1) ≡ w
+    pub collect-left : k < length l → crosses (labelOf (f .leader)) (endsAt ends (getD l k 0)) ≡ false → collected l f link n (k + 1) ≡ w
     unfolding collected kept
     collect-left h e = rw (add-one k) (rw (drop-cons l k 0 h, e) at i)
 

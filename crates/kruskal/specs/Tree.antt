@@ -9,13 +9,9 @@ use Rattle.order.specs.Lists.{_∈_}
 use Rattle.spanning.specs.Labelling.{Edge, crosses}
 use Rattle.spanning.specs.LabelList.{labelOf}
 use Rattle.network.specs.Limits.{maxLinks, maxSum}
+use Rattle.network.specs.Yard.{endsAt, sumAt}
 use Rattle.forest.specs.Groups.{apart, joined, link}
-use Rattle.kruskal.specs.ByCost.{costOf}
 use Rattle.kruskal.specs.declared.tree.Tree.{Tree}
-
--- the two stations that link c joins
-abbrev pub endsOf : List ℕ → ℕ → Edge
-endsOf ends c = link (getD ends (2 * c) 0) (getD ends (2 * c + 1) 0)
 
 -- no link is taken
 unfoldable pub bare : Tree
@@ -25,15 +21,15 @@ bare = record { forest = apart; taken = replicate maxLinks false; sum = 0; count
 unfoldable pub added : List ℕ → List ℕ → Tree → ℕ → Tree
 added ends sums t e =
     record {
-      forest = joined (t .forest) (endsOf ends e .a) (endsOf ends e .b);
+      forest = joined (t .forest) (endsAt ends e .a) (endsAt ends e .b);
       taken = set (t .taken) e true;
-      sum = t .sum + costOf sums e;
+      sum = t .sum + sumAt sums e;
       count = t .count + 1;
     }
 
 -- link e is taken where it joins two groups
 unfoldable pub linked : List ℕ → List ℕ → Tree → ℕ → Tree
-linked ends sums t e = cond (crosses (labelOf (t .forest .leader)) (endsOf ends e)) (added ends sums t e) t
+linked ends sums t e = cond (crosses (labelOf (t .forest .leader)) (endsAt ends e)) (added ends sums t e) t
 
 -- ---- what a walk needs: two ends and a cost for each of the links, and no sum out of range
 
@@ -44,7 +40,7 @@ pub record Columns (ends sums : List ℕ) : Type 0 where
 -- link e is one of the links, with a cost in range
 pub record Usable (sums : List ℕ) (e : ℕ) : Type 0 where
   pub below : e < maxLinks
-  pub cheap : costOf sums e ≤ maxSum
+  pub cheap : sumAt sums e ≤ maxSum
 
 pub record Walkable (sums l : List ℕ) : Type 0 where
   pub few : length l ≤ maxLinks
@@ -56,11 +52,11 @@ pub record Light (j : ℕ) (t : Tree) : Type 0 where
   pub count-bound : t .count ≤ j
 
 -- taking a link adds at most its cost, and at most 1 to the count
-pub linked-adds : (ends sums : List ℕ) (t : Tree) (e : ℕ) {r : Tree} → r ≡ linked ends sums t e → (r .sum ≤ t .sum + costOf sums e) × (r .count ≤ t .count + 1)
+pub linked-adds : (ends sums : List ℕ) (t : Tree) (e : ℕ) {r : Tree} → r ≡ linked ends sums t e → (r .sum ≤ t .sum + sumAt sums e) × (r .count ≤ t .count + 1)
 unfolding linked added
-linked-adds ends sums t e q = rw q (go (crosses (labelOf (t .forest .leader)) (endsOf ends e)))
+linked-adds ends sums t e q = rw q (go (crosses (labelOf (t .forest .leader)) (endsAt ends e)))
   where
-    go : (b : Bool) → (cond b (added ends sums t e) t .sum ≤ t .sum + costOf sums e) × (cond b (added ends sums t e) t .count ≤ t .count + 1)
+    go : (b : Bool) → (cond b (added ends sums t e) t .sum ≤ t .sum + sumAt sums e) × (cond b (added ends sums t e) t .count ≤ t .count + 1)
     go true = (omega arith, omega arith)
     go false = (omega arith, omega arith)
 

@@ -18,7 +18,8 @@ use Rattle.network.specs.declared.Answer.the-variants.{Plan, Refused as 
 use Rattle.network.specs.declared.Checked.{Checked}
 use Rattle.network.specs.declared.Checked.the-variants.{Fine, Refused}
 use Rattle.network.specs.declared.Costs.{Costs}
-use Rattle.network.specs.declared.Refusal.{Refusal}
+use Rattle.network.specs.declared.Network.{Network}
+use Rattle.network.specs.declared.Status.{Status}
 
 -- ---- replies
 
@@ -43,9 +44,9 @@ reply Fine vs = record { number = 0; place = 0; values = vs }
 reply (Refused r) vs = record { number = r .number; place = r .place; values = [] }
 
 -- the number and place of a call that only fills a buffer: those of the refusal, or 0, 0
-unfoldable pub status : Checked → Refusal
+unfoldable pub status : Checked → Status
 status Fine = record { number = 0; place = 0 }
-status (Refused r) = r
+status (Refused r) = record { number = r .number; place = r .place }
 
 -- what a check that found nothing lets through, and what stands where it refused
 unfoldable pub ifFine : {A : Type 0} → Checked → A → A → A
@@ -88,29 +89,38 @@ askedChecked s b1 b2 size =
 unfoldable pub asked : List ℕ → ℤ → ℤ → ℕ → Reply
 asked s b1 b2 size = reply (askedChecked s b1 b2 size) (costValues (costsOf (networkOf s) (linksOf (bestTree s b1 b2))))
 
+-- a tree buffer with the links of a tree, if there is one, in its first bytes; the others are as they were
+unfoldable pub treeWith : Option (List ℕ) → List ℕ → List ℕ
+treeWith o tree = let ts = linksOf o in ts ++ drop (length ts) tree
+
 -- the tree buffer after it: the best tree's links, rising, in its first t bytes; its bytes past t, and all bytes on a refusal, are as they were
 unfoldable pub treeAfter : List ℕ → ℤ → ℤ → List ℕ → List ℕ
-treeAfter s b1 b2 tree =
-    let ts = linksOf (bestTree s b1 b2) in
-    ifFine (askedChecked s b1 b2 (length tree)) (ts ++ drop (length ts) tree) tree
+treeAfter s b1 b2 tree = ifFine (askedChecked s b1 b2 (length tree)) (treeWith (bestTree s b1 b2) tree) tree
 
 -- ---- the list call
 
--- 1 to 8, then 9: a list buffer of `size` bytes is below its need
-unfoldable pub roomChecked : List ℕ → ℕ → Checked
-roomChecked s size = checkedOf s orElse refuseIf (ltb size (bufferNeed (networkOf s))) 9 0
+-- 9: a list buffer of `size` bytes is below its need
+unfoldable pub roomChecked : Network → ℕ → Checked
+roomChecked net size = refuseIf (ltb size (bufferNeed net)) 9 0
 
 -- then 10: the solved count would pass the allowance
+unfoldable pub plansChecked : Network → ℕ → ℕ → Checked
+plansChecked net allowance size = roomChecked net size orElse refuseIf (passes net allowance) 10 0
+
+-- the list buffer of a yard: as it was on 9, 0 throughout on 10, and else the list with 0 after it
+unfoldable pub plansAfter : Network → ℕ → List ℕ → List ℕ
+plansAfter net allowance buffer =
+    let size = length buffer in
+    ifFine (roomChecked net size) (cond (passes net allowance) (replicate size 0) (filled net size)) buffer
+
+-- 1 to 8, then 9 and 10
 unfoldable pub listChecked : List ℕ → ℕ → ℕ → Checked
-listChecked s allowance size = roomChecked s size orElse refuseIf (passes (networkOf s) allowance) 10 0
+listChecked s allowance size = checkedOf s orElse plansChecked (networkOf s) allowance size
 
 -- the reply to a list call
-unfoldable pub listStatus : List ℕ → ℕ → ℕ → Refusal
+unfoldable pub listStatus : List ℕ → ℕ → ℕ → Status
 listStatus s allowance size = status (listChecked s allowance size)
 
--- the list buffer after it: as it was on 1 to 9, 0 throughout on 10, and else the list with 0 after it
+-- the list buffer after it: as it was on 1 to 8, and else that of the yard
 unfoldable pub listAfter : List ℕ → ℕ → List ℕ → List ℕ
-listAfter s allowance buffer =
-    let net = networkOf s in
-    let size = length buffer in
-    ifFine (roomChecked s size) (cond (passes net allowance) (replicate size 0) (filled net size)) buffer
+listAfter s allowance buffer = ifFine (checkedOf s) (plansAfter (networkOf s) allowance buffer) buffer

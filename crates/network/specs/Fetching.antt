@@ -6,38 +6,38 @@ use lib.Dec.{eqb, ltb}
 use lib.ListN.{drop, length, take}
 use Rattle.network.specs.Limits.{maxCeilings, maxPlans, maxTree}
 use Rattle.network.specs.Bytes.{byteAt, markAt, u16At}
-use Rattle.network.specs.PlanList.{headMark, headSize, planMark, planSize}
+use Rattle.network.specs.PlanList.{headMark, headSize, planMark, planSize, planSlots}
 
 -- what a list head says: the plan count, t, and p
-abbrev pub countIn : List ℕ → ℕ
-countIn list = u16At list 2
+abbrev pub headCount : List ℕ → ℕ
+headCount list = u16At list 2
 
-abbrev pub treeSizeIn : List ℕ → ℕ
-treeSizeIn list = byteAt list 8
+abbrev pub headTreeSize : List ℕ → ℕ
+headTreeSize list = byteAt list 8
 
-abbrev pub ceilingsIn : List ℕ → ℕ
-ceilingsIn list = byteAt list 9
+abbrev pub headCeilings : List ℕ → ℕ
+headCeilings list = byteAt list 9
 
 -- where plan r's record starts, and where its link bytes do: at byte 20 + r × (10 + t)
 abbrev pub planStart : List ℕ → ℕ → ℕ
-planStart list r = headSize + r * planSize (treeSizeIn list)
+planStart list r = headSize + r * planSize planSlots (headTreeSize list)
 
 abbrev pub linksStart : List ℕ → ℕ → ℕ
-linksStart list r = planStart list r + 10
+linksStart list r = planStart list r + planSize planSlots 0
 
 -- the list is damaged, whichever plan is asked for
 unfoldable pub damaged : List ℕ → Bool
 damaged list =
-    ltb (length list) headSize || not (markAt list 0 headMark) || ltb maxPlans (countIn list) || ltb maxTree (treeSizeIn list)
-    || ltb maxCeilings (ceilingsIn list) || ltb (length list) (planStart list (countIn list))
+    ltb (length list) headSize || not (markAt list 0 headMark) || ltb maxPlans (headCount list) || ltb maxTree (headTreeSize list)
+    || ltb maxCeilings (headCeilings list) || ltb (length list) (planStart list (headCount list))
 
 -- the number: 12 if the list is damaged, then 13 if r is not below the plan count, then 12 if plan r's mark is wrong, and else 0
 unfoldable pub fetchNumber : List ℕ → ℕ → ℕ
-fetchNumber list r = cond (damaged list) 12 (cond (ltb r (countIn list)) (cond (markAt list (planStart list r) planMark) 0 12) 13)
+fetchNumber list r = cond (damaged list) 12 (cond (ltb r (headCount list)) (cond (markAt list (planStart list r) planMark) 0 12) 13)
 
 -- the t link bytes of plan r, a part of the list; an empty part if the number is not 0
 unfoldable pub fetchLinks : List ℕ → ℕ → List ℕ
-fetchLinks list r = cond (eqb (fetchNumber list r) 0) (take (treeSizeIn list) (drop (linksStart list r) list)) []
+fetchLinks list r = cond (eqb (fetchNumber list r) 0) (take (headTreeSize list) (drop (linksStart list r) list)) []
 
 -- where that part starts; 0 if the number is not 0
 unfoldable pub fetchStart : List ℕ → ℕ → ℕ

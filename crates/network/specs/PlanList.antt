@@ -3,7 +3,7 @@ use mathlib.Core.List.{List, [], _∷_, _++_, map}
 use Prim.Native.Nat.{ℕ, _+_, _-_, _*_}
 use lib.IntN.{pos}
 use lib.ListN.{getD, length, replicate}
-use Rattle.network.specs.Limits.{maxPlans, maxTree}
+use Rattle.network.specs.Limits.{maxCeilings, maxPlans, maxTree}
 use Rattle.network.specs.Bytes.{bitsOf, littleEndian}
 use Rattle.network.specs.Yard.{ceilingCosts, treeSize, treeSum}
 use Rattle.network.specs.Walk.{plans, positionCount, solvedCount}
@@ -25,12 +25,17 @@ headBytes count solved t p = headMark ++ (littleEndian 2 count ++ (littleEndian 
 abbrev pub planBytes : Costs → List ℕ → List ℕ
 planBytes v links = planMark ++ (littleEndian 4 (v .sum) ++ (littleEndian 2 (bitsOf (v .y1)) ++ (littleEndian 2 (bitsOf (v .y2)) ++ links)))
 
--- the sizes of the head, and of a plan record of t links
+-- the size of the head
 abbrev pub headSize : ℕ
 headSize = 10
 
-abbrev pub planSize : ℕ → ℕ
-planSize t = 10 + t
+-- how many ceiling costs a plan record holds, absent ones included
+abbrev pub planSlots : ℕ
+planSlots = maxCeilings
+
+-- the size of a plan record of t links: mark, sum, its ceiling costs, the link numbers
+abbrev pub planSize : ℕ → ℕ → ℕ
+planSize slots t = 6 + 2 * slots + t
 
 -- the costs of a tree, 0 where a ceiling is absent
 abbrev pub costsOf : Network → List ℕ → Costs
@@ -47,10 +52,10 @@ listBytes net = headBytes (length (plans net)) (solvedCount net) (treeSize net) 
 
 -- what a list buffer needs: 10 + M × (10 + t) bytes, at most 52,810
 abbrev pub bufferNeed : Network → ℕ
-bufferNeed net = headSize + positionCount net * planSize (treeSize net)
+bufferNeed net = headSize + positionCount net * planSize planSlots (treeSize net)
 
 abbrev pub maxNeed : ℕ
-maxNeed = headSize + maxPlans * planSize maxTree
+maxNeed = headSize + maxPlans * planSize planSlots maxTree
 
 -- a list buffer of `size` bytes on success: the list, and 0 after the last plan
 abbrev pub filled : Network → ℕ → List ℕ

@@ -22,7 +22,7 @@ use Rattle.network.specs.Survey.{networkOf}
 use Rattle.network.specs.PlanList.{bufferNeed, filled}
 use Rattle.network.specs.Checked.{refuseIf, _orElse_}
 use Rattle.network.specs.Refusals.{checkedOf}
-use Rattle.network.specs.Calls.{ifFine, listAfter, listChecked, listStatus, roomChecked, status}
+use Rattle.network.specs.Calls.{ifFine, listAfter, listChecked, listStatus, plansAfter, plansChecked, roomChecked, status}
 use Rattle.network.specs.Meaning.{trees-iff, trees-rising}
 use Rattle.network.specs.NetworkFine.{survey-sound}
 use Rattle.network.specs.declared.Checked.the-variants.{Fine}
@@ -105,7 +105,7 @@ pub record Listed (s : List ℕ) (allowance : ℕ) (buffer : List ℕ) : Type 0 
 -- for every accepted survey, every buffer long enough, whatever it held, and every allowance of at least M
 pub demand-3 : (s : List ℕ) (allowance : ℕ) (buffer : List ℕ) → checkedOf s ≡ Fine → bufferNeed (networkOf s) ≤ length buffer
     → positionCount (networkOf s) ≤ allowance → Listed s allowance buffer
-unfolding listStatus listChecked roomChecked listAfter ifFine status refuseIf _orElse_
+unfolding listStatus listChecked roomChecked plansChecked plansAfter listAfter ifFine status refuseIf _orElse_
 demand-3 s allowance buffer fine room enough =
     let list = complete (networkOf s) (survey-sound s fine) in
     let few : solvedCount (networkOf s) ≤ allowance = omega (arith, list .count) in

@@ -21,9 +21,9 @@ use Rattle.network.specs.Survey.{costsIn, endsIn, layoutOf, linkMark, ne
 use Rattle.network.specs.PlanList.{bufferNeed, headMark, join, planMark}
 use Rattle.network.specs.Checked.{firstRefusal, refuseIf, _orElse_}
 use Rattle.network.specs.Refusals.{badLength, checkedWith, linkChecked, yardChecked}
-use Rattle.network.specs.Calls.{Reply, asked, askedChecked, bestTree, drawnChecked, ifFine, judged, listAfter, listChecked, listStatus, reply, roomChecked, status, treeAfter}
+use Rattle.network.specs.Calls.{Reply, asked, askedChecked, bestTree, drawnChecked, ifFine, judged, listAfter, listChecked, listStatus, plansAfter, plansChecked, reply, roomChecked, status, treeAfter, treeWith}
 use Rattle.network.specs.Printing.{printed}
-use Rattle.network.specs.declared.Refusal.{Refusal}
+use Rattle.network.specs.declared.Status.{Status}
 
 -- ---- the rows
 
@@ -32,7 +32,7 @@ pub data Row : Type 0 where
   -- the list call with enough allowance, into a buffer of the bytes it needs that held other bytes: the plans' links, the solved count, the list
   lists : (survey : List ℕ) (links : List (List ℕ)) (count need : ℕ) (list : List ℕ) → Row
   -- the list call with this allowance: its reply
-  allows : (survey : List ℕ) (allowance size : ℕ) → Refusal → Row
+  allows : (survey : List ℕ) (allowance size : ℕ) → Status → Row
   -- the ceilings question into a tree buffer: the reply, and the buffer after it
   asks : (survey : List ℕ) (b1 b2 : ℤ) (buffer : List ℕ) → Reply → List ℕ → Row
   -- a drawn tree, and the reply
@@ -142,7 +142,7 @@ every P (h ▸ r) x m = ⊎-elim (λ q. subst⁻¹ P q h) (λ n. every P r x n) 
 
 -- every row of the table is right
 pub table-right : (r : Row) → r ∈ table → Right r
-unfolding table endsIn sumsIn costsIn spanningTrees choose chooseFrom tree.isTree tree.isTreeFrom tree.isForest tree.isOneComponent crosses merge numbersFrom isListed signed bitsOf column layoutOf networkWith badLength checkedWith linkChecked yardChecked firstRefusal refuseIf _orElse_ reply status ifFine judged drawnChecked asked askedChecked bestTree treeAfter roomChecked listChecked listStatus listAfter printed
+unfolding table endsIn sumsIn costsIn spanningTrees choose chooseFrom tree.isTree tree.isTreeFrom tree.isForest tree.isOneComponent crosses merge numbersFrom isListed signed bitsOf column layoutOf networkWith badLength checkedWith linkChecked yardChecked firstRefusal refuseIf _orElse_ reply status ifFine judged drawnChecked asked askedChecked bestTree treeAfter treeWith roomChecked plansChecked plansAfter listChecked listStatus listAfter printed
 table-right = every Right (
     record { promised = refl; by-walk = refl; counted = refl; needed = refl; succeeds = refl; bytes = refl }
     ▸ refl

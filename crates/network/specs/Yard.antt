@@ -20,17 +20,27 @@ use Rattle.network.specs.declared.Network.{Network}
 
 -- ---- stations and links
 
--- the two stations that link c joins
+-- the two stations that link c joins, in the ends of all links
+abbrev pub endsAt : List ℕ → ℕ → Edge
+endsAt ends c = record { a = getD ends (2 * c) 0; b = getD ends (2 * c + 1) 0 }
+
+-- s, the sum cost of link c, in the sum costs of all links
+abbrev pub sumAt : List ℕ → ℕ → ℕ
+sumAt sums c = getD sums c 0
+
+-- c1, c2: the ceiling cost i of link c, counted from 0, in the ceiling costs of all links
+abbrev pub costAt : List ℤ → ℕ → ℕ → ℤ
+costAt costs i c = getD costs (maxCeilings * c + i) (pos 0)
+
+-- the same of a yard
 abbrev pub ends : Network → ℕ → Edge
-ends net c = record { a = getD (net .ends) (2 * c) 0; b = getD (net .ends) (2 * c + 1) 0 }
+ends net = endsAt (net .ends)
 
--- s: the sum cost of link c
 abbrev pub sumCost : Network → ℕ → ℕ
-sumCost net c = getD (net .sums) c 0
+sumCost net = sumAt (net .sums)
 
--- c1, c2: the ceiling cost i of link c, counted from 0
 abbrev pub ceilingCost : Network → ℕ → ℕ → ℤ
-ceilingCost net i c = getD (net .costs) (maxCeilings * c + i) (pos 0)
+ceilingCost net = costAt (net .costs)
 
 -- k1, k2: the ranks of the present ceilings
 abbrev pub ranks : Network → List ℕ

@@ -1,15 +1,19 @@
 // The data model that all code shares. What the values mean, and document 01 as definitions, is in specs/.
+use crate::limits::MAX_CEILINGS;
+use crate::limits::MAX_LINKS;
+
+pub mod limits;
 
 // A yard: n stations, p ceilings with their ranks k, and m links. Link e joins the stations ends[2 * e] and ends[2 * e + 1], has the sum
 // cost sums[e], and costs[2 * e + i] is its cost by ceiling i. Entries past the links and ranks of absent ceilings are 0.
 pub struct Network {
     pub n: u8,
     pub p: u8,
-    pub k: [u8; 2],
+    pub k: [u8; MAX_CEILINGS],
     pub m: usize,
-    pub ends: [u8; 80],
-    pub sums: [u32; 40],
-    pub costs: [i16; 80],
+    pub ends: [u8; 2 * MAX_LINKS],
+    pub sums: [u32; MAX_LINKS],
+    pub costs: [i16; MAX_CEILINGS * MAX_LINKS],
 }
 
 // The costs of a plan: the sum, and the ceiling costs, 0 where a ceiling is absent.
@@ -20,8 +24,14 @@ pub struct Costs {
 }
 
 // The number of a refusal, and its place: 0 for the yard record, the link number plus 1 for a link.
-#[repr(C)]
 pub struct Refusal {
+    pub number: u8,
+    pub place: u8,
+}
+
+// The reply of a call that only fills a buffer: number 0 and place 0, or those of the refusal.
+#[repr(C)]
+pub struct Status {
     pub number: u8,
     pub place: u8,
 }

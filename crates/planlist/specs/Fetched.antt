@@ -12,11 +12,11 @@ use lib.Seq.{drop-drop, getD-drop, take-at}
 use Rattle.order.specs.Lists.{_∈_, getD-map, getD-mem, map-mem}
 use Rattle.network.specs.Limits.{maxCeilings, maxPlans, maxTree}
 use Rattle.network.specs.Bytes.{byteAt, markAt}
-use Rattle.network.specs.PlanList.{costsOf, filled, headBytes, headMark, headSize, join, listBytes, planMark, planSize}
+use Rattle.network.specs.PlanList.{costsOf, filled, headBytes, headMark, headSize, join, listBytes, planMark, planSize, planSlots}
 use Rattle.network.specs.Yard.{treeSize}
 use Rattle.network.specs.Walk.{plans, solvedCount}
 use Rattle.network.specs.Accepted.{or-false}
-use Rattle.network.specs.Fetching.{ceilingsIn, countIn, damaged, fetchLinks, fetchNumber, fetchStart, linksStart, planStart, treeSizeIn}
+use Rattle.network.specs.Fetching.{headCeilings, headCount, damaged, fetchLinks, fetchNumber, fetchStart, linksStart, planStart, headTreeSize}
 use Rattle.network.specs.declared.Costs.{Costs}
 use Rattle.network.specs.declared.Network.{Network}
 use Rattle.encoding.specs.RoundTrip.{u16-bytes}
@@ -26,15 +26,15 @@ use Rattle.planlist.specs.Records.{encode, length-plan}
 -- a list that is not damaged
 pub record Whole (list : List ℕ) : Type 0 where
   pub long : headSize ≤ length list
-  pub room : planStart list (countIn list) ≤ length list
+  pub room : planStart list (headCount list) ≤ length list
 
 pub whole : (list : List ℕ) → damaged list ≡ false → Whole list
 unfolding damaged
 whole list e =
-    let f = or-false _ (ltb (length list) (planStart list (countIn list))) e in
-    let g = or-false _ (ltb maxCeilings (ceilingsIn list)) (f .0) in
-    let h = or-false _ (ltb maxTree (treeSizeIn list)) (g .0) in
-    let i = or-false _ (ltb maxPlans (countIn list)) (h .0) in
+    let f = or-false _ (ltb (length list) (planStart list (headCount list))) e in
+    let g = or-false _ (ltb maxCeilings (headCeilings list)) (f .0) in
+    let h = or-false _ (ltb maxTree (headTreeSize list)) (g .0) in
+    let i = or-false _ (ltb maxPlans (headCount list)) (h .0) in
     let j = or-false (ltb (length list) headSize) (not (markAt list 0 headMark)) (i .0) in
     record { long = ltb-false _ _ (j .0); room = ltb-false _ _ (f .1) }
 
@@ -43,21 +43,21 @@ pub damaged-short : (list : List ℕ) → length list < headSize → damaged lis
 unfolding damaged
 damaged-short list h = rw (lt-ltb (length list) headSize h)
 
-pub damaged-by : (list : List ℕ) → headSize ≤ length list → {mark : Bool} {count size : ℕ} → mark ≡ markAt list 0 headMark → count ≡ countIn list
-    → size ≡ planSize (treeSizeIn list)
-    → not mark || ltb maxPlans count || ltb maxTree (treeSizeIn list) || ltb maxCeilings (ceilingsIn list) || ltb (length list) (headSize + count * size)
+pub damaged-by : (list : List ℕ) → headSize ≤ length list → {mark : Bool} {count size : ℕ} → mark ≡ markAt list 0 headMark → count ≡ headCount list
+    → size ≡ planSize planSlots (headTreeSize list)
+    → not mark || ltb maxPlans count || ltb maxTree (headTreeSize list) || ltb maxCeilings (headCeilings list) || ltb (length list) (headSize + count * size)
     ≡ damaged list
 unfolding damaged
 damaged-by list h m k z =
     let e = le-ltb (length list) headSize h in
-    λ i. sym e i || not (m i) || ltb maxPlans (k i) || ltb maxTree (treeSizeIn list) || ltb maxCeilings (ceilingsIn list)
+    λ i. sym e i || not (m i) || ltb maxPlans (k i) || ltb maxTree (headTreeSize list) || ltb maxCeilings (headCeilings list)
     || ltb (length list) (headSize + k i * z i)
 
 -- a plan below the count lies inside
-pub plan-inside : (list : List ℕ) (r : ℕ) → damaged list ≡ false → r < countIn list → planStart list r + planSize (treeSizeIn list) ≤ length list
+pub plan-inside : (list : List ℕ) (r : ℕ) → damaged list ≡ false → r < headCount list → planStart list r + planSize planSlots (headTreeSize list) ≤ length list
 plan-inside list r e h =
-    let m = suc-mul r (planSize (treeSizeIn list)) in
-    let n = mul-le-mul-right (planSize (treeSizeIn list)) h in
+    let m = suc-mul r (planSize planSlots (headTreeSize list)) in
+    let n = mul-le-mul-right (planSize planSlots (headTreeSize list)) h in
     omega (arith, whole list e .room)
 
 -- ---- the number and the links, by the tests that lead to them
@@ -67,25 +67,25 @@ module _ (list : List ℕ) (r : ℕ) where
   unfolding fetchNumber
   number-damaged e = rw e
 
-  pub number-none : damaged list ≡ false → countIn list ≤ r → fetchNumber list r ≡ 13
+  pub number-none : damaged list ≡ false → headCount list ≤ r → fetchNumber list r ≡ 13
   unfolding fetchNumber
-  number-none e h = rw (e, le-ltb r (countIn list) h)
+  number-none e h = rw (e, le-ltb r (headCount list) h)
 
-  pub number-marked : damaged list ≡ false → r < countIn list → {b : Bool} → markAt list (planStart list r) planMark ≡ b → fetchNumber list r ≡ cond b 0 12
+  pub number-marked : damaged list ≡ false → r < headCount list → {b : Bool} → markAt list (planStart list r) planMark ≡ b → fetchNumber list r ≡ cond b 0 12
   unfolding fetchNumber
-  number-marked e h f = rw (e, lt-ltb r (countIn list) h, f)
+  number-marked e h f = rw (e, lt-ltb r (headCount list) h, f)
 
   -- a plan that is found is below the count of a list that is not damaged
-  pub found : fetchNumber list r ≡ 0 → (damaged list ≡ false) × (r < countIn list)
+  pub found : fetchNumber list r ≡ 0 → (damaged list ≡ false) × (r < headCount list)
   unfolding fetchNumber
-  found = go (damaged list) (ltb r (countIn list)) (markAt list (planStart list r) planMark) (ltb-true r (countIn list))
+  found = go (damaged list) (ltb r (headCount list)) (markAt list (planStart list r) planMark) (ltb-true r (headCount list))
     where
-      go : (a b c : Bool) → (b ≡ true → r < countIn list) → _≡_ {A = ℕ} (cond a 12 (cond b (cond c 0 12) 13)) 0 → (a ≡ false) × (r < countIn list)
+      go : (a b c : Bool) → (b ≡ true → r < headCount list) → _≡_ {A = ℕ} (cond a 12 (cond b (cond c 0 12) 13)) 0 → (a ≡ false) × (r < headCount list)
       go true b c h e = absurd (omega arith)
       go false true c h e = (refl, h refl)
       go false false c h e = absurd (omega arith)
 
-  pub links-found : fetchNumber list r ≡ 0 → fetchLinks list r ≡ take (treeSizeIn list) (drop (linksStart list r) list)
+  pub links-found : fetchNumber list r ≡ 0 → fetchLinks list r ≡ take (headTreeSize list) (drop (linksStart list r) list)
   unfolding fetchLinks
   links-found e = rw e
 
@@ -113,12 +113,12 @@ module _ {S : Type 0} (costs : S → Costs) (links : S → List ℕ) (solved t p
   bytes : List ℕ
   bytes = listed costs links solved t p plans rest
 
-  sized : Sized (planSize t) (map (encode costs links) plans)
+  sized : Sized (planSize planSlots t) (map (encode costs links) plans)
   sized b m =
       let w = map-mem (encode costs links) plans b m in
-      ap length (w .2) ∙ length-plan (costs (w .0)) (links (w .0)) ∙ ap planSize (full (w .0) (w .1))
+      ap length (w .2) ∙ length-plan (costs (w .0)) (links (w .0)) ∙ ap (planSize planSlots) (full (w .0) (w .1))
 
-  count : countIn bytes ≡ length plans
+  count : headCount bytes ≡ length plans
   unfolding bytes
   count = u16-bytes (length plans) (omega arith)
 
@@ -127,12 +127,12 @@ module _ {S : Type 0} (costs : S → Costs) (links : S → List ℕ) (solved t p
   undamaged =
       let c = count in
       let len = length-append (join (map (encode costs links) plans)) rest in
-      let size = length-join (planSize t) (map (encode costs links) plans) sized in
-      let same = ap (λ (k : ℕ). k * planSize t) (length-map plans (encode costs links)) in
-      let need = ap (λ (k : ℕ). k * planSize t) count in
+      let size = length-join (planSize planSlots t) (map (encode costs links) plans) sized in
+      let same = ap (λ (k : ℕ). k * planSize planSlots t) (length-map plans (encode costs links)) in
+      let need = ap (λ (k : ℕ). k * planSize planSlots t) count in
       let a = le-ltb (length bytes) headSize (omega arith) in
-      let b = le-ltb maxPlans (countIn bytes) (omega arith) in
-      let e = le-ltb (length bytes) (planStart bytes (countIn bytes)) (omega arith) in
+      let b = le-ltb maxPlans (headCount bytes) (omega arith) in
+      let e = le-ltb (length bytes) (planStart bytes (headCount bytes)) (omega arith) in
       λ i. a i || not (markAt bytes 0 headMark) || b i || le-ltb maxTree t short i || le-ltb maxCeilings p flat i || e i
 
   module _ (r : ℕ) (below : r < length plans) (d : S) where
@@ -140,17 +140,17 @@ module _ {S : Type 0} (costs : S → Costs) (links : S → List ℕ) (solved t p
     later : List ℕ
     later = join (drop (suc r) (map (encode costs links) plans)) ++ rest
 
-    record-at : drop (headSize + r * planSize t) bytes ≡ encode costs links (getD plans r d) ++ later
+    record-at : drop (headSize + r * planSize planSlots t) bytes ≡ encode costs links (getD plans r d) ++ later
     unfolding bytes later
     record-at =
-        sym (drop-drop (r * planSize t) headSize bytes)
-        ∙ join-at (planSize t) (map (encode costs links) plans) rest sized r (rw length-map below)
+        sym (drop-drop (r * planSize planSlots t) headSize bytes)
+        ∙ join-at (planSize planSlots t) (map (encode costs links) plans) rest sized r (rw length-map below)
         ∙ ap (λ (b : List ℕ). b ++ later) (getD-map (encode costs links) plans r d [] below)
 
     pub fetched : fetchNumber (listed costs links solved t p plans rest) r ≡ 0
     unfolding bytes
     fetched =
-        let at = headSize + r * planSize t in
+        let at = headSize + r * planSize planSlots t in
         let c = count in
         let first : byteAt bytes at ≡ 0x50 = ap (byteAt bytes) (sym (add-zero at)) ∙ sym (getD-drop at bytes 0 0) ∙ ap (λ (l : List ℕ). byteAt l 0) record-at in
         let second : byteAt bytes (at + 1) ≡ 0x4C = sym (getD-drop at bytes 1 0) ∙ ap (λ (l : List ℕ). byteAt l 1) record-at in
@@ -159,7 +159,7 @@ module _ {S : Type 0} (costs : S → Costs) (links : S → List ℕ) (solved t p
     pub fetched-links : fetchLinks (listed costs links solved t p plans rest) r ≡ links (getD plans r d)
     unfolding bytes
     fetched-links =
-        let at = headSize + r * planSize t in
+        let at = headSize + r * planSize planSlots t in
         links-found bytes r fetched
         ∙ ap (take t) (sym (drop-drop 10 at bytes) ∙ ap (drop 10) record-at)
         ∙ take-at (links (getD plans r d)) later t (full (getD plans r d) (getD-mem plans r d below))

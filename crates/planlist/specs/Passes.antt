@@ -14,7 +14,7 @@ use Rattle.order.specs.Order.{TotalOrder, dictionary-trans, orderℤ}
 use Rattle.order.specs.Sorted.{Rising}
 use Rattle.frontier.specs.Frontier.{vector, vectorOrder}
 use Rattle.network.specs.Calls.{costValues}
-use Rattle.network.specs.PlanList.{planSize}
+use Rattle.network.specs.PlanList.{planSize, planSlots}
 use Rattle.network.specs.declared.Costs.{Costs}
 use Rattle.planlist.specs.Blocks.{blocks, blocks-turn, length-blocks}
 use Rattle.planlist.specs.Records.{costsAt, atMost, inOrder, at-most-before, costs-block, in-order-apart}
@@ -39,7 +39,7 @@ pub record Level (v : Costs) (bs : List (List ℕ)) : Type 0 where
 
 -- ---- a turn of a loop over them, at the record at index `at`
 
-module _ (v : Costs) (bs : List ℕ) (at left z : ℕ) (more : 0 < left) (wide : planSize 0 ≤ z) where
+module _ (v : Costs) (bs : List ℕ) (at left z : ℕ) (more : 0 < left) (wide : planSize planSlots 0 ≤ z) where
   -- a function of the records, by what it makes of the first one's costs
   turn : {A : Type 0} (f : List (List ℕ) → A) (g : Costs → A) → f (take z (drop at bs) ∷ blocks z (left - 1) (drop (at + z) bs)) ≡ g (costsAt (take z (drop at bs)) 0)
       → f (blocks z left (drop at bs)) ≡ g (costsAt bs at)

@@ -15,7 +15,7 @@ use Rattle.order.specs.Test.{by-test}
 use Rattle.order.specs.Order.{dictionaryLe, orderℤ, tieBreak}
 use Rattle.frontier.specs.Dominance.{leAll, leAll→dictionaryLe}
 use Rattle.network.specs.Bytes.{byteAt, u32At, i16At}
-use Rattle.network.specs.PlanList.{planBytes, planSize}
+use Rattle.network.specs.PlanList.{planBytes, planSize, planSlots}
 use Rattle.network.specs.Calls.{costValues}
 use Rattle.network.specs.declared.Costs.{Costs}
 use Rattle.encoding.specs.RoundTrip.{i16-bytes, u32-bytes}
@@ -88,7 +88,7 @@ pub record Writable (v : Costs) : Type 0 where
   pub y1-fits : SFits w16 (v .y1)
   pub y2-fits : SFits w16 (v .y2)
 
-pub length-plan : (v : Costs) (links : List ℕ) → length (planBytes v links) ≡ planSize (length links)
+pub length-plan : (v : Costs) (links : List ℕ) → length (planBytes v links) ≡ planSize planSlots (length links)
 length-plan v links = omega arith
 
 -- a record holds the costs that were written
@@ -105,7 +105,7 @@ byte-in : (bs : List ℕ) (at z k j : ℕ) → k < z → j ≡ at + k → byteAt
 byte-in bs at z k j h e = getD-take z (drop at bs) k 0 h ∙ getD-drop at bs k 0 ∙ ap (λ (n : ℕ). byteAt bs n) (sym e)
 
 -- the costs of a record, taken by itself
-pub costs-block : (bs : List ℕ) (at z : ℕ) → planSize 0 ≤ z → costsAt (take z (drop at bs)) 0 ≡ costsAt bs at
+pub costs-block : (bs : List ℕ) (at z : ℕ) → planSize planSlots 0 ≤ z → costsAt (take z (drop at bs)) 0 ≡ costsAt bs at
 unfolding costsAt
 costs-block bs at z h =
     rw (

@@ -8,8 +8,8 @@ ghost use mathlib.Core.Path.{_≡_};
 ghost use mathlib.Core.Bool.{false};
 ghost use Prim.Native.Nat.{_+_, _≤_, _<_};
 ghost use lib.ListN.{length};
-ghost use Rattle.network.specs.PlanList.{planSize};
-ghost use Rattle.network.specs.Fetching.{countIn, damaged, fetchLinks, fetchNumber, fetchStart, planStart, treeSizeIn};
+ghost use Rattle.network.specs.PlanList.{planSize, planSlots};
+ghost use Rattle.network.specs.Fetching.{headCount, damaged, fetchLinks, fetchNumber, fetchStart, planStart, headTreeSize};
 
 // Whether the list is damaged, whichever plan is asked for.
 fn is_damaged(list: &[u8]) -> bool
@@ -27,8 +27,8 @@ fn is_damaged(list: &[u8]) -> bool
 
 // Where plan r's record starts.
 fn plan_start(list: &[u8], r: u32) -> usize
-    requires { ⌜ (damaged (now list) ≡ false) × (r < countIn (now list)) ⌝ }
-    ensures { λ at. ⌜ (at ≡ planStart (now (list .entry)) r) × (at + planSize (treeSizeIn (now (list .entry))) ≤ length (now (list .entry))) ⌝ }
+    requires { ⌜ (damaged (now list) ≡ false) × (r < headCount (now list)) ⌝ }
+    ensures { λ at. ⌜ (at ≡ planStart (now (list .entry)) r) × (at + planSize planSlots (headTreeSize (now (list .entry))) ≤ length (now (list .entry))) ⌝ }
 {
     10 + (r as usize) * plan_size(list[8])
 }

@@ -10,14 +10,14 @@ ghost use mathlib.Core.List.{_∷_};
 ghost use mathlib.Core.Path.{_≡_};
 ghost use Prim.Native.Nat.{_+_, _*_, _≤_};
 ghost use lib.ListN.{length};
-ghost use Rattle.network.specs.PlanList.{planBytes, planSize};
+ghost use Rattle.network.specs.PlanList.{planBytes, planSize, planSlots};
 ghost use Rattle.planlist.specs.Blocks.{blocks};
 ghost use Rattle.planlist.specs.Insertion.{RecordsRise, insertRecord};
 ghost use Rattle.planlist.specs.Passes.{Level, freePlace, prunedLevel};
 
 // The number of records that stand before v; one more than all, where a record with v's sum is at most v. None with another sum is.
 fn free_place(plans: &[u8], count: usize, size: usize, v: Costs) -> usize
-    requires { ⌜ (planSize 0 ≤ size) × (count * size ≤ length (now plans)) ⌝ }
+    requires { ⌜ (planSize planSlots 0 ≤ size) × (count * size ≤ length (now plans)) ⌝ }
     ensures { λ r. ⌜ r ≡ freePlace v (blocks size count (now (plans .entry))) ⌝ }
 {
     let mut at = 0;
@@ -43,7 +43,7 @@ fn free_place(plans: &[u8], count: usize, size: usize, v: Costs) -> usize
 
 // Drops the plans that v is at most, keeps the others' order, and returns their count. None with a higher sum is dropped.
 fn prune(plans: &mut [u8], count: usize, size: usize, v: Costs) -> usize
-    requires { ⌜ (planSize 0 ≤ size) × (count * size ≤ length (now plans)) ⌝ }
+    requires { ⌜ (planSize planSlots 0 ≤ size) × (count * size ≤ length (now plans)) ⌝ }
     ensures { λ r. ⌜ (r ≤ count) × (blocks size r (now (plans .exit)) ≡ prunedLevel v (blocks size count (now (plans .entry)))) ⌝ }
 {
     let mut from = 0;
@@ -72,8 +72,8 @@ fn prune(plans: &mut [u8], count: usize, size: usize, v: Costs) -> usize
 
 // Drops the plans that v is at most out of `count` records, puts v's plan in front of the others, and returns the new count.
 fn put(plans: &mut [u8], count: usize, v: Costs, links: &[u8]) -> usize
-    requires { ⌜ (count + 1) * planSize (length (now links)) ≤ length (now plans) ⌝ }
-    ensures { λ r. ⌜ (r ≤ count + 1) × (blocks (planSize (length (now (links .entry)))) r (now (plans .exit)) ≡ planBytes v (now (links .entry)) ∷ prunedLevel v (blocks (planSize (length (now (links .entry)))) count (now (plans .entry)))) ⌝ }
+    requires { ⌜ (count + 1) * planSize planSlots (length (now links)) ≤ length (now plans) ⌝ }
+    ensures { λ r. ⌜ (r ≤ count + 1) × (blocks (planSize planSlots (length (now (links .entry)))) r (now (plans .exit)) ≡ planBytes v (now (links .entry)) ∷ prunedLevel v (blocks (planSize planSlots (length (now (links .entry)))) count (now (plans .entry)))) ⌝ }
 {
     let size = 10 + links.len();
     let kept = prune(plans, count, size, v);
@@ -84,8 +84,8 @@ fn put(plans: &mut [u8], count: usize, v: Costs, links: &[u8]) -> usize
 
 // Puts a plan into the frontier of `count` records, and returns the new count. The records in front of its place stay as they are.
 pub(crate) fn insert(plans: &mut [u8], count: usize, v: Costs, links: &[u8]) -> usize
-    requires { ⌜ ((count + 1) * planSize (length (now links)) ≤ length (now plans)) × RecordsRise (blocks (planSize (length (now links))) count (now plans)) × Level v (blocks (planSize (length (now links))) count (now plans)) ⌝ }
-    ensures { λ r. ⌜ (r ≤ count + 1) × (blocks (planSize (length (now (links .entry)))) r (now (plans .exit)) ≡ insertRecord (planBytes v (now (links .entry))) (blocks (planSize (length (now (links .entry)))) count (now (plans .entry)))) ⌝ }
+    requires { ⌜ ((count + 1) * planSize planSlots (length (now links)) ≤ length (now plans)) × RecordsRise (blocks (planSize planSlots (length (now links))) count (now plans)) × Level v (blocks (planSize planSlots (length (now links))) count (now plans)) ⌝ }
+    ensures { λ r. ⌜ (r ≤ count + 1) × (blocks (planSize planSlots (length (now (links .entry)))) r (now (plans .exit)) ≡ insertRecord (planBytes v (now (links .entry))) (blocks (planSize planSlots (length (now (links .entry)))) count (now (plans .entry)))) ⌝ }
 {
     let size = 10 + links.len();
     let front = free_place(plans, count, size, v);

@@ -11,7 +11,7 @@ use network::Costs;
 ghost use mathlib.Core.Path.{_≡_};
 ghost use Prim.Native.Nat.{_+_, _≤_, _<_};
 ghost use lib.ListN.{length};
-ghost use Rattle.network.specs.PlanList.{headBytes, headSize, planBytes, planSize};
+ghost use Rattle.network.specs.PlanList.{headBytes, headSize, planBytes, planSize, planSlots};
 ghost use Rattle.encoding.specs.Overwrite.{overwrite};
 ghost use Rattle.planlist.specs.Records.{atMost, costsAt, inOrder};
 
@@ -22,7 +22,7 @@ pub(crate) const PLAN_MARK: [u8; 2] = *b"PL";
 
 // The size of a plan record of t links.
 pub(crate) fn plan_size(t: u8) -> usize
-    ensures { λ r. ⌜ (r ≡ planSize t) × (r < 266) ⌝ }
+    ensures { λ r. ⌜ (r ≡ planSize planSlots t) × (r < 266) ⌝ }
 {
     10 + (t as usize)
 }
@@ -46,7 +46,7 @@ pub(crate) fn in_order(v: Costs, w: Costs) -> bool
 
 // The costs that the plan record at an index holds.
 pub(crate) fn costs_at(s: &[u8], at: usize) -> Costs
-    requires { ⌜ at + planSize 0 ≤ length (now s) ⌝ }
+    requires { ⌜ at + planSize planSlots 0 ≤ length (now s) ⌝ }
     ensures { λ r. ⌜ r ≡ costsAt (now (s .entry)) at ⌝ }
 {
     Costs {
@@ -58,7 +58,7 @@ pub(crate) fn costs_at(s: &[u8], at: usize) -> Costs
 
 // Writes a plan record.
 pub(crate) fn write_plan(out: &mut [u8], at: usize, v: Costs, links: &[u8])
-    requires { ⌜ at + planSize (length (now links)) ≤ length (now out) ⌝ }
+    requires { ⌜ at + planSize planSlots (length (now links)) ≤ length (now out) ⌝ }
     ensures { λ _. ⌜ now (out .exit) ≡ overwrite (now (out .entry)) at (planBytes v (now (links .entry))) ⌝ }
 {
     copy_in(out, at, &PLAN_MARK);

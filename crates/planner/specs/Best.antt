@@ -10,14 +10,14 @@ use Rattle.network.specs.Yard.{best, bounds, treeSize}
 use Rattle.network.specs.PlanList.{costsOf}
 use Rattle.network.specs.Checked.{refuseIf, _orElse_}
 use Rattle.network.specs.Refusals.{checkedOf}
-use Rattle.network.specs.Calls.{asked, askedChecked, bestTree, costValues, ifFine, isNone, linksOf, reply, says, treeAfter}
+use Rattle.network.specs.Calls.{asked, askedChecked, bestTree, costValues, ifFine, isNone, linksOf, reply, says, treeAfter, treeWith}
 use Rattle.network.specs.declared.Answer.{Answer}
 use Rattle.network.specs.declared.Answer.the-variants.{Refused as Answer·Refused}
 use Rattle.network.specs.declared.Checked.the-variants.{Refused}
 use Rattle.network.specs.declared.Network.{Network}
 use Rattle.network.specs.declared.Refusal.{Refusal}
 use Rattle.survey.specs.Survey.{Read}
-use Rattle.question.specs.Question.{answerOf, treeWith}
+use Rattle.question.specs.Question.{answerOf}
 
 -- what an answer says, and what it leaves, where the last test is whether a tree fits
 answer-says : (net : Network) (o : Option (List ℕ)) → says (answerOf net o) ≡ reply (refuseIf (isNone o) 14 0) (costValues (costsOf net (linksOf o)))
@@ -25,7 +25,7 @@ unfolding answerOf says reply refuseIf
 answer-says net none = refl
 answer-says net (some ts) = refl
 
-answer-leaves : (o : Option (List ℕ)) (tree : List ℕ) → treeWith o tree ≡ ifFine (refuseIf (isNone o) 14 0) (linksOf o ++ drop (length (linksOf o)) tree) tree
+answer-leaves : (o : Option (List ℕ)) (tree : List ℕ) → treeWith o tree ≡ ifFine (refuseIf (isNone o) 14 0) (treeWith o tree) tree
 unfolding treeWith ifFine refuseIf
 answer-leaves none tree = refl
 answer-leaves (some ts) tree = refl

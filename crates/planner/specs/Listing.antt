@@ -5,24 +5,25 @@ use Prim.Native.Nat.{ℕ}
 use lib.ListN.{length}
 use Rattle.network.specs.Checked.{_orElse_}
 use Rattle.network.specs.Refusals.{checkedOf}
-use Rattle.network.specs.Calls.{ifFine, listAfter, listChecked, listStatus, roomChecked, status}
+use Rattle.network.specs.Calls.{ifFine, listAfter, listChecked, listStatus, plansAfter, plansChecked, status}
 use Rattle.network.specs.declared.Checked.the-variants.{Refused}
 use Rattle.network.specs.declared.Network.{Network}
 use Rattle.network.specs.declared.Refusal.{Refusal}
+use Rattle.network.specs.declared.Status.{Status}
 use Rattle.survey.specs.Survey.{Read}
-use Rattle.walk.specs.Call.{walkAfter, walkStatus}
 
 module _ (s : List ℕ) (allowance : ℕ) (buffer : List ℕ) where
   -- the survey is refused
-  pub list-refused : (r : Refusal) → checkedOf s ≡ Refused r → (r ≡ listStatus s allowance (length buffer)) × (buffer ≡ listAfter s allowance buffer)
-  unfolding listStatus listChecked roomChecked listAfter status ifFine _orElse_
+  pub list-refused : (r : Refusal) → checkedOf s ≡ Refused r
+      → (record { number = r .number; place = r .place } ≡ listStatus s allowance (length buffer)) × (buffer ≡ listAfter s allowance buffer)
+  unfolding listStatus listChecked listAfter status ifFine _orElse_
   list-refused r e = (rw e, rw e)
 
   -- it is accepted, and the call is made on its network
-  pub list-accepted : (net : Network) → Read s net → (r : Refusal) (left : List ℕ) → r ≡ walkStatus net allowance (length buffer)
-      → left ≡ walkAfter net allowance buffer → (r ≡ listStatus s allowance (length buffer)) × (left ≡ listAfter s allowance buffer)
-  unfolding listStatus listChecked roomChecked listAfter walkStatus walkAfter _orElse_
+  pub list-accepted : (net : Network) → Read s net → (r : Status) (left : List ℕ) → r ≡ status (plansChecked net allowance (length buffer))
+      → left ≡ plansAfter net allowance buffer → (r ≡ listStatus s allowance (length buffer)) × (left ≡ listAfter s allowance buffer)
+  unfolding listStatus listChecked listAfter ifFine _orElse_
   list-accepted net read r left e f =
-      let reply = subst (λ (w : Network). r ≡ walkStatus w allowance (length buffer)) (read .network) e in
-      let bytes = subst (λ (w : Network). left ≡ walkAfter w allowance buffer) (read .network) f in
+      let reply = subst (λ (w : Network). r ≡ status (plansChecked w allowance (length buffer))) (read .network) e in
+      let bytes = subst (λ (w : Network). left ≡ plansAfter w allowance buffer) (read .network) f in
       (rw (read .accepted) reply, rw (read .accepted) bytes)

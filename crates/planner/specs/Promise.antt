@@ -18,11 +18,11 @@ use Rattle.network.specs.Meaning.{tree-size}
 use Rattle.network.specs.NetworkFine.{position-limit, survey-fine, survey-sound}
 use Rattle.network.specs.Promise.{Complete, demand-3}
 use Rattle.network.specs.declared.Checked.the-variants.{Fine}
-use Rattle.network.specs.declared.Refusal.{Refusal}
+use Rattle.network.specs.declared.Status.{Status}
 use Rattle.planlist.specs.Fetched.{filled-links, filled-number}
 
 -- what a list call that replied r and left these bytes in its buffer has delivered
-pub record Delivered (s : List ℕ) (size : ℕ) (r : Refusal) (left : List ℕ) : Type 0 where
+pub record Delivered (s : List ℕ) (size : ℕ) (r : Status) (left : List ℕ) : Type 0 where
   -- the call succeeds
   pub succeeds : r ≡ record { number = 0; place = 0 }
   -- every byte is the one that document 01 gives for the yard's list and its solved count, 0 past the last plan
@@ -35,7 +35,7 @@ pub record Delivered (s : List ℕ) (size : ℕ) (r : Refusal) (left : List ℕ)
 
 -- for every accepted survey, every buffer long enough, whatever it held before, and every allowance that is at least M
 pub delivered : (s : List ℕ) (allowance : ℕ) (buffer : List ℕ) → checkedOf s ≡ Fine → bufferNeed (networkOf s) ≤ length buffer
-    → positionCount (networkOf s) ≤ allowance → (r : Refusal) (left : List ℕ) → r ≡ listStatus s allowance (length buffer)
+    → positionCount (networkOf s) ≤ allowance → (r : Status) (left : List ℕ) → r ≡ listStatus s allowance (length buffer)
     → left ≡ listAfter s allowance buffer → Delivered s (length buffer) r left
 delivered s allowance buffer accepted room enough r left e f =
     let net = networkOf s in

@@ -3,6 +3,7 @@ use kruskal::by_cost::order_links;
 use network::Answer;
 use network::Checked;
 use network::Refusal;
+use network::Status;
 use planlist::fetch;
 use question::solve;
 use survey::read_survey;
@@ -12,7 +13,7 @@ use walk::list::list_plans;
 ghost use mathlib.Core.Path.{_≡_};
 ghost use lib.ListN.{length};
 ghost use Rattle.network.specs.Calls.{asked, judged, listAfter, listStatus, says, treeAfter};
-ghost use Rattle.network.specs.Fetching.{fetchLinks, fetchNumber, fetchStart};
+ghost use Rattle.network.specs.Fetching.{fetchLinks, fetchNumber};
 
 // The judge of a drawn tree: its costs, or the refusal. `drawn` holds its link numbers, one byte each.
 pub fn judge(survey: &[u8], drawn: &[u8]) -> Answer
@@ -60,14 +61,17 @@ pub fn best(survey: &[u8], b1: i16, b2: i16, tree: &mut [u8]) -> Answer
 }
 
 // The list of plans that no other plan beats, into the list buffer, solving at most `allowance` positions: number 0 and place 0, or the refusal.
-pub fn list(survey: &[u8], allowance: u32, buffer: &mut [u8]) -> Refusal
+pub fn list(survey: &[u8], allowance: u32, buffer: &mut [u8]) -> Status
     ensures { λ r. ⌜ (r ≡ listStatus (now (survey .entry)) allowance (length (now (buffer .entry)))) × (now (buffer .exit) ≡ listAfter (now (survey .entry)) allowance (now (buffer .entry))) ⌝ }
 {
     let read = read_survey(survey);
     let checked = read.checked;
     let net = read.network;
     match checked {
-        Checked::Refused(refusal) => refusal,
+        Checked::Refused(refusal) => Status {
+            number: refusal.number,
+            place: refusal.place,
+        },
         Checked::Fine => list_plans(net, allowance, buffer),
     }
 }
@@ -84,11 +88,4 @@ pub fn fetch_links<'a>(list: &'a [u8], r: u32) -> &'a [u8]
     ensures { λ part. ⌜ now part ≡ fetchLinks (now (list .entry)) r ⌝ }
 {
     fetch::fetch_links(list, r)
-}
-
-// Where those bytes start in the list; 0 if the number is not 0.
-pub fn fetch_start(list: &[u8], r: u32) -> usize
-    ensures { λ at. ⌜ at ≡ fetchStart (now (list .entry)) r ⌝ }
-{
-    fetch::fetch_start(list, r)
 }

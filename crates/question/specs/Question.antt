@@ -12,7 +12,7 @@ use Rattle.order.specs.Test.{clash}
 use Rattle.spanning.specs.Listing.{isListed-iff, listing-length}
 use Rattle.frontier.specs.Best.{best-some}
 use Rattle.network.specs.Yard.{best, bounds, ends, treeSize, yard}
-use Rattle.network.specs.Calls.{isNone, linksOf}
+use Rattle.network.specs.Calls.{isNone, treeWith}
 use Rattle.network.specs.PlanList.{costsOf}
 use Rattle.network.specs.NetworkFine.{NetworkFine}
 use Rattle.network.specs.declared.Answer.{Answer}
@@ -21,16 +21,12 @@ use Rattle.network.specs.declared.Costs.{Costs}
 use Rattle.network.specs.declared.Network.{Network}
 use Rattle.network.specs.declared.Refusal.{Refusal}
 use Rattle.trees.specs.TreeCosts.{TreeLinks, tree-links}
-use Rattle.solver.specs.Answer.{bestFound, treeLeft}
+use Rattle.solver.specs.Answer.{bestFound}
 
 -- the answer, by the best tree under the bounds
 unfoldable pub answerOf : Network → Option (List ℕ) → Answer
 answerOf net none = Refused (record { number = 14; place = 0 })
 answerOf net (some ts) = Plan (costsOf net ts)
-
--- the tree buffer after it: the best tree's links in its first bytes, or as it was
-unfoldable pub treeWith : Option (List ℕ) → List ℕ → List ℕ
-treeWith o tree = let ts = linksOf o in ts ++ drop (length ts) tree
 
 -- a refusal says that there is no tree
 pub answer-none : (net : Network) (o : Option (List ℕ)) {a : Answer} {r : Refusal} → a ≡ answerOf net o → a ≡ Refused r → o ≡ none
@@ -76,18 +72,13 @@ module _ (net : Network) (b1 b2 : ℤ) where
       go none f = refl
       go (some ts) f = clash refl f
 
-  -- the buffer that the search leaves
-  pub left-with : (tree left : List ℕ) → left ≡ treeLeft net b1 b2 tree → left ≡ treeWith (best net (bounds net b1 b2)) tree
-  unfolding treeLeft treeWith
-  left-with tree left e = e
-
   -- the first t bytes of it are t links, whose costs are the answer's
-  module _ (fine : NetworkFine net) (tree left : List ℕ) (found : bestFound net b1 b2 ≡ true) (e : left ≡ treeLeft net b1 b2 tree) where
+  module _ (fine : NetworkFine net) (tree left : List ℕ) (found : bestFound net b1 b2 ≡ true) (e : left ≡ treeWith (best net (bounds net b1 b2)) tree) where
     front : take (treeSize net) left ≡ found-tree found .0
     front =
         let w = found-tree found in
         let l = best-length net (bounds net b1 b2) (w .0) (w .1) in
-        ap (λ (k : ℕ). take k left) (sym l) ∙ ap (take (length (w .0))) (left-with tree left e) ∙ tree-front (best net (bounds net b1 b2)) (w .0) tree (w .1)
+        ap (λ (k : ℕ). take k left) (sym l) ∙ ap (take (length (w .0))) e ∙ tree-front (best net (bounds net b1 b2)) (w .0) tree (w .1)
 
     pub front-links : TreeLinks net (take (treeSize net) left)
     front-links =

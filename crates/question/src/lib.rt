@@ -9,8 +9,9 @@ ghost use Prim.Native.Nat.{_≤_};
 ghost use lib.ListN.{length, take};
 ghost use Rattle.network.specs.NetworkFine.{NetworkFine};
 ghost use Rattle.network.specs.Yard.{best, bounds, treeSize};
+ghost use Rattle.network.specs.Calls.{treeWith};
 ghost use Rattle.kruskal.specs.ByCost.{linkOrder};
-ghost use Rattle.question.specs.Question.{answerOf, treeWith};
+ghost use Rattle.question.specs.Question.{answerOf};
 
 // The costs of the best tree under the numbers b1 and b2, with its links in the tree buffer.
 pub fn solve(net: Network, order: &[u8], b1: i16, b2: i16, tree: &mut [u8]) -> Answer

@@ -6,17 +6,16 @@ use encoding::read::read_u16;
 use encoding::read::read_u32;
 use network::Answer;
 use network::Costs;
-use network::Refusal;
+use network::Status;
+use network::limits::MAX_NEED;
+use network::limits::MAX_PLANS;
 use planner::fetch_links;
 use planner::fetch_number;
 use planner::judge;
 use planner::list;
 
-// The positions that may be solved.
-const ALLOWANCE: u32 = 1600;
-
 // `refused N at P`
-fn refused(r: Refusal) {
+fn refused(r: Status) {
     text(b"refused ");
     number(r.number as u64);
     text(b" at ");
@@ -86,7 +85,7 @@ fn lines(survey: &[u8], plans: &[u8]) {
 }
 
 // The reply to a list call, and the plans of its list.
-fn reply(survey: &[u8], r: Refusal, plans: &[u8]) {
+fn reply(survey: &[u8], r: Status, plans: &[u8]) {
     if r.number == 0 {
         lines(survey, plans);
     } else {
@@ -94,9 +93,9 @@ fn reply(survey: &[u8], r: Refusal, plans: &[u8]) {
     }
 }
 
-// The plans of a survey, or its refusal. The buffer has the most bytes that a list needs.
+// The plans of a survey, or its refusal. The buffer has the most bytes that a list needs, and all positions may be solved.
 pub fn plan(survey: &[u8]) {
-    let mut plans = [0u8; 52810];
-    let r = list(survey, ALLOWANCE, &mut plans);
+    let mut plans = [0u8; MAX_NEED];
+    let r = list(survey, MAX_PLANS as u32, &mut plans);
     reply(survey, r, &plans);
 }

@@ -9,21 +9,21 @@ use lib.ListN.{length}
 use Rattle.order.specs.Test.{by-test}
 use Rattle.order.specs.Perm.{sum}
 use Rattle.trees.specs.TreeCosts.{sumOf}
-use Rattle.kruskal.specs.ByCost.{costOf}
 use Rattle.spanning.specs.Labelling.{crosses}
 use Rattle.spanning.specs.LabelList.{labelOf}
 use Rattle.forest.specs.Groups.{apart, joined}
-use Rattle.kruskal.specs.Tree.{added, bare, endsOf, linked}
+use Rattle.kruskal.specs.Tree.{added, bare, linked}
 use Rattle.kruskal.specs.Base.{kept}
 use Rattle.kruskal.specs.Grown.{mark, marks}
 use Rattle.kruskal.specs.declared.tree.Tree.{Tree}
 use Rattle.exceptions.specs.Ceilings.{Flagged, admitted}
 use Rattle.search.specs.Search.{beats, considered, nothing, offered}
 use Rattle.search.specs.declared.best.Best.{Best}
+use Rattle.network.specs.Yard.{endsAt, sumAt}
 
 -- the base as the best tree so far, where the test holds and it has `goal` links
 unfoldable pub baseAlone : List ℕ → List ℕ → ℕ → Bool → Best
-baseAlone sums base goal ok = cond (ok && eqb (length base) goal) (record { found = true; sum = sum (costOf sums) base; taken = marks base }) nothing
+baseAlone sums base goal ok = cond (ok && eqb (length base) goal) (record { found = true; sum = sum (sumAt sums) base; taken = marks base }) nothing
 
 pub alone-found : (sums base : List ℕ) (goal : ℕ) (ok : Bool) (total : ℕ) (taken : List Bool) → ok && eqb (length base) goal ≡ true → total ≡ sumOf sums base
     → taken ≡ marks base → record { found = true; sum = total; taken = taken } ≡ baseAlone sums base goal ok
@@ -42,10 +42,10 @@ pub record Kept (ends base : List ℕ) : Type 0 where
 -- a walk over links that are kept takes them all
 pub record Took (sums : List ℕ) (t : Tree) (l : List ℕ) (u : Tree) : Type 0 where
   pub flags : u .taken ≡ foldl mark (t .taken) l
-  pub total : u .sum ≡ t .sum + sum (costOf sums) l
+  pub total : u .sum ≡ t .sum + sum (sumAt sums) l
   pub size : u .count ≡ t .count + length l
 
-taken-added : (ends sums : List ℕ) (t : Tree) (e : ℕ) → crosses (labelOf (t .forest .leader)) (endsOf ends e) ≡ true → linked ends sums t e ≡ added ends sums t e
+taken-added : (ends sums : List ℕ) (t : Tree) (e : ℕ) → crosses (labelOf (t .forest .leader)) (endsAt ends e) ≡ true → linked ends sums t e ≡ added ends sums t e
 unfolding linked
 taken-added ends sums t e c = rw c
 
@@ -53,9 +53,9 @@ kept-walk : (ends sums : List ℕ) (t : Tree) (l : List ℕ) → Took sums t (ke
 unfolding kept added
 kept-walk ends sums t [] = record { flags = refl; total = omega arith; size = omega arith }
 kept-walk ends sums t (e ∷ l) =
-    by-test (crosses (labelOf (t .forest .leader)) (endsOf ends e))
+    by-test (crosses (labelOf (t .forest .leader)) (endsAt ends e))
     (λ c.
-    let more : List ℕ = kept ends (joined (t .forest) (endsOf ends e .a) (endsOf ends e .b)) l in
+    let more : List ℕ = kept ends (joined (t .forest) (endsAt ends e .a) (endsAt ends e .b)) l in
     let w = kept-walk ends sums (added ends sums t e) l in
     let step : Took sums t (e ∷ more) (foldl (linked ends sums) (added ends sums t e) more) =
     record { flags = w .flags; total = omega (arith, w .total); size = omega (arith, w .size) } in
@@ -74,7 +74,7 @@ module _ (ends sums : List ℕ) (goal : ℕ) (cs : List Flagged) (base : List �
       let u = foldl (linked ends sums) bare base in
       let took : Took sums bare base u = subst (λ (b : List ℕ). Took sums bare b (foldl (linked ends sums) bare b)) (sym (made .kept-of)) (kept-walk ends sums bare (made .links)) in
       let size : length base ≡ u .count = omega (arith, took .size) in
-      let total : sum (costOf sums) base ≡ u .sum = omega (arith, took .total) in
+      let total : sum (sumAt sums) base ≡ u .sum = omega (arith, took .total) in
       let flags : marks base ≡ u .taken = sym (took .flags) in
       r ∙ by-test ok
       (λ k. rw (k, sym e ∙ k) ((λ i. cond (eqb (size i) goal) (record { found = true; sum = total i; taken = flags i }) nothing) ∙ sym (offered-first u)))

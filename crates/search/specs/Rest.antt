@@ -17,8 +17,8 @@ use Rattle.order.specs.Order.{orderℕ}
 use Rattle.order.specs.Perm.{sum}
 use Rattle.order.specs.Sorted.{Sorted}
 use Rattle.network.specs.Limits.{maxLinks, maxSum}
+use Rattle.network.specs.Yard.{sumAt}
 use Rattle.trees.specs.TreeCosts.{Below, sum-le, sumOf}
-use Rattle.kruskal.specs.ByCost.{costOf}
 use Rattle.kruskal.specs.Tree.{Walkable, bare, linked}
 use Rattle.kruskal.specs.declared.tree.Tree.{Tree}
 use Rattle.exceptions.specs.Ceilings.{Flagged, admitted}
@@ -31,7 +31,7 @@ use Rattle.search.specs.declared.rest.Rest.{Rest}
 unfoldable pub restOf : List ℕ → List ℕ → ℕ → ℕ → Rest
 restOf sums base goal size =
     cond (ltb (length base) (goal - size)) (record { enough = false; least = 0 })
-    (record { enough = true; least = sum (costOf sums) (take (goal - size) base) })
+    (record { enough = true; least = sum (sumAt sums) (take (goal - size) base) })
 
 -- no tree with a set that costs `cost` is better than the best so far, if one was found, with its sum
 unfoldable pub losesTo : Rest → ℕ → Bool → ℕ → Bool
@@ -63,11 +63,11 @@ module _ (sums base : List ℕ) (walk : Walkable sums base) where
   pub first-known : (n : ℕ) → length sums ≡ maxLinks → Below (length sums) (take n base)
   first-known n h = record { below = λ e m. let b = walk .usable e (take-among n base e m) .below in omega arith }
 
-  first-small : (n : ℕ) → sum (costOf sums) (take n base) ≤ maxLinks * maxSum
+  first-small : (n : ℕ) → sum (sumAt sums) (take n base) ≤ maxLinks * maxSum
   first-small n =
       let few = walk .few in
-      let all = sum-le (costOf sums) maxSum base (λ e m. walk .usable e m .cheap) in
-      omega (arith, take-least (costOf sums) n base, mul-le-mul-right maxSum few)
+      let all = sum-le (sumAt sums) maxSum base (λ e m. walk .usable e m .cheap) in
+      omega (arith, take-least (sumAt sums) n base, mul-le-mul-right maxSum few)
 
   pub first-fits : (n : ℕ) → sumOf sums (take n base) < 4294967296
   unfolding sumOf
@@ -96,10 +96,10 @@ module _ (sums base : List ℕ) (walk : Walkable sums base) where
 
 -- ---- a set that loses
 
-module _ (ends sums : List ℕ) (goal : ℕ) (cs : List Flagged) (base : List ℕ) (sorted : Sorted orderℕ (costOf sums) base) where
+module _ (ends sums : List ℕ) (goal : ℕ) (cs : List Flagged) (base : List ℕ) (sorted : Sorted orderℕ (sumAt sums) base) where
   -- the tree that a set without a ring leads to has too few links, or a larger sum than b
-  no-better : (b : Best) (X : List ℕ) (t : Tree) → losesTo (restOf sums base goal (length X)) (sum (costOf sums) X) (b .found) (b .sum) ≡ true
-      → t .count ≡ length X → t .sum ≡ sum (costOf sums) X → eqb (foldl (linked ends sums) t base .count) goal && beats (foldl (linked ends sums) t base) b ≡ false
+  no-better : (b : Best) (X : List ℕ) (t : Tree) → losesTo (restOf sums base goal (length X)) (sum (sumAt sums) X) (b .found) (b .sum) ≡ true
+      → t .count ≡ length X → t .sum ≡ sum (sumAt sums) X → eqb (foldl (linked ends sums) t base .count) goal && beats (foldl (linked ends sums) t base) b ≡ false
   unfolding losesTo restOf beats
   no-better b X t e n c = fails _ (λ k.
       let u = foldl (linked ends sums) t base in
@@ -111,11 +111,11 @@ module _ (ends sums : List ℕ) (goal : ℕ) (cs : List Flagged) (base : List �
       (λ q.
       let dear = rw q at e in
       let found = left (b .found) _ dear in
-      let above : b .sum < sum (costOf sums) X + sum (costOf sums) (take (goal - length X) base) = ltb-true _ _ (right (b .found) _ dear) in
+      let above : b .sum < sum (sumAt sums) X + sum (sumAt sums) (take (goal - length X) base) = ltb-true _ _ (right (b .found) _ dear) in
       let least = grown-least ends sums t base (goal - length X) sorted (omega arith) in
       clash (right (eqb (u .count) goal) _ k) (rw (found, le-ltb (u .sum) (b .sum) (omega arith), ne-eqb (u .sum) (b .sum) (λ s. omega arith)))))
 
-  pub losing : (b : Best) (X : List ℕ) → losesTo (restOf sums base goal (length X)) (sum (costOf sums) X) (b .found) (b .sum) ≡ true
+  pub losing : (b : Best) (X : List ℕ) → losesTo (restOf sums base goal (length X)) (sum (sumAt sums) X) (b .found) (b .sum) ≡ true
       → b ≡ considered ends sums goal cs base b X
   unfolding considered offered bare
   losing b X e =

@@ -17,7 +17,8 @@ use Rattle.order.specs.Order.{orderℕ}
 use Rattle.order.specs.Perm.{sum}
 use Rattle.order.specs.Sorted.{Sorted}
 use Rattle.network.specs.declared.Network.{Network}
-use Rattle.kruskal.specs.ByCost.{costOf, linkOrder}
+use Rattle.network.specs.Yard.{sumAt}
+use Rattle.kruskal.specs.ByCost.{linkOrder}
 use Rattle.forest.specs.Groups.{apart}
 use Rattle.kruskal.specs.Tree.{Light, Usable, Walkable, bare, light-linked, light-up, linked}
 use Rattle.kruskal.specs.Base.{kept}
@@ -101,7 +102,7 @@ module _ (ends sums : List ℕ) (goal : ℕ) (cs : List Flagged) (base : List �
   considered-tried b r X ok e q = rw (← e) q
 
   -- the set of a link that loses
-  pub one-loses : Sorted orderℕ (costOf sums) base → (b : Best) (x : ℕ) (rest : Rest) (cost : ℕ) → rest ≡ restOf sums base goal 1 → cost ≡ costOf sums x
+  pub one-loses : Sorted orderℕ (sumAt sums) base → (b : Best) (x : ℕ) (rest : Rest) (cost : ℕ) → rest ≡ restOf sums base goal 1 → cost ≡ sumAt sums x
       → losesTo rest cost (b .found) (b .sum) ≡ true → b ≡ considered ends sums goal cs base b (x ∷ [])
   one-loses by-cost b x rest cost e f k =
       losing ends sums goal cs base by-cost b (x ∷ []) (loses-more (restOf sums base goal 1) _ _ (b .found) (b .sum) (omega (arith, f)) (rw e at k))
@@ -131,14 +132,14 @@ module _ (ends sums : List ℕ) (goal : ℕ) (cs : List Flagged) (base : List �
   pairs-end b w x l i h e = rw (drop-of-length-le l h) at e
 
   -- where the set of x and the link at i loses, those behind it lose too
-  pub pairs-lose : Sorted orderℕ (costOf sums) base → (b w : Best) (x : ℕ) (l : List ℕ) (i : ℕ) (rest : Rest) (c d : ℕ) → Sorted orderℕ (costOf sums) l → i < length l
-      → rest ≡ restOf sums base goal 2 → c ≡ costOf sums x → d ≡ costOf sums (getD l i 0) → losesTo rest (c + d) (b .found) (b .sum) ≡ true
+  pub pairs-lose : Sorted orderℕ (sumAt sums) base → (b w : Best) (x : ℕ) (l : List ℕ) (i : ℕ) (rest : Rest) (c d : ℕ) → Sorted orderℕ (sumAt sums) l → i < length l
+      → rest ≡ restOf sums base goal 2 → c ≡ sumAt sums x → d ≡ sumAt sums (getD l i 0) → losesTo rest (c + d) (b .found) (b .sum) ≡ true
       → withPairs b x l i ≡ w → b ≡ w
   unfolding withPairs
   pairs-lose by-cost b w x l i rest c d sorted h e f g k q = sym (unchanged b (map (pair x) (drop i l)) (λ X m.
       let y = map-mem (pair x) (drop i l) X m in
-      let dearer = later-dearer (costOf sums) l i (y .0) sorted h (y .1) in
-      let cost = pair-sum (costOf sums) x (y .0) in
+      let dearer = later-dearer (sumAt sums) l i (y .0) sorted h (y .1) in
+      let cost = pair-sum (sumAt sums) x (y .0) in
       rw (y .2) (losing ends sums goal cs base by-cost b (pair x (y .0)) (loses-more (restOf sums base goal 2) _ _ (b .found) (b .sum) (omega (arith, f, g)) (rw e at k)))))
       ∙ q
 

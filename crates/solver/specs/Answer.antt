@@ -8,11 +8,11 @@ use native.Mathlib.Omega.{arith}
 use lib.IntN.{ℤ}
 use lib.ListN.{drop, length}
 use Rattle.order.specs.Test.{clash}
-use Rattle.network.specs.Yard.{best, bounds, treeSize}
-use Rattle.network.specs.Calls.{isNone, linksOf}
+use Rattle.network.specs.Yard.{best, bounds, sumAt, treeSize}
+use Rattle.network.specs.Calls.{isNone, linksOf, treeWith}
 use Rattle.network.specs.NetworkFine.{NetworkFine}
 use Rattle.network.specs.declared.Network.{Network}
-use Rattle.kruskal.specs.ByCost.{costOf, linkOrder}
+use Rattle.kruskal.specs.ByCost.{linkOrder}
 use Rattle.search.specs.Flags.{rising}
 use Rattle.solver.specs.Buffer.{put-front, putAt}
 use Rattle.exceptions.specs.Two.{twoOf}
@@ -24,10 +24,6 @@ use Rattle.search.specs.declared.best.Best.{Best}
 -- a tree fits
 unfoldable pub bestFound : Network → ℤ → ℤ → Bool
 bestFound net b1 b2 = not (isNone (best net (bounds net b1 b2)))
-
--- the tree buffer afterwards: the links of the best tree, if there is one, at its front
-unfoldable pub treeLeft : Network → ℤ → ℤ → List ℕ → List ℕ
-treeLeft net b1 b2 tree = let ts = linksOf (best net (bounds net b1 b2)) in ts ++ drop (length ts) tree
 
 module _ {s : ℕ → ℕ} {goal : ℕ} where
   shown-found : (o : Option (List ℕ)) (b : Best) → Shows s goal o b → b .found ≡ not (isNone o)
@@ -46,17 +42,17 @@ module _ {s : ℕ → ℕ} {goal : ℕ} where
 -- what the program's search gives is the answer
 module _ (net : Network) (fine : NetworkFine net) (b1 b2 : ℤ) (b : Best)
     (e : b ≡ bestOf (net .ends) (net .sums) (net .n - 1) (twoOf net b1 b2) (linkOrder (net .sums) (net .m))) where
-  shown : Shows (costOf (net .sums)) (net .n - 1) (best net (bounds net b1 b2)) b
+  shown : Shows (sumAt (net .sums)) (net .n - 1) (best net (bounds net b1 b2)) b
   shown = rw e (best-shown net fine b1 b2)
 
   pub answer-found : b .found ≡ bestFound net b1 b2
   unfolding bestFound
   answer-found = shown-found (best net (bounds net b1 b2)) b shown
 
-  pub answer-tree : (tree left : List ℕ) → b .found ≡ true → treeSize net ≤ length tree → left ≡ putAt 0 (rising 0 (b .taken)) tree → left ≡ treeLeft net b1 b2 tree
-  unfolding treeLeft
+  pub answer-tree : (tree left : List ℕ) → b .found ≡ true → treeSize net ≤ length tree → left ≡ putAt 0 (rising 0 (b .taken)) tree → left ≡ treeWith (best net (bounds net b1 b2)) tree
+  unfolding treeWith
   answer-tree tree left f h q = q ∙ shown-tree (best net (bounds net b1 b2)) b tree shown f h
 
-  pub answer-none : (tree : List ℕ) → b .found ≡ false → tree ≡ treeLeft net b1 b2 tree
-  unfolding treeLeft
+  pub answer-none : (tree : List ℕ) → b .found ≡ false → tree ≡ treeWith (best net (bounds net b1 b2)) tree
+  unfolding treeWith
   answer-none tree f = shown-none (best net (bounds net b1 b2)) b tree shown f

@@ -22,12 +22,11 @@ use Rattle.planning.specs.Graph.{exceptionals, links, normals, searchSets, unde
 use Rattle.planning.specs.Search.{EnoughSets, base, search-base, search-sets, trees-ranked}
 use Rattle.planning.specs.Exchange.{exchange}
 use Rattle.network.specs.Limits.{maxLinks}
-use Rattle.network.specs.Yard.{best, bounds, graph, ranks, trees}
+use Rattle.network.specs.Yard.{best, bounds, endsAt, graph, ranks, sumAt, trees}
 use Rattle.network.specs.NetworkFine.{NetworkFine, graph-sound}
 use Rattle.network.specs.declared.Network.{Network}
 use Rattle.forest.specs.Groups.{apart, apart-labels, apart-led}
-use Rattle.kruskal.specs.ByCost.{costOf, linkOrder, order-below}
-use Rattle.kruskal.specs.Tree.{endsOf}
+use Rattle.kruskal.specs.ByCost.{linkOrder, order-below}
 use Rattle.kruskal.specs.Base.{kept}
 use Rattle.kruskal.specs.Grown.{kept-kruskal}
 use Rattle.solver.specs.Filter.{filter-ext, filter-sort}
@@ -57,34 +56,34 @@ module _ (net : Network) (fine : NetworkFine net) (b1 b2 : ℤ) where
   -- ---- what the program keeps of the normal links, and of the exceptions
 
   -- links by cost are links
-  passing : (q : ℕ → Bool) (e : ℕ) → e ∈ byCost (costOf (net .sums)) (filter q (links (graph net))) → e ∈ filter q (links (graph net))
-  passing q e k = sort-mem (pairs orderℕ orderℕ) (ranked (costOf (net .sums)) (λ c. c)) (filter q (links (graph net))) k
+  passing : (q : ℕ → Bool) (e : ℕ) → e ∈ byCost (sumAt (net .sums)) (filter q (links (graph net))) → e ∈ filter q (links (graph net))
+  passing q e k = sort-mem (pairs orderℕ orderℕ) (ranked (sumAt (net .sums)) (λ c. c)) (filter q (links (graph net))) k
 
-  candidate : (q : ℕ → Bool) (e : ℕ) → e ∈ byCost (costOf (net .sums)) (filter q (links (graph net))) → e < net .m
+  candidate : (q : ℕ → Bool) (e : ℕ) → e ∈ byCost (sumAt (net .sums)) (filter q (links (graph net))) → e < net .m
   candidate q e k = link-below e (filter-mem q (links (graph net)) (passing q e k) .0)
 
   -- where the program's test p of a link is the theory's q
   kept-links : (p q : ℕ → Bool) → ((e : ℕ) → e < maxLinks → p e ≡ q e)
-      → kept (net .ends) apart (filter p (linkOrder (net .sums) (net .m))) ≡ base (graph net) (byCost (costOf (net .sums)) (filter q (links (graph net))))
+      → kept (net .ends) apart (filter p (linkOrder (net .sums) (net .m))) ≡ base (graph net) (byCost (sumAt (net .sums)) (filter q (links (graph net))))
   unfolding linkOrder
   kept-links p q h =
-      let s = costOf (net .sums) in
+      let s = sumAt (net .sums) in
       ap (kept (net .ends) apart)
       (filter-ext p q (linkOrder (net .sums) (net .m)) (λ e k. h e (within (linkOrder (net .sums) (net .m)) (order-below (net .sums) (net .m)) e k))
       ∙ filter-sort (pairs orderℕ orderℕ) (ranked s (λ c. c)) q (links (graph net)) (links-apart s (net .m)))
       ∙ kept-kruskal (net .ends) apart (byCost s (filter q (links (graph net)))) apart-led (near net fine _ (candidate q))
-      ∙ ap (λ (L : Labelling). kruskal (endsOf (net .ends)) L (byCost s (filter q (links (graph net))))) (fun-ext apart-labels)
+      ∙ ap (λ (L : Labelling). kruskal (endsAt (net .ends)) L (byCost s (filter q (links (graph net))))) (fun-ext apart-labels)
 
   -- the links that are kept of the normal ones,
   abbrev cheapest : List ℕ
-  cheapest = base (graph net) (byCost (costOf (net .sums)) (normals (graph net) bs))
+  cheapest = base (graph net) (byCost (sumAt (net .sums)) (normals (graph net) bs))
 
   base-links : kept (net .ends) apart (filter (normal (twoOf net b1 b2)) (linkOrder (net .sums) (net .m))) ≡ cheapest
   base-links = kept-links (normal (twoOf net b1 b2)) (λ e. not (exceptional orderℤ cs e)) (two-normal net fine b1 b2)
 
   -- and of the exceptions
   abbrev cheapestLone : List ℕ
-  cheapestLone = base (graph net) (byCost (costOf (net .sums)) (filter (lone orderℤ cs) (links (graph net))))
+  cheapestLone = base (graph net) (byCost (sumAt (net .sums)) (filter (lone orderℤ cs) (links (graph net))))
 
   exception-links : kept (net .ends) apart (filter (exception (twoOf net b1 b2)) (linkOrder (net .sums) (net .m))) ≡ cheapestLone
   unfolding exception
@@ -92,19 +91,19 @@ module _ (net : Network) (fine : NetworkFine net) (b1 b2 : ℤ) where
       kept-links (exception (twoOf net b1 b2)) (lone orderℤ cs)
       (λ e h. rw (two-normal net fine b1 b2 e h, two-admitted net fine b1 b2 (e ∷ []) (λ x m. rw (List·Memᴰ·eq-of-singleton m) h)) (by-test (exceptional orderℤ cs e) (λ t. rw t) (λ t. rw t)))
 
-  kept-below : (q : ℕ → Bool) (e : ℕ) → e ∈ base (graph net) (byCost (costOf (net .sums)) (filter q (links (graph net)))) → e < net .m
-  kept-below q e k = candidate q e (greedy-⊆ (endsOf (net .ends)) (kruskal-greedy (endsOf (net .ends)) identity _) e k)
+  kept-below : (q : ℕ → Bool) (e : ℕ) → e ∈ base (graph net) (byCost (sumAt (net .sums)) (filter q (links (graph net)))) → e < net .m
+  kept-below q e k = candidate q e (greedy-⊆ (endsAt (net .ends)) (kruskal-greedy (endsAt (net .ends)) identity _) e k)
 
   -- ---- the sets that the program tries are enough
 
   lone-apart : Apart (λ x. x) cheapestLone
   lone-apart =
-      forest-apart (endsOf (net .ends)) identity cheapestLone (greedy-forest (endsOf (net .ends)) (kruskal-greedy (endsOf (net .ends)) identity _))
+      forest-apart (endsAt (net .ends)) identity cheapestLone (greedy-forest (endsAt (net .ends)) (kruskal-greedy (endsAt (net .ends)) identity _))
 
   lone-exceptional : cheapestLone ⊆ exceptionals (graph net) bs
   lone-exceptional x k =
       let p = lone orderℤ cs in
-      let r = filter-mem p (links (graph net)) (passing p x (greedy-⊆ (endsOf (net .ends)) (kruskal-greedy (endsOf (net .ends)) identity _) x k)) in
+      let r = filter-mem p (links (graph net)) (passing p x (greedy-⊆ (endsAt (net .ends)) (kruskal-greedy (endsAt (net .ends)) identity _) x k)) in
       mem-filter (exceptional orderℤ cs) (r .0) (left (exceptional orderℤ cs x) (admissible orderℤ cs (x ∷ [])) (r .1))
 
   -- the exceptional links of a tree that fits, if they are kept: at most two, and so a set that is tried
@@ -135,10 +134,10 @@ module _ (net : Network) (fine : NetworkFine net) (b1 b2 : ℤ) where
 
   trials-best : searchSets (graph net) bs cheapest (trials cheapestLone) ≡ best net bs
   trials-best =
-      search-base (graph net) bs (byCost (costOf (net .sums)) (normals (graph net) bs)) (trials cheapestLone)
+      search-base (graph net) bs (byCost (sumAt (net .sums)) (normals (graph net) bs)) (trials cheapestLone)
       ∙ search-sets (graph net) (graph-sound net fine) bs (two-bounds net fine b1 b2) (trials cheapestLone) enough
 
-  pub best-shown : Shows (costOf (net .sums)) (net .n - 1) (best net bs) (bestOf (net .ends) (net .sums) (net .n - 1) (twoOf net b1 b2) (linkOrder (net .sums) (net .m)))
+  pub best-shown : Shows (sumAt (net .sums)) (net .n - 1) (best net bs) (bestOf (net .ends) (net .sums) (net .n - 1) (twoOf net b1 b2) (linkOrder (net .sums) (net .m)))
   unfolding bestOf
   best-shown =
       let found = search-shown net fine bs (twoOf net b1 b2) cheapest (kept-below (λ e. not (exceptional orderℤ cs e)))

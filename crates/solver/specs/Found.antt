@@ -27,11 +27,10 @@ use Rattle.kmax.specs.Ceilings.{admissible}
 use Rattle.kmax.specs.Search.{offer, search-snoc, searchIn, tryOne}
 use Rattle.planning.specs.Graph.{completed, searchSets, total, under}
 use Rattle.network.specs.Limits.{maxLinks}
-use Rattle.network.specs.Yard.{graph}
+use Rattle.network.specs.Yard.{endsAt, graph, sumAt}
 use Rattle.network.specs.NetworkFine.{NetworkFine, graph-sound}
 use Rattle.network.specs.declared.Network.{Network}
-use Rattle.kruskal.specs.ByCost.{costOf}
-use Rattle.kruskal.specs.Tree.{bare, endsOf, linked}
+use Rattle.kruskal.specs.Tree.{bare, linked}
 use Rattle.kruskal.specs.Grown.{Holds, Near, bare-holds, grown-holds}
 use Rattle.kruskal.specs.declared.tree.Tree.{Tree}
 use Rattle.search.specs.Flags.{first, first-dictionary, marks-length, marks-rising, rising}
@@ -41,28 +40,28 @@ use Rattle.search.specs.declared.best.Best.{Best}
 
 -- ---- Kruskal's method keeps all of a list exactly where it is a forest
 
-kruskal-few : (ends : List ℕ) (L : Labelling) (l : List ℕ) → length (kruskal (endsOf ends) L l) ≤ length l
+kruskal-few : (ends : List ℕ) (L : Labelling) (l : List ℕ) → length (kruskal (endsAt ends) L l) ≤ length l
 unfolding kruskal
 kruskal-few ends L [] = omega arith
 kruskal-few ends L (e ∷ l) =
-    by-test (crosses L (endsOf ends e))
-    (λ c. rw c (omega (arith, kruskal-few ends (merge L (endsOf ends e)) l)))
+    by-test (crosses L (endsAt ends e))
+    (λ c. rw c (omega (arith, kruskal-few ends (merge L (endsAt ends e)) l)))
     (λ c. rw c (omega (arith, kruskal-few ends L l)))
 
-forest-kruskal : (ends : List ℕ) (L : Labelling) (l : List ℕ) → isForest L (map (endsOf ends) l) ≡ true → kruskal (endsOf ends) L l ≡ l
+forest-kruskal : (ends : List ℕ) (L : Labelling) (l : List ℕ) → isForest L (map (endsAt ends) l) ≡ true → kruskal (endsAt ends) L l ≡ l
 unfolding kruskal isForest
 forest-kruskal ends L [] f = refl
 forest-kruskal ends L (e ∷ l) f =
-    by-test (crosses L (endsOf ends e))
-    (λ c. rw c (ap (_∷_ e) (forest-kruskal ends (merge L (endsOf ends e)) l (rw c at f))))
+    by-test (crosses L (endsAt ends e))
+    (λ c. rw c (ap (_∷_ e) (forest-kruskal ends (merge L (endsAt ends e)) l (rw c at f))))
     (λ c. clash (rw c at f) refl)
 
-ring-kruskal : (ends : List ℕ) (L : Labelling) (l : List ℕ) → isForest L (map (endsOf ends) l) ≡ false → length (kruskal (endsOf ends) L l) < length l
+ring-kruskal : (ends : List ℕ) (L : Labelling) (l : List ℕ) → isForest L (map (endsAt ends) l) ≡ false → length (kruskal (endsAt ends) L l) < length l
 unfolding kruskal isForest
 ring-kruskal ends L [] f = clash refl f
 ring-kruskal ends L (e ∷ l) f =
-    by-test (crosses L (endsOf ends e))
-    (λ c. rw c (omega (arith, ring-kruskal ends (merge L (endsOf ends e)) l (rw c at f))))
+    by-test (crosses L (endsAt ends e))
+    (λ c. rw c (omega (arith, ring-kruskal ends (merge L (endsAt ends e)) l (rw c at f))))
     (λ c. rw c (omega (arith, kruskal-few ends L l)))
 
 -- ---- the better of two trees
@@ -87,7 +86,7 @@ module _ (net : Network) (fine : NetworkFine net) where
   ends = net .ends
 
   abbrev s : ℕ → ℕ
-  s = costOf (net .sums)
+  s = sumAt (net .sums)
 
   abbrev goal : ℕ
   goal = net .n - 1
@@ -152,39 +151,39 @@ module _ (net : Network) (fine : NetworkFine net) where
     grow = foldl (linked ends (net .sums))
 
     -- the forest of X alone
-    alone : (X : List ℕ) → ((x : ℕ) → x ∈ X → x < net .m) → Holds ends (net .sums) (kruskal (endsOf ends) identity X) (grow bare X)
+    alone : (X : List ℕ) → ((x : ℕ) → x ∈ X → x < net .m) → Holds ends (net .sums) (kruskal (endsAt ends) identity X) (grow bare X)
     alone X below =
-        subst (λ (L : Labelling). Holds ends (net .sums) (kruskal (endsOf ends) L X) (grow bare X)) (bare-holds ends (net .sums) .labels)
+        subst (λ (L : Labelling). Holds ends (net .sums) (kruskal (endsAt ends) L X) (grow bare X)) (bare-holds ends (net .sums) .labels)
         (grown-holds ends (net .sums) [] bare X (near X below) (bare-holds ends (net .sums)))
 
     -- and with what the base adds to it
-    grown : (X : List ℕ) → ((x : ℕ) → x ∈ X → x < net .m) → isForest identity (map (endsOf ends) X) ≡ true
-        → Holds ends (net .sums) (whole (endsOf ends) base X) (grow (grow bare X) base)
+    grown : (X : List ℕ) → ((x : ℕ) → x ∈ X → x < net .m) → isForest identity (map (endsAt ends) X) ≡ true
+        → Holds ends (net .sums) (whole (endsAt ends) base X) (grow (grow bare X) base)
     grown X below f =
         let a : Holds ends (net .sums) X (grow bare X) = subst (λ (ts : List ℕ). Holds ends (net .sums) ts (grow bare X)) (forest-kruskal ends identity X f) (alone X below) in
-        subst (λ (L : Labelling). Holds ends (net .sums) (X ++ kruskal (endsOf ends) L base) (grow (grow bare X) base)) (a .labels)
+        subst (λ (L : Labelling). Holds ends (net .sums) (X ++ kruskal (endsAt ends) L base) (grow (grow bare X) base)) (a .labels)
         (grown-holds ends (net .sums) X (grow bare X) base (near base base-below) a)
 
-    whole-links : (X : List ℕ) → ((x : ℕ) → x ∈ X → x < net .m) → (x : ℕ) → x ∈ whole (endsOf ends) base X → x < maxLinks
+    whole-links : (X : List ℕ) → ((x : ℕ) → x ∈ X → x < net .m) → (x : ℕ) → x ∈ whole (endsAt ends) base X → x < maxLinks
     whole-links X below x k =
         let few = fine .few-links in
-        omega (arith, whole-below (endsOf ends) (net .n) (net .m) (fine .some-station) (graph-sound net fine .within) base X base-below below x k)
+        omega (arith, whole-below (endsAt ends) (net .n) (net .m) (fine .some-station) (graph-sound net fine .within) base X base-below below x k)
 
-    whole-apart : (X : List ℕ) → ((x : ℕ) → x ∈ X → x < net .m) → isForest identity (map (endsOf ends) X) ≡ true → length (whole (endsOf ends) base X) ≡ goal
-        → Apart (λ x. x) (whole (endsOf ends) base X)
+    whole-apart : (X : List ℕ) → ((x : ℕ) → x ∈ X → x < net .m) → isForest identity (map (endsAt ends) X) ≡ true → length (whole (endsAt ends) base X) ≡ goal
+        → Apart (λ x. x) (whole (endsAt ends) base X)
     whole-apart X below f l =
-        let tree = whole-tree (endsOf ends) (net .n) (net .m) (fine .some-station) (graph-sound net fine .within) base X base-below below in
-        forest-apart (endsOf ends) identity (whole (endsOf ends) base X) (tree .1 (isForest-iff identity (map (endsOf ends) X) .0 f, l) .forest)
+        let tree = whole-tree (endsAt ends) (net .n) (net .m) (fine .some-station) (graph-sound net fine .within) base X base-below below in
+        forest-apart (endsAt ends) identity (whole (endsAt ends) base X) (tree .1 (isForest-iff identity (map (endsAt ends) X) .0 f, l) .forest)
 
     step : (o : Option (List ℕ)) (b : Best) (X : List ℕ) → ((x : ℕ) → x ∈ X → x < net .m) → Shows s goal o b
         → Shows s goal (try o X) (considered ends (net .sums) goal fs base b X)
     unfolding considered completed
     step o b X below shown =
         by-test (admissible orderℤ (under (graph net) bs) X)
-        (λ e. by-test (isForest identity (map (endsOf ends) X))
+        (λ e. by-test (isForest identity (map (endsAt ends) X))
         (λ f. let count : grow bare X .count ≡ length X = alone X below .size ∙ ap length (forest-kruskal ends identity X f) in
         rw (agree X below, e, f, eq-eqb (grow bare X .count) (length X) count)
-        (offer-shown o b (whole (endsOf ends) base X) (grow (grow bare X) base) shown (grown X below f) (whole-apart X below f) (whole-links X below)))
+        (offer-shown o b (whole (endsAt ends) base X) (grow (grow bare X) base) shown (grown X below f) (whole-apart X below f) (whole-links X below)))
         (λ f. let count : grow bare X .count ≡ length X → ⊥ = λ q. omega (arith, alone X below .size, ring-kruskal ends identity X f) in
         rw (agree X below, e, f, ne-eqb (grow bare X .count) (length X) count) shown))
         (λ e. rw (agree X below, e, and-false (eqb (grow bare X .count) (length X))) shown)

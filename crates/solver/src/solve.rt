@@ -12,7 +12,8 @@ use search::trials::consider_sets;
 ghost use mathlib.Core.Path.{_≡_};
 ghost use Prim.Native.Nat.{_-_, _≤_};
 ghost use lib.ListN.{length, take};
-ghost use Rattle.network.specs.Yard.{treeSize};
+ghost use Rattle.network.specs.Calls.{treeWith};
+ghost use Rattle.network.specs.Yard.{best, bounds, treeSize};
 ghost use Rattle.network.specs.NetworkFine.{NetworkFine};
 ghost use Rattle.forest.specs.Groups.{apart};
 ghost use Rattle.kruskal.specs.ByCost.{linkOrder};
@@ -25,7 +26,7 @@ ghost use Rattle.search.specs.Search.{bestOf, nothing};
 ghost use Rattle.search.specs.Exceptional.{Exceptions};
 ghost use Rattle.search.specs.BaseAlone.{Kept};
 ghost use Rattle.search.specs.Tries.{searched};
-ghost use Rattle.solver.specs.Answer.{bestFound, treeLeft};
+ghost use Rattle.solver.specs.Answer.{bestFound};
 
 // The best tree over all exception sets, with the base and the exceptions at hand. Sets are tried of those exceptions that Kruskal's method keeps.
 fn best_from(
@@ -100,7 +101,7 @@ fn best_in_order(net: Network, order: &[u8], b1: i16, b2: i16) -> Best
 // Whether a tree fits under the bounds b1 and b2. The links of the best one go to the front of the buffer, whose other bytes stay.
 pub fn best_links(net: Network, order: &[u8], b1: i16, b2: i16, tree: &mut [u8]) -> bool
     requires { ⌜ NetworkFine net × (take (net .m) (now order) ≡ linkOrder (net .sums) (net .m)) × (treeSize net ≤ length (now tree)) ⌝ }
-    ensures { λ r. ⌜ (r ≡ bestFound net b1 b2) × (now (tree .exit) ≡ treeLeft net b1 b2 (now (tree .entry))) ⌝ }
+    ensures { λ r. ⌜ (r ≡ bestFound net b1 b2) × (now (tree .exit) ≡ treeWith (best net (bounds net b1 b2)) (now (tree .entry))) ⌝ }
 {
     let b = best_in_order(net, order, b1, b2);
     if b.found {

@@ -27,13 +27,9 @@ use Rattle.trees.specs.declared.drawn.Drawn.{Drawn}
 
 -- ---- definitions
 
--- the stations that link c joins
-abbrev pub endsAt : List ℕ → ℕ → Edge
-endsAt ends c = record { a = getD ends (2 * c) 0; b = getD ends (2 * c + 1) 0 }
-
 -- link c keeps to the rules after the links that d has seen
 abbrev pub keeps : List ℕ → ℕ → Drawn → ℕ → Bool
-keeps ends m d c = leb (d .low) c && (ltb c m && crosses (labelOf (d .groups .leader)) (endsAt ends c))
+keeps ends m d c = leb (d .low) c && (ltb c m && crosses (labelOf (d .groups .leader)) (yard.endsAt ends c))
 
 -- one link more
 unfoldable pub drawing : List ℕ → ℕ → Drawn → ℕ → Drawn
@@ -77,16 +73,16 @@ module _ (ends : List ℕ) (m : ℕ) where
   draws-fault d [] e = e
   draws-fault d (c ∷ ts) e = draws-fault (drawing ends m d c) ts (rw e)
 
-module _ (ends : List ℕ) (m : ℕ) (within : (c : ℕ) → c < m → Within maxStations (endsAt ends c)) where
+module _ (ends : List ℕ) (m : ℕ) (within : (c : ℕ) → c < m → Within maxStations (yard.endsAt ends c)) where
   draws-from : (d : Drawn) (ts : List ℕ) → Led (d .groups) → d .fine ≡ true
-      → drawsFrom ends m d ts ≡ isRisingIn (d .low) m ts && isForest (labelOf (d .groups .leader)) (map (endsAt ends) ts)
+      → drawsFrom ends m d ts ≡ isRisingIn (d .low) m ts && isForest (labelOf (d .groups .leader)) (map (yard.endsAt ends) ts)
   unfolding drawsFrom drawing isForest
   draws-from d [] led e = e
   draws-from d (c ∷ ts) led e =
       let L = labelOf (d .groups .leader) in
       by-test (leb (d .low) c)
       (λ low. by-test (ltb c m)
-      (λ known. by-test (crosses L (endsAt ends c))
+      (λ known. by-test (crosses L (yard.endsAt ends c))
       (λ cross.
       let w = within c (ltb-true c m known) in
       draws-from (drawing ends m d c) ts (joined-led (d .groups) _ _ led (w .0) (w .1)) (rw (e, low, known, cross))
@@ -95,10 +91,10 @@ module _ (ends : List ℕ) (m : ℕ) (within : (c : ℕ) → c < m → Within ma
       (λ known. draws-fault ends m (drawing ends m d c) ts (rw (e, low, known)) ∙ rw (low, known)))
       (λ low. draws-fault ends m (drawing ends m d c) ts (rw (e, low)) ∙ rw low)
 
-  draws-forest : (ts : List ℕ) → drawsForest ends m ts ≡ isRisingIn 0 m ts && isForest identity (map (endsAt ends) ts)
+  draws-forest : (ts : List ℕ) → drawsForest ends m ts ≡ isRisingIn 0 m ts && isForest identity (map (yard.endsAt ends) ts)
   unfolding drawsForest
   draws-forest ts =
-      draws-from blank ts apart-led refl ∙ ap (λ (L : ℕ → ℕ). isRisingIn 0 m ts && isForest L (map (endsAt ends) ts)) (fun-ext apart-labels)
+      draws-from blank ts apart-led refl ∙ ap (λ (L : ℕ → ℕ). isRisingIn 0 m ts && isForest L (map (yard.endsAt ends) ts)) (fun-ext apart-labels)
 
 -- n - 1 rising links are a tree where they have no ring
 module _ (ends : ℕ → Edge) (n m : ℕ) (some : 0 < n) (within : (c : ℕ) → c < m → Within n (ends c)) where

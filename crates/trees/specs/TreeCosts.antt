@@ -23,7 +23,7 @@ use Rattle.spanning.specs.Listing.{isListed}
 use Rattle.network.specs.Limits.{maxCeilings, maxLinks, maxSum, maxTree}
 use Rattle.network.specs.Column.{column, column-at, column-length, column-more, column-none}
 use Rattle.network.specs.NetworkFine.{NetworkFine, graph-sound}
-use Rattle.network.specs.Yard.{ceilingCosts, ends, graph, isTree, ranks, treeSize, treeSum}
+use Rattle.network.specs.Yard.{ceilingCosts, costAt, ends, graph, isTree, ranks, sumAt, treeSize, treeSum}
 use Rattle.network.specs.declared.Network.{Network}
 use Rattle.trees.specs.Kth.{figuresIn}
 use Rattle.trees.specs.declared.kth.Figures.{Figures}
@@ -51,17 +51,9 @@ pub record CeilingFine (p k : ℕ) (costs : List ℤ) (i : ℕ) (ts : List ℕ) 
   pub figures : FiguresFine costs i ts
   pub rank : i < p → (0 < k) × (k ≤ length ts)
 
--- the sum cost of link c
-abbrev pub sumAt : List ℕ → ℕ → ℕ
-sumAt sums c = getD sums c 0
-
 -- the sum cost of the links
 unfoldable pub sumOf : List ℕ → List ℕ → ℕ
 sumOf sums ts = sum (sumAt sums) ts
-
--- the cost of link c by ceiling i
-abbrev pub costAt : List ℤ → ℕ → ℕ → ℤ
-costAt costs i c = getD costs (maxCeilings * c + i) (pos 0)
 
 -- the costs of the first n links by ceiling i, with 0 after them
 unfoldable pub figuresUpTo : List ℤ → ℕ → List ℕ → ℕ → List ℤ

@@ -9,7 +9,8 @@ ghost use lib.ListN.{length};
 ghost use Rattle.network.specs.Limits.{maxCeilings, maxLinks};
 ghost use Rattle.network.specs.NetworkFine.{NetworkFine};
 ghost use Rattle.network.specs.PlanList.{costsOf};
-ghost use Rattle.trees.specs.TreeCosts.{Below, CeilingFine, FiguresFine, TreeLinks, ceilingAt, costAt, figuresOf, sumAt, sumOf};
+ghost use Rattle.network.specs.Yard.{costAt, sumAt};
+ghost use Rattle.trees.specs.TreeCosts.{Below, CeilingFine, FiguresFine, TreeLinks, ceilingAt, figuresOf, sumOf};
 
 // The sum cost of a link.
 pub fn sum_at(sums: &[u32], link: u8) -> u32

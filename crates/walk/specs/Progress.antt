@@ -16,7 +16,7 @@ use Rattle.frontier.specs.Walk.{positions-length}
 use Rattle.planning.specs.Grid.{walk-lists}
 use Rattle.network.specs.Yard.{best, graph, treeSize, yard}
 use Rattle.network.specs.Walk.{positionCount, positions, solved, solvedCount, values}
-use Rattle.network.specs.PlanList.{costsOf, filled, headBytes, headSize, join, planBytes, planSize}
+use Rattle.network.specs.PlanList.{costsOf, filled, headBytes, headSize, join, planBytes, planSize, planSlots}
 use Rattle.network.specs.NetworkFine.{NetworkFine, graph-sound}
 use Rattle.network.specs.declared.Network.{Network}
 use Rattle.planlist.specs.Blocks.{blocks}
@@ -53,7 +53,7 @@ bit-one false e = absurd (e refl)
 module _ (net : Network) where
   -- the first `count` records behind the head's place are those of the plans l
   abbrev pub Stands : ℕ → List ℕ → List (List ℕ) → Type 0
-  Stands count bs l = Holds (yard net) (costsOf net) (λ ts. ts) (absent net) (planSize (treeSize net)) count (drop headSize bs) l
+  Stands count bs l = Holds (yard net) (costsOf net) (λ ts. ts) (absent net) (planSize planSlots (treeSize net)) count (drop headSize bs) l
 
   -- the records with an answer's taken in
   abbrev pub takeRecord : Option (List ℕ) → List (List ℕ) → List (List ℕ)
@@ -63,16 +63,16 @@ module _ (net : Network) where
   -- what solving position n does to the marks ms and to the `count` records of bs
   pub record Visited (n : ℕ) (ms ms′ bs bs′ : List ℕ) (count count′ : ℕ) : Type 0 where
     pub marks : Settled (yard net) n (best net (getD (positions net) n [])) ms ms′
-    pub records : blocks (planSize (treeSize net)) count′ (drop headSize bs′)
-        ≡ takeRecord (best net (getD (positions net) n [])) (blocks (planSize (treeSize net)) count (drop headSize bs))
+    pub records : blocks (planSize planSlots (treeSize net)) count′ (drop headSize bs′)
+        ≡ takeRecord (best net (getD (positions net) n [])) (blocks (planSize planSlots (treeSize net)) count (drop headSize bs))
     pub writable : (ts : List ℕ) → best net (getD (positions net) n []) ≡ some ts → Writable (costsOf net ts)
     pub bounded : count′ ≤ count + 1
 
   -- what taking in the plan of position n asks of the `count` records of bs: they rise, and it compares with none of another sum. Of two plans found,
   -- one that is at most the other fits where the other is best, so its sum is not the lower one.
   pub record Prepared (n : ℕ) (bs : List ℕ) (count : ℕ) : Type 0 where
-    pub rise : RecordsRise (blocks (planSize (treeSize net)) count (drop headSize bs))
-    pub level : (ts : List ℕ) → best net (getD (positions net) n []) ≡ some ts → Level (costsOf net ts) (blocks (planSize (treeSize net)) count (drop headSize bs))
+    pub rise : RecordsRise (blocks (planSize planSlots (treeSize net)) count (drop headSize bs))
+    pub level : (ts : List ℕ) → best net (getD (positions net) n []) ≡ some ts → Level (costsOf net ts) (blocks (planSize planSlots (treeSize net)) count (drop headSize bs))
 
   padded : NetworkFine net → (ts : List ℕ) → Padded (yard net) (costsOf net) (λ ts. ts) (absent net) ts
   padded fine ts = costs-padded net ts (omega (arith, rank-count net fine, fine .few-ceilings))
@@ -92,7 +92,7 @@ module _ (net : Network) where
       subst (λ (es : List (Entry ℤ (List ℕ))). Reached es (replicate size 0) bs 0 0) (sym (entries-none (yard net)))
       (record {
         marks = λ x g. getD-replicate size x 0 0 (omega arith);
-        records = holds-none (yard net) (costsOf net) (λ ts. ts) (absent net) (planSize (treeSize net)) (drop headSize bs);
+        records = holds-none (yard net) (costsOf net) (λ ts. ts) (absent net) (planSize planSlots (treeSize net)) (drop headSize bs);
         counted = refl;
       })
 
@@ -156,7 +156,7 @@ module _ (net : Network) where
         where
           -- the answer's plan among those that stand
           taken : (o : Option (List ℕ)) → best net (getD (positions net) n []) ≡ o
-              → blocks (planSize (treeSize net)) count′ (drop headSize bs′) ≡ takeRecord o (blocks (planSize (treeSize net)) count (drop headSize bs))
+              → blocks (planSize planSlots (treeSize net)) count′ (drop headSize bs′) ≡ takeRecord o (blocks (planSize planSlots (treeSize net)) count (drop headSize bs))
               → Stands count′ bs′ (takeAnswer (yard net) o (collect (yard net) [] (answers (yard net) (entriesAt (yard net) n))))
           taken none b e = record { records-are = e ∙ p .records .records-are; stored = p .records .stored }
           taken (some ts) b e =

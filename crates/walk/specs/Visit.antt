@@ -17,7 +17,7 @@ use Rattle.frontier.specs.Places.{InRange, in-cons, pick, pick-picks, places, p
 use Rattle.network.specs.Limits.{maxCeilings, maxLinks, maxPlans}
 use Rattle.network.specs.Yard.{best, bounds, ceilingCosts, graph, ranks, treeSize, yard}
 use Rattle.network.specs.Walk.{positionCount, positions, values}
-use Rattle.network.specs.PlanList.{bufferNeed, costsOf, headSize, planSize}
+use Rattle.network.specs.PlanList.{bufferNeed, costsOf, headSize, planSize, planSlots}
 use Rattle.network.specs.NetworkFine.{NetworkFine, graph-sound}
 use Rattle.network.specs.declared.Network.{Network}
 use Rattle.kruskal.specs.ByCost.{linkOrder}
@@ -71,8 +71,8 @@ module _ {net : Network} {order : List ℕ} {v1 v2 : List ℤ} (ready : Ready ne
       sym (product-wide (pos 0) missing (values net)) ∙ ap product (sym both) ∙ ap (λ (k : ℕ). length v1 * k) (mul-one (length v2))
 
   -- so what the list buffer needs
-  pub need-is : (m1 m2 : ℕ) → length v1 ≡ m1 → length v2 ≡ m2 → headSize + m1 * m2 * planSize (treeSize net) ≡ bufferNeed net
-  need-is m1 m2 e f = rw (← e, ← f) (ap (λ (k : ℕ). headSize + k * planSize (treeSize net)) (sym count-is))
+  pub need-is : (m1 m2 : ℕ) → length v1 ≡ m1 → length v2 ≡ m2 → headSize + m1 * m2 * planSize planSlots (treeSize net) ≡ bufferNeed net
+  need-is m1 m2 e f = rw (← e, ← f) (ap (λ (k : ℕ). headSize + k * planSize planSlots (treeSize net)) (sym count-is))
 
   pub count-limit : length v1 ≤ maxLinks → length v2 ≤ maxLinks → positionCount net ≤ maxPlans
   count-limit h k = omega (arith, count-is, mul-le-mul-right (length v2) h)

@@ -4,20 +4,19 @@ use kruskal::by_cost::order_links;
 use marking::mark::next_unmarked;
 use marking::values::ceiling_values;
 use network::Network;
-use network::Refusal;
+use network::Status;
 use planlist::list::clear;
 use planlist::list::finish;
 ghost use mathlib.Core.Bool.{cond};
 ghost use mathlib.Core.Path.{_≡_};
 ghost use Prim.Native.Nat.{_+_, _-_, _*_, _≤_, _<_};
 ghost use lib.ListN.{length, replicate};
-ghost use Rattle.network.specs.Calls.{status};
+ghost use Rattle.network.specs.Calls.{plansAfter, plansChecked, status};
 ghost use Rattle.network.specs.Checked.{refuseIf};
 ghost use Rattle.network.specs.Limits.{maxLinks};
 ghost use Rattle.network.specs.NetworkFine.{NetworkFine};
-ghost use Rattle.network.specs.PlanList.{bufferNeed, filled, headSize, planSize};
+ghost use Rattle.network.specs.PlanList.{bufferNeed, filled, headSize, planSize, planSlots};
 ghost use Rattle.network.specs.Walk.{passes};
-ghost use Rattle.walk.specs.Call.{walkAfter, walkStatus};
 ghost use Rattle.walk.specs.Visit.{Ready};
 
 // Visits all positions, whose values are v1 and v2, and lists the plans; gives up where the allowance is spent and a position is to be solved.
@@ -28,7 +27,7 @@ fn visit_all(
     v2: &[i16],
     allowance: u32,
     out: &mut [u8],
-) -> Refusal
+) -> Status
     requires { ⌜ Ready net (now order) (now v1) (now v2) × (length (now v1) ≤ maxLinks) × (length (now v2) ≤ maxLinks) × (bufferNeed net ≤ length (now out)) ⌝ }
     ensures { λ r. ⌜ (r ≡ status (refuseIf (passes net allowance) 10 0)) × (now (out .exit) ≡ cond (passes net allowance) (replicate (length (now (out .entry))) 0) (filled net (length (now (out .entry))))) ⌝ }
 {
@@ -41,7 +40,7 @@ fn visit_all(
         if marks[n] == 0 {
             if solved == allowance {
                 clear(out);
-                return Refusal {
+                return Status {
                     number: 10,
                     place: 0,
                 };
@@ -54,7 +53,7 @@ fn visit_all(
         }
     }
     finish(out, count, solved, net.n - 1, net.p);
-    Refusal {
+    Status {
         number: 0,
         place: 0,
     }
@@ -63,16 +62,16 @@ fn visit_all(
 // What a list buffer needs, by the numbers of values and of stations.
 fn need(m1: usize, m2: usize, n: u8) -> usize
     requires { ⌜ (m1 ≤ maxLinks) × (m2 ≤ maxLinks) × (0 < n) ⌝ }
-    ensures { λ r. ⌜ r ≡ headSize + m1 * m2 * planSize (n - 1) ⌝ }
+    ensures { λ r. ⌜ r ≡ headSize + m1 * m2 * planSize planSlots (n - 1) ⌝ }
 {
     10 + m1 * m2 * (10 + (n - 1) as usize)
 }
 
 // Lists the plans of a network by the threshold walk: declines a buffer below its need, and gives up where more positions would be solved than
 // allowed.
-pub fn list_plans(net: Network, allowance: u32, out: &mut [u8]) -> Refusal
+pub fn list_plans(net: Network, allowance: u32, out: &mut [u8]) -> Status
     requires { ⌜ NetworkFine net ⌝ }
-    ensures { λ r. ⌜ (r ≡ walkStatus net allowance (length (now (out .entry)))) × (now (out .exit) ≡ walkAfter net allowance (now (out .entry))) ⌝ }
+    ensures { λ r. ⌜ (r ≡ status (plansChecked net allowance (length (now (out .entry))))) × (now (out .exit) ≡ plansAfter net allowance (now (out .entry))) ⌝ }
 {
     let sums = net.sums;
     let order = order_links(&sums, net.m);
@@ -81,7 +80,7 @@ pub fn list_plans(net: Network, allowance: u32, out: &mut [u8]) -> Refusal
     let m1 = ceiling_values(net, 0, &mut v1);
     let m2 = ceiling_values(net, 1, &mut v2);
     if out.len() < need(m1, m2, net.n) {
-        return Refusal {
+        return Status {
             number: 9,
             place: 0,
         };

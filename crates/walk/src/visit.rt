@@ -7,7 +7,7 @@ use planlist::list::insert_plan;
 use question::solve;
 ghost use Prim.Native.Nat.{_+_, _*_, _≤_, _<_};
 ghost use lib.ListN.{length};
-ghost use Rattle.network.specs.PlanList.{headSize, planSize};
+ghost use Rattle.network.specs.PlanList.{headSize, planSize, planSlots};
 ghost use Rattle.network.specs.Walk.{positionCount};
 ghost use Rattle.network.specs.Yard.{treeSize};
 ghost use Rattle.walk.specs.Progress.{Prepared, Visited};
@@ -24,7 +24,7 @@ pub fn solve_at(
     out: &mut [u8],
     count: usize,
 ) -> usize
-    requires { ⌜ Ready net (now order) (now v1) (now v2) × (n < positionCount net) × (positionCount net ≤ length (now marks)) × (headSize + (count + 1) * planSize (treeSize net) ≤ length (now out)) × Prepared net n (now out) count ⌝ }
+    requires { ⌜ Ready net (now order) (now v1) (now v2) × (n < positionCount net) × (positionCount net ≤ length (now marks)) × (headSize + (count + 1) * planSize planSlots (treeSize net) ≤ length (now out)) × Prepared net n (now out) count ⌝ }
     ensures { λ r. ⌜ Visited net n (now (marks .entry)) (now (marks .exit)) (now (out .entry)) (now (out .exit)) count r ⌝ }
 {
     let m1 = v1.len();

@@ -5,6 +5,7 @@ use console::text;
 use network::Answer;
 use network::Costs;
 use network::Refusal;
+use network::Status;
 
 // `refused N at P`
 fn refusal(r: Refusal) {
@@ -46,7 +47,7 @@ pub fn row(word: &[u8], links: &[u8]) {
 }
 
 // The number and place of a call that only fills a buffer.
-pub fn reply(r: Refusal) {
+pub fn reply(r: Status) {
     text(b"number ");
     number(r.number as u64);
     text(b" place ");

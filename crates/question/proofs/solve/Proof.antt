@@ -4,7 +4,7 @@ use mathlib.Core.Path.{sym, _∙_}
 use native.Mathlib.Omega.{arith}
 use lib.Seq.{length-take-le}
 use mir.Facts.{toZ-ofZ}
-use Rattle.question.specs.Question.{found-none, front-answer, front-links, left-with}
+use Rattle.question.specs.Question.{found-none, front-answer, front-links}
 use Rattle.question.proofs.solve.Statement.{statement}
 use Rattle.question.proofs.solve.Tie as tie
 
@@ -37,7 +37,7 @@ returns c =
     let i = c .before .before .before .before .before .before .before .before .before .before in
     let left = rw (toZ-ofZ (i .fits .b1), toZ-ofZ (i .fits .b2)) at (c .before .before .before .before .before .before .best-links .ensures) in
     let found = sym (left .0) ∙ c .before .before .before .if1 .taken in
-    (front-answer _ _ _ (i .pre .0) _ _ found (left .1) _ (c .tree-costs .ensures), left-with _ _ _ _ _ (left .1))
+    (front-answer _ _ _ (i .pre .0) _ _ found (left .1) _ (c .tree-costs .ensures), left .1)
 
 same-length-2 : tie.Need-same-length-2
 same-length-2 c = search needs
@@ -46,7 +46,7 @@ returns-2 : tie.Need-returns-2
 returns-2 c =
     let i = c .before .before .before .before .before .before .before in
     let left = rw (toZ-ofZ (i .fits .b1), toZ-ofZ (i .fits .b2)) at (c .before .before .before .best-links .ensures) in
-    (found-none _ _ _ (sym (left .0) ∙ c .if1 .left), left-with _ _ _ _ _ (left .1))
+    (found-none _ _ _ (sym (left .0) ∙ c .if1 .left), left .1)
 
 pub solve-spec : {M : Type 1} → statement M
 solve-spec =

@@ -4,7 +4,7 @@ use Prim.Native.Nat.{ℕ, _+_, _-_}
 use native.Mathlib.Omega.{arith}
 use lib.ListN.{take, drop}
 use denote.Ref.{now}
-use Rattle.network.specs.Fetching.{treeSizeIn}
+use Rattle.network.specs.Fetching.{headTreeSize}
 use Rattle.planlist.specs.Fetched.{found, links-found, links-none}
 use borrow.Author.Needs.{needs}
 use Rattle.planlist.proofs.fetch.fetch_links.Statement.{statement}
@@ -42,9 +42,9 @@ returns c =
     let l = now (c .before .before .before .before .before .before .before .args .list) in
     let at = c .before .before .before .plan-start in
     let size = c .before .plan-size in
-    let e : at .result + size .result - (at .result + 10) ≡ treeSizeIn l = omega (arith, size .ensures .0) in
+    let e : at .result + size .result - (at .result + 10) ≡ headTreeSize l = omega (arith, size .ensures .0) in
     ap (λ (k : ℕ). take k (drop (at .result + 10) l)) e
-    ∙ ap (λ (k : ℕ). take (treeSizeIn l) (drop (k + 10) l)) (at .ensures .0)
+    ∙ ap (λ (k : ℕ). take (headTreeSize l) (drop (k + 10) l)) (at .ensures .0)
     ∙ sym (links-found l (c .before .before .before .before .before .before .before .args .r) (sym (c .before .before .before .before .before .fetch-number .ensures) ∙ c .before .before .before .before .if1 .taken))
 
 sub-result-2 : tie.Need-sub-result-2

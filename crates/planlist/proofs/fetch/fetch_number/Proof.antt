@@ -5,7 +5,7 @@ use native.Mathlib.Omega.{arith}
 use denote.Ref.{now}
 use Rattle.network.specs.Bytes.{markAt}
 use Rattle.network.specs.PlanList.{planMark}
-use Rattle.network.specs.Fetching.{countIn}
+use Rattle.network.specs.Fetching.{headCount}
 use Rattle.planlist.specs.Fetched.{whole, number-damaged, number-none, number-marked}
 use borrow.Author.Needs.{needs}
 use Rattle.planlist.proofs.fetch.fetch_number.Statement.{statement}
@@ -33,7 +33,7 @@ returns-2 : tie.Need-returns-2
 returns-2 c =
     let l = now (c .before .before .before .before .before .before .before .before .args .list) in
     let intact = sym (c .before .before .before .before .before .before .is-damaged .ensures) ∙ c .before .before .before .before .before .if1 .left in
-    let below : c .before .before .before .before .before .before .before .before .args .r < countIn l = omega (arith, c .before .before .before .if2 .taken, c .before .before .before .before .read-u16 .ensures) in
+    let below : c .before .before .before .before .before .before .before .before .args .r < headCount l = omega (arith, c .before .before .before .if2 .taken, c .before .before .before .before .read-u16 .ensures) in
     let mark = ap (λ (k : ℕ). markAt l k planMark) (sym (c .before .before .plan-start .ensures .0)) ∙ sym (c .before .mark-at .ensures) ∙ c .if3 .taken in
     sym (number-marked l (c .before .before .before .before .before .before .before .before .args .r) intact below mark)
 
@@ -41,7 +41,7 @@ returns-3 : tie.Need-returns-3
 returns-3 c =
     let l = now (c .before .before .before .before .before .before .before .before .args .list) in
     let intact = sym (c .before .before .before .before .before .before .is-damaged .ensures) ∙ c .before .before .before .before .before .if1 .left in
-    let below : c .before .before .before .before .before .before .before .before .args .r < countIn l = omega (arith, c .before .before .before .if2 .taken, c .before .before .before .before .read-u16 .ensures) in
+    let below : c .before .before .before .before .before .before .before .before .args .r < headCount l = omega (arith, c .before .before .before .if2 .taken, c .before .before .before .before .read-u16 .ensures) in
     let mark = ap (λ (k : ℕ). markAt l k planMark) (sym (c .before .before .plan-start .ensures .0)) ∙ sym (c .before .mark-at .ensures) ∙ c .if3 .left in
     sym (number-marked l (c .before .before .before .before .before .before .before .before .args .r) intact below mark)
 

@@ -8,7 +8,7 @@ use borrow.Author.Tests.{le-ltb, lt-ltb}
 use lib.Dec.{ltb}
 use lib.ListN.{length, drop}
 use denote.Ref.{now}
-use Rattle.network.specs.PlanList.{planSize}
+use Rattle.network.specs.PlanList.{planSize, planSlots}
 use Rattle.network.specs.declared.Costs.{Costs}
 use Rattle.planlist.specs.Blocks.{blocks, blocks-none, mul-step}
 use Rattle.planlist.specs.Records.{atMost, costsAt, inOrder}
@@ -19,7 +19,7 @@ use Rattle.planlist.proofs.insertion.free_place.Tie as tie
 abbrev Inv-loop : tie.InvT-loop
 Inv-loop plans count size v at₀ left₀ at left =
     (freePlace v (blocks size count plans) + left ≡ count + freePlace v (blocks size left (drop at plans))) × (at + left * size ≤ length plans)
-    × (planSize 0 ≤ size) × (left ≤ count)
+    × (planSize planSlots 0 ≤ size) × (left ≤ count)
 
 abbrev μ-loop : tie.MeasureT-loop
 μ-loop plans count size v at₀ left₀ at left = left

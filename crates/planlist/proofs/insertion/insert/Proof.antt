@@ -6,7 +6,7 @@ use Prim.Native.Nat.{ℕ, _+_, _*_, _-_, _≤_}
 use native.Mathlib.Omega.{arith}
 use lib.ListN.{length, take, drop, length-drop}
 use denote.Ref.{now}
-use Rattle.network.specs.PlanList.{planBytes, planSize}
+use Rattle.network.specs.PlanList.{planBytes, planSize, planSlots}
 use Rattle.planlist.specs.Blocks.{blocks, blocks-behind, take-blocks, drop-blocks, length-blocks, room-behind}
 use Rattle.planlist.specs.Records.{costs-encoded}
 use Rattle.planlist.specs.Insertion.{coveredBy, insert-covered, insert-free, placeOf, prunedBy}
@@ -18,7 +18,7 @@ use Rattle.planlist.proofs.insertion.insert.Tie as tie
 
 -- the records that are stored
 abbrev stored : tie.Start → List (List ℕ)
-stored s = blocks (planSize (length (now (s .args .links)))) (s .args .count) (now (s .args .plans))
+stored s = blocks (planSize planSlots (length (now (s .args .links)))) (s .args .count) (now (s .args .plans))
 
 -- where the plan's place is free: no stored plan is at most it, and it is its place in the order
 free : (c : tie.Else1)
@@ -26,7 +26,7 @@ free : (c : tie.Else1)
     × (c .before .free-place .result ≡ placeOf (c .before .before .before .before .before .args .v) (stored (c .before .before .before .before .before)))
 free c =
     let s = c .before .before .before .before .before in
-    let count = length-blocks (planSize (length (now (s .args .links)))) (s .args .count) (now (s .args .plans)) in
+    let count = length-blocks (planSize planSlots (length (now (s .args .links)))) (s .args .count) (now (s .args .plans)) in
     let e = c .before .free-place .ensures in
     let r = free-place (s .args .v) (stored s) (s .pre .1) (s .pre .2) (omega (arith, c .if1 .left)) in
     (r .0, e ∙ r .1)
@@ -34,11 +34,11 @@ free c =
 -- and the records from there on and one more have room
 room : (c : tie.Else1)
     → let a = c .before .before .before .before .before .args in
-    let size = planSize (length (now (a .links))) in
+    let size = planSize planSlots (length (now (a .links))) in
     c .before .free-place .result * size + (a .count - c .before .free-place .result + 1) * size ≤ length (now (a .plans))
 room c =
     let s = c .before .before .before .before .before in
-    room-behind (c .before .free-place .result) (s .args .count) (planSize (length (now (s .args .links)))) (s .pre .0) (omega (arith, c .if1 .left))
+    room-behind (c .before .free-place .result) (s .args .count) (planSize planSlots (length (now (s .args .links)))) (s .pre .0) (omega (arith, c .if1 .left))
 
 add-size : tie.Need-add-size
 add-size c = search needs
@@ -54,7 +54,7 @@ returns c =
     let s = c .before .before .before .before .before in
     let links = now (s .args .links) in
     let holds = costs-encoded (s .args .v) links (record { sum-fits = omega arith; y1-fits = search needs; y2-fits = search needs }) in
-    let count = length-blocks (planSize (length links)) (s .args .count) (now (s .args .plans)) in
+    let count = length-blocks (planSize planSlots (length links)) (s .args .count) (now (s .args .plans)) in
     let e = c .before .free-place .ensures in
     let covered = free-covered (s .args .v) (stored s) (s .pre .1) (s .pre .2) (omega (arith, c .if1 .taken)) in
     (omega arith, sym (insert-covered (planBytes (s .args .v) links) (s .args .v) (stored s) (s .pre .1) holds covered))
@@ -74,7 +74,7 @@ part-put-end c = search needs
 put-requires : tie.Need-put-requires
 put-requires c κs =
     let a = c .before .before .before .before .before .before .args in
-    let start = c .before .before .free-place .result * planSize (length (now (a .links))) in
+    let start = c .before .before .free-place .result * planSize planSlots (length (now (a .links))) in
     omega (arith, room (c .before), ap length (tail-lent start (now (a .plans))), length-drop start (now (a .plans)))
 
 add-result : tie.Need-add-result
@@ -92,7 +92,7 @@ returns-2 c =
     let few : e .before .free-place .result ≤ a .count = omega (arith, e .if1 .left) in
     let d = now (a .plans) in
     let links = now (a .links) in
-    let size = planSize (length links) in
+    let size = planSize planSlots (length links) in
     let x = planBytes (a .v) links in
     let i = e .before .free-place .result in
     let more = c .before .before .put .result in

@@ -12,7 +12,7 @@ use lib.Dec.{ltb}
 use lib.ListN.{length, take, drop}
 use lib.Seq.{append-snoc}
 use denote.Ref.{now}
-use Rattle.network.specs.PlanList.{planSize}
+use Rattle.network.specs.PlanList.{planSize, planSlots}
 use Rattle.network.specs.declared.Costs.{Costs}
 use Rattle.planlist.specs.Blocks.{blocks, blocks-none, mul-step, blocks-joined, blocks-moved, behind-moved}
 use Rattle.planlist.specs.Records.{atMost, costsAt}
@@ -22,7 +22,7 @@ use Rattle.planlist.proofs.insertion.prune.Tie as tie
 
 abbrev Inv-loop : tie.InvT-loop
 Inv-loop plans₀ count size v from₀ to₀ kept₀ left₀ plans from to kept left =
-    (length plans ≡ length plans₀) × (planSize 0 ≤ size) × (to ≤ from) × (from + left * size ≤ length plans) × (to ≡ kept * size) × (kept + left ≤ count)
+    (length plans ≡ length plans₀) × (planSize planSlots 0 ≤ size) × (to ≤ from) × (from + left * size ≤ length plans) × (to ≡ kept * size) × (kept + left ≤ count)
     × (prunedLevel v (blocks size count plans₀) ≡ blocks size kept plans ++ prunedLevel v (blocks size left (drop from plans)))
 
 abbrev μ-loop : tie.MeasureT-loop

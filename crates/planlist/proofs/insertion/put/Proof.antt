@@ -5,7 +5,7 @@ use Prim.Native.Nat.{ℕ, _+_, _*_, _≤_}
 use native.Mathlib.Omega.{arith}
 use lib.ListN.{length}
 use denote.Ref.{now}
-use Rattle.network.specs.PlanList.{planBytes, planSize}
+use Rattle.network.specs.PlanList.{planBytes, planSize, planSlots}
 use Rattle.encoding.specs.Overwrite.{overwrite}
 use Rattle.planlist.specs.Blocks.{blocks, room-for, blocks-inserted}
 use Rattle.planlist.specs.Records.{length-plan}
@@ -15,11 +15,11 @@ use Rattle.planlist.proofs.insertion.put.Tie as tie
 
 -- the records that are kept and one more have room
 room : (c : tie.After-prune)
-    → let size = planSize (length (now (c .before .before .before .before .args .links))) in
+    → let size = planSize planSlots (length (now (c .before .before .before .before .args .links))) in
     c .prune .result * size + size ≤ length (c .prune .last .0)
 room c =
     let s = c .before .before .before .before in
-    rw (c .prune .kept .0) (room-for (c .prune .result) (s .args .count) (planSize (length (now (s .args .links)))) (s .pre) (c .prune .ensures .0))
+    rw (c .prune .kept .0) (room-for (c .prune .result) (s .args .count) (planSize planSlots (length (now (s .args .links)))) (s .pre) (c .prune .ensures .0))
 
 add-size : tie.Need-add-size
 add-size c = search needs
@@ -47,7 +47,7 @@ returns c =
     let p = c .before .before .before .before .before .before .before .before .before .before in
     let a = p .before .before .before .before .args in
     let links = now (a .links) in
-    let size = planSize (length links) in
+    let size = planSize planSlots (length links) in
     let x = planBytes (a .v) links in
     let kept = p .prune .result in
     let bytes = c .before .before .write-plan .ensures ∙ ap (λ (o : List ℕ). overwrite o 0 x) (c .before .before .before .before .before .before .move-up .ensures) in (

@@ -6,7 +6,7 @@ use native.Mathlib.Omega.{arith}
 use lib.ListN.{length, take, drop, replicate}
 use lib.Seq.{take-append-add}
 use denote.Ref.{now}
-use Rattle.network.specs.PlanList.{headBytes, planSize}
+use Rattle.network.specs.PlanList.{headBytes, planSize, planSlots}
 use Rattle.encoding.specs.Overwrite.{overwrite}
 use Rattle.planlist.specs.Finished.{finished-bytes}
 use borrow.Author.Needs.{needs}
@@ -48,7 +48,7 @@ unfolding overwrite
 returns c =
     let a = c .before .before .before .before .before .before .before .before .before .before .args in
     let d = now (a .out) in
-    let n = a .count * planSize (a .t) in
+    let n = a .count * planSize planSlots (a .t) in
     let head = headBytes (a .count) (a .solved) (a .t) (a .p) in
     let headed = c .before .before .before .before .before .before .before .write-head .ensures in
     let same = c .before .before .before .before .before .before .before .write-head .kept .0 in

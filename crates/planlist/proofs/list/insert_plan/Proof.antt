@@ -6,7 +6,7 @@ use native.Mathlib.Omega.{arith}
 use lib.ListN.{length, take, drop, length-drop}
 use lib.Seq.{length-take-le, drop-at}
 use denote.Ref.{now}
-use Rattle.network.specs.PlanList.{planBytes, planSize}
+use Rattle.network.specs.PlanList.{planBytes, planSize, planSlots}
 use Rattle.planlist.specs.Blocks.{blocks}
 use Rattle.planlist.specs.Insertion.{RecordsRise, insertRecord}
 use Rattle.planlist.specs.Passes.{Level}
@@ -29,7 +29,7 @@ insert-requires c κs =
     let s = c .before .before .before in
     let d = now (s .args .out) in
     let lent = tail-lent 10 d in
-    let size = planSize (length (now (s .args .links))) in (
+    let size = planSize planSlots (length (now (s .args .links))) in (
       omega (arith, s .pre .0, ap length lent, length-drop 10 d),
       subst⁻¹ (λ (l : List ℕ). RecordsRise (blocks size (s .args .count) l)) lent (s .pre .1),
       subst⁻¹ (λ (l : List ℕ). Level (s .args .v) (blocks size (s .args .count) l)) lent (s .pre .2),
@@ -43,7 +43,7 @@ returns c =
     let a = c .before .before .before .before .before .before .args in
     let d = now (a .out) in
     let links = now (a .links) in
-    let size = planSize (length links) in
+    let size = planSize planSlots (length links) in
     let last = c .before .before .insert .last .0 in
     let e = c .before .before .insert .ensures in (
       e .0,

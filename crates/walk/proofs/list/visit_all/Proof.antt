@@ -11,7 +11,7 @@ use lib.ListN.{length, length-replicate, replicate}
 use Rattle.network.specs.Calls.{status}
 use Rattle.network.specs.Checked.{refuseIf}
 use Rattle.network.specs.Limits.{maxPlans}
-use Rattle.network.specs.PlanList.{filled, planSize}
+use Rattle.network.specs.PlanList.{filled, planSize, planSlots}
 use Rattle.network.specs.Walk.{passes, positionCount, solvedCount}
 use Rattle.network.specs.Yard.{treeSize}
 use Rattle.walk.specs.Progress.{Progress, finish, full, prepared, skip, skip-all, spent, start, step}
@@ -70,7 +70,7 @@ solve-at-requires c κs =
     let l = c .before .before .before .before .before .loop in
     let all = count-is (s .pre .0) in
     let fewer : l .count + 1 ≤ positionCount (a .net) = omega arith in
-    let room = mul-le-mul-right (planSize (treeSize (a .net))) fewer in
+    let room = mul-le-mul-right (planSize planSlots (treeSize (a .net))) fewer in
     (s .pre .0, omega arith, omega (arith, few s), omega (arith, s .pre .3), prepared (a .net) (l .n) (omega arith) (l .inv .5) (s .pre .0 .fine))
 
 add-solved : tie.Need-add-solved Inv-loop μ-loop
@@ -135,7 +135,7 @@ finish-requires c κs =
     let a = s .args in
     let l = c .before .before .before .loop in
     let fewer : l .count ≤ positionCount (a .net) = omega arith in
-    let room = mul-le-mul-right (planSize (treeSize (a .net))) fewer in
+    let room = mul-le-mul-right (planSize planSlots (treeSize (a .net))) fewer in
     (omega (arith, few s), omega (arith, s .pre .3))
 
 same-length-2 : tie.Need-same-length-2 Inv-loop μ-loop

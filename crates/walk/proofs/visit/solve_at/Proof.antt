@@ -12,9 +12,10 @@ use mir.Val.{ofZ, toZ}
 use lib.IntN.{ℤ, pos}
 use lib.ListN.{drop, getD, length, replicate, take}
 use Rattle.network.specs.Yard.{yard, best, bounds, treeSize}
-use Rattle.network.specs.PlanList.{costsOf, headSize, planBytes, planSize}
+use Rattle.network.specs.PlanList.{costsOf, headSize, planBytes, planSize, planSlots}
 use Rattle.network.specs.Walk.{positions}
 use Rattle.network.specs.declared.Costs.{Costs}
+use Rattle.network.specs.Calls.{treeWith}
 use Rattle.planlist.specs.Blocks.{blocks}
 use Rattle.planlist.specs.Insertion.{RecordsRise, insertRecord}
 use Rattle.planlist.specs.Passes.{Level}
@@ -23,7 +24,7 @@ use Rattle.marking.specs.Settle.{Settled}
 use Rattle.marking.specs.Paint.{paint, through}
 use Rattle.marking.specs.Place.{placeIn}
 use Rattle.walk.specs.Progress.{takeRecord}
-use Rattle.question.specs.Question.{Found, answer-found, answer-none, answerOf, best-length, tree-front, treeWith}
+use Rattle.question.specs.Question.{Found, answer-found, answer-none, answerOf, best-length, tree-front}
 use Rattle.walk.specs.Visit.{asked, count-is, none-marked, own-places-later, own-places-in, places-in, some-marked}
 use Rattle.walk.proofs.visit.solve_at.Statement.{statement}
 use Rattle.walk.proofs.visit.solve_at.Tie as tie
@@ -145,7 +146,7 @@ returns c =
     record {
       marks = subst⁻¹ (λ (o : Option (List ℕ)). Settled (yard (a .net)) (a .n) o (a .marks .now) (c .before .before .mark-through .last .0)) none-is
           (λ x h. ap (λ (l : List ℕ). getD l x 0) (c .before .before .mark-through .ensures) ∙ none-marked (s .pre .0) (a .n) (s .pre .1) (a .marks .now) (s .pre .2) x h);
-      records = ap (λ (o : Option (List ℕ)). takeRecord (a .net) o (blocks (planSize (treeSize (a .net))) (a .count) (drop headSize (a .out .now)))) (sym none-is);
+      records = ap (λ (o : Option (List ℕ)). takeRecord (a .net) o (blocks (planSize planSlots (treeSize (a .net))) (a .count) (drop headSize (a .out .now)))) (sym none-is);
       writable = λ ts e. absurd (Option·none-ne-some ts (sym none-is ∙ e));
       bounded = omega arith;
     }
@@ -186,14 +187,14 @@ insert-plan-requires c κs =
     let a = s .args in
     let told = c .before .before .before .before .before .before .before .before .before .before .before in
     let size = links-count told in
-    let e = ap (λ (k : ℕ). (a .count + 1) * planSize k) size in
+    let e = ap (λ (k : ℕ). (a .count + 1) * planSize planSlots k) size in
     let room = s .pre .3 in
     let f = found told in
     let bs = drop headSize (a .out .now) in
-    let level = subst⁻¹ (λ (v : Costs). Level v (blocks (planSize (treeSize (a .net))) (a .count) bs)) (f .costs-are) (s .pre .4 .level (f .tree) (f .best-is)) in (
+    let level = subst⁻¹ (λ (v : Costs). Level v (blocks (planSize planSlots (treeSize (a .net))) (a .count) bs)) (f .costs-are) (s .pre .4 .level (f .tree) (f .best-is)) in (
       omega arith,
-      subst⁻¹ (λ (k : ℕ). RecordsRise (blocks (planSize k) (a .count) bs)) size (s .pre .4 .rise),
-      subst⁻¹ (λ (k : ℕ). Level (told .before .answer .given .0 .0) (blocks (planSize k) (a .count) bs)) size level,
+      subst⁻¹ (λ (k : ℕ). RecordsRise (blocks (planSize planSlots k) (a .count) bs)) size (s .pre .4 .rise),
+      subst⁻¹ (λ (k : ℕ). Level (told .before .answer .given .0 .0) (blocks (planSize planSlots k) (a .count) bs)) size level,
     )
 
 same-length-2 : tie.Need-same-length-2
@@ -214,11 +215,11 @@ returns-2 c =
       marks = subst⁻¹ (λ (o : Option (List ℕ)). Settled (yard (a .net)) (a .n) o (a .marks .now) (c .before .before .before .before .before .before .before .before .mark-through2 .last .0)) (f .best-is)
           (λ x h. ap (λ (l : List ℕ). getD l x 0) (c .before .before .before .before .before .before .before .before .mark-through2 .ensures ∙ ap₂ (λ (i j : ℕ). paint (through (length (a .v2 .now)) (a .n) i j) (a .n) (a .marks .now)) (place1-is (c .before .before .before .before .before .before .before .before .before .before)) (place2-is (c .before .before .before .before .before .before .before .before .before .before)))
           ∙ some-marked (s .pre .0) (a .n) (s .pre .1) (f .tree) (f .best-is) (a .marks .now) (s .pre .2) x h);
-      records = ap (λ (k : ℕ). blocks (planSize k) (c .before .before .insert-plan .result) (drop headSize (c .before .before .insert-plan .last .0))) (sym size)
+      records = ap (λ (k : ℕ). blocks (planSize planSlots k) (c .before .before .insert-plan .result) (drop headSize (c .before .before .insert-plan .last .0))) (sym size)
           ∙ c .before .before .insert-plan .ensures .1
-          ∙ ap₂ (λ (v : Costs) (l : List ℕ). insertRecord (planBytes v l) (blocks (planSize (length links)) (a .count) bs)) (f .costs-are) (links-are (c .before .before .before .before .before .before .before .before .before .before .before .before .before .before))
-          ∙ ap (λ (k : ℕ). insertRecord (planBytes (costsOf (a .net) (f .tree)) (f .tree)) (blocks (planSize k) (a .count) bs)) size
-          ∙ ap (λ (o : Option (List ℕ)). takeRecord (a .net) o (blocks (planSize (treeSize (a .net))) (a .count) bs)) (sym (f .best-is));
+          ∙ ap₂ (λ (v : Costs) (l : List ℕ). insertRecord (planBytes v l) (blocks (planSize planSlots (length links)) (a .count) bs)) (f .costs-are) (links-are (c .before .before .before .before .before .before .before .before .before .before .before .before .before .before))
+          ∙ ap (λ (k : ℕ). insertRecord (planBytes (costsOf (a .net) (f .tree)) (f .tree)) (blocks (planSize planSlots k) (a .count) bs)) size
+          ∙ ap (λ (o : Option (List ℕ)). takeRecord (a .net) o (blocks (planSize planSlots (treeSize (a .net))) (a .count) bs)) (sym (f .best-is));
       writable = λ ts e. subst Writable (f .costs-are ∙ ap (costsOf (a .net)) (Option·some-injective (f .tree) ts (sym (f .best-is) ∙ e))) (writable (c .before .before .before .before .before .before .before .before .before .before .before .before .before));
       bounded = c .before .before .insert-plan .ensures .0;
     }

@@ -1,0 +1,36 @@
+// The limits and the sizes of records, named as in specs/Limits.antt and specs/PlanList.antt. No other crate has them as bare numbers.
+
+// Stations of a yard, and so entries of the groups of stations.
+pub const MAX_STATIONS: usize = 24;
+
+// Links of a survey.
+pub const MAX_LINKS: usize = 40;
+
+// Ceiling costs of a link.
+pub const MAX_CEILINGS: usize = 2;
+
+// The rank of a ceiling cost.
+pub const MAX_RANK: u8 = 3;
+
+// The sum cost of a link.
+pub const MAX_SUM: u32 = 1000000;
+
+// Links of a tree.
+pub const MAX_TREE: usize = MAX_STATIONS - 1;
+
+// Positions, and so plans of a list.
+pub const MAX_PLANS: usize = MAX_LINKS * MAX_LINKS;
+
+// Ceiling costs that a plan record holds, absent ones included.
+pub const PLAN_SLOTS: usize = MAX_CEILINGS;
+
+// Bytes of a list head, and of a plan record before its links.
+pub const HEAD_SIZE: usize = 10;
+
+pub const COSTS_SIZE: usize = 6 + 2 * PLAN_SLOTS;
+
+// The most bytes that a list buffer needs.
+pub const MAX_NEED: usize = HEAD_SIZE + MAX_PLANS * (COSTS_SIZE + MAX_TREE);
+
+// What the program takes of standard input, in bytes.
+pub const MAX_INPUT: usize = 4096;

@@ -1,4 +1,4 @@
--- Document 01, "When the planner declines": numbers 1 to 8, which a survey alone decides, in the table's order and with their places.
+-- Document 01, "When the planner declines": numbers 1 to 8, which a survey alone decides, in their order and with their places.
 use Prim.Native.Nat.{ℕ, _+_, _-_, _*_, _%_}
 use mathlib.Core.Bool.{Bool, not, _&&_, _||_}
 use mathlib.Core.List.{List}

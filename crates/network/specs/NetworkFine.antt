@@ -18,7 +18,7 @@ use Rattle.network.specs.Limits.{maxCeilings, maxLinks, maxPlans, maxRan
 use Rattle.network.specs.Bytes.{byteAt, signed, u16At}
 use Rattle.network.specs.Column.{column, column-at, column-length}
 use Rattle.network.specs.Survey.{ceilingsIn, costIn, costsIn, endIn, endsIn, layoutOf, linkCount, linkStart, networkOf, networkWith, sumIn, sumsIn}
-use Rattle.network.specs.Refusals.{absentCost, badRank, badRanks, checkedOf, outside}
+use Rattle.network.specs.Refusals.{absentCost, badPresent, badRank, badRanks, checkedOf}
 use Rattle.network.specs.Yard.{graph, ranks, treeSize}
 use Rattle.network.specs.Walk.{positionCount}
 use Rattle.network.specs.PlanList.{bufferNeed, maxNeed, planSize, planSlots}
@@ -90,8 +90,8 @@ survey-fine s e = network-fine s (layoutOf s) (accepted s (layoutOf s) (layout-r
 -- the rank of a present ceiling is at least 1 and below n
 present-rank : (n p j k : ℕ) → badRank n p j k ≡ false → j < p → (0 < k) × (k ≤ n - 1)
 present-rank n p j k e h =
-    let a : ltb j p && (outside k 1 maxRank || leb n k) ≡ false = or-false _ _ e .0 in
-    let b = or-false (outside k 1 maxRank) (leb n k) (rw (lt-ltb j p h) at a) in
+    let a : ltb j p && badPresent n k ≡ false = or-false _ _ e .0 in
+    let b = or-false _ _ (rw (lt-ltb j p h) at a) in
     let c = or-false _ _ (b .0) in
     let low : 1 ≤ k = ltb-false _ _ (c .0) in
     let high : k < n = leb-false _ _ (b .1) in

@@ -1,12 +1,12 @@
 -- What holds of the network of an accepted survey, said of its arrays with no byte in it, and so of the graph that the theory speaks of.
 use Prim.Native.Nat.{ℕ, suc, _+_, _-_, _*_, _/_, _%_, _^_, _≤_, _<_}
 use mathlib.Core.Path.{_≡_, refl, sym, ap, _∙_}
-use mathlib.Core.Bool.{_&&_, _||_, false}
+use mathlib.Core.Bool.{_&&_, false}
 use mathlib.Core.List.{List, [], _∷_}
 use native.Mathlib.Nat.{le-of-eq, le-trans, mul-comm, mul-le-mul, pow-le-pow-right, pow-suc, pow-zero}
 use native.Mathlib.Omega.{arith}
 use borrow.Author.Tests.{eqb-true, le-leb, leb-false, ltb-false, lt-ltb, not-false}
-use lib.Dec.{leb, ltb}
+use lib.Dec.{ltb}
 use lib.ListN.{getD, length, length-take}
 use lib.Seq.{getD-take}
 use lib.IntN.{pos}
@@ -14,7 +14,7 @@ use Rattle.order.specs.Lists.{mem-getD}
 use Rattle.frontier.specs.Frontier.{product}
 use Rattle.planning.specs.Graph.{Graph, Sound, valuesAt, valuesFrom}
 use Rattle.planning.specs.Grid.{values-few}
-use Rattle.network.specs.Limits.{maxCeilings, maxLinks, maxPlans, maxRank, maxStations, maxSum, maxTree}
+use Rattle.network.specs.Limits.{maxCeilings, maxLinks, maxPlans, maxStations, maxSum, maxTree}
 use Rattle.network.specs.Bytes.{byteAt, signed, u16At}
 use Rattle.network.specs.Column.{column, column-at, column-length}
 use Rattle.network.specs.Survey.{ceilingsIn, costIn, costsIn, endIn, endsIn, layoutOf, linkCount, linkStart, networkOf, networkWith, sumIn, sumsIn}

@@ -1,5 +1,5 @@
 -- A set of exceptional links, completed by Kruskal's method over the normal links, is the best tree with these exceptional links: what the search
--- of `kmax` asks of a completion. Assumes nothing.
+-- of `kmax` asks of a completion.
 use mathlib.Core.Bool.{Bool, true, false, _&&_, not}
 use mathlib.Core.List.{List, map, List·Memᴰ·append-cases, Memᴰ·append-left, Sublistᴰ}
 use mathlib.Core.Logic.{_↔_, ⊎-elim}

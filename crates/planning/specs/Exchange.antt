@@ -1,6 +1,6 @@
 -- Links that exceed the same ceilings are exchanged: for each tree there is one that fits where that fits and is no worse, and whose links of the
 -- one pattern are all among those that Kruskal's method keeps of them. A search may leave the others out. For any one pattern and any number of
--- ceilings; the other links stay, so that patterns can be taken in turn. Assumes nothing.
+-- ceilings; the other links stay, so that patterns can be taken in turn.
 use mathlib.Core.Bool.{Bool, true, false, not}
 use mathlib.Core.List.{List, map, List·Memᴰ·append-cases}
 use mathlib.Core.Logic.{⊎-elim}

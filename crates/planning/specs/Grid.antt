@@ -1,4 +1,4 @@
--- Every ceiling cost of a tree is among the values of its ceiling, which fall strictly: what `frontier` asks of a problem. Assumes nothing.
+-- Every ceiling cost of a tree is among the values of its ceiling, which fall strictly: what `frontier` asks of a problem.
 use mathlib.Core.List.{List, [], _∷_, map, Memᴰ·map, Memᴰ·cast, List·Memᴰ·head as here, List·Memᴰ·tail as there}
 use mathlib.Core.Option.{some}
 use mathlib.Core.Path.{_≡_, refl, sym, ap, _∙_}

@@ -1,5 +1,5 @@
 -- THE THEOREM: the search over sets of exceptional links finds the best tree under the ceilings, for any number of stations, links and ceilings.
--- It may go over the links that one run of Kruskal's method keeps of the normal ones. Assumes nothing.
+-- It may go over the links that one run of Kruskal's method keeps of the normal ones.
 use mathlib.Core.Bool.{Bool, cond, _&&_}
 use mathlib.Core.List.{List, [], _∷_, map, _++_}
 use mathlib.Core.Option.{Option, none, some}

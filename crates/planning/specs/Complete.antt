@@ -68,6 +68,7 @@ module _ (G : Graph) (S : Sound G) where
         let r = filter-mem (λ c. not (p c)) (links G) (sort-mem (pairs orderℕ orderℕ) _ l k) in
         (link-below c (r .0), not-true (p c) (r .1))
 
+    -- they stand by cost, then number
     others-sorted : Sorted orderℕ (tieWeight s m) (others G p)
     others-sorted =
         let l = filter (λ c. not (p c)) (links G) in
@@ -111,6 +112,7 @@ module _ (G : Graph) (S : Sound G) where
     abbrev candidates : List ℕ
     candidates = byCost s (normals G bs)
 
+    -- no candidate is exceptional
     candidate : (c : ℕ) → c ∈ candidates → (c < m) × (odd c ≡ false)
     candidate = other odd
 

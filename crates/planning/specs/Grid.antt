@@ -28,6 +28,7 @@ distinct-has {C} O l {v} m =
 module _ (G : Graph) where
   open Graph G using (n, m, ends, s, cost, ks)
 
+  -- the values of a ceiling fall strictly
   pub values-fall : (i : ℕ) → Falling orderℤ (valuesAt G i)
   values-fall i =
       let vs : List ℤ = map (cost i) (links G) in

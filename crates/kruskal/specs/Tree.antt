@@ -5,7 +5,7 @@ use mathlib.Core.List.{List}
 use mathlib.Core.Path.{_≡_}
 use native.Mathlib.Omega.{arith}
 use lib.ListN.{length, getD, set, replicate}
-use Rattle.order.specs.Lists.{_∈_}
+use Rattle.order.specs.Lists.{_∈_, getD-mem}
 use Rattle.spanning.specs.Labelling.{Edge, crosses}
 use Rattle.spanning.specs.LabelList.{labelOf}
 use Rattle.network.specs.Limits.{maxLinks, maxSum}
@@ -45,6 +45,10 @@ pub record Usable (sums : List ℕ) (e : ℕ) : Type 0 where
 pub record Walkable (sums l : List ℕ) : Type 0 where
   pub few : length l ≤ maxLinks
   pub usable : (e : ℕ) → e ∈ l → Usable sums e
+
+-- the link at a place of the walk is such a link
+pub walk-usable : {sums l : List ℕ} → Walkable sums l → (k : ℕ) → k < length l → Usable sums (getD l k 0)
+walk-usable {l = l} w k h = w .usable (getD l k 0) (getD-mem l k 0 h)
 
 -- a forest of at most j links
 pub record Light (j : ℕ) (t : Tree) : Type 0 where

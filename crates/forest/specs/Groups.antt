@@ -22,6 +22,7 @@ joined f a b = record { leader = relabel (f .leader) (link a b) }
 abbrev pub Led : Forest → Type 0
 Led f = Labels maxStations (f .leader)
 
+-- at the start they are, and joining keeps them so
 pub apart-led : Led apart
 unfolding apart
 apart-led = first-known maxStations

@@ -1,7 +1,6 @@
 // The links that Kruskal's method keeps with nothing joined before: at most one fewer than there are stations, whatever comes in.
 use forest::Forest;
 use network::limits::MAX_LINKS;
-ghost use mathlib.Core.Path.{_≡_};
 ghost use Rattle.forest.specs.Groups.{apart};
 ghost use Rattle.kruskal.specs.Tree.{Columns, Walkable};
 ghost use Rattle.kruskal.specs.Base.{Holding, kept};

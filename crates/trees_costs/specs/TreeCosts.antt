@@ -106,7 +106,7 @@ module _ (costs : List ℤ) (i : ℕ) (ts : List ℕ) where
   figures-end n e q = rw (e, q)
 
 -- the figures are the costs of the links
-pub figures-in : (costs : List ℤ) (i : ℕ) (ts : List ℕ) → length ts ≤ maxTree → figuresIn (figuresOf costs i ts) ≡ map (costAt costs i) ts
+figures-in : (costs : List ℤ) (i : ℕ) (ts : List ℕ) → length ts ≤ maxTree → figuresIn (figuresOf costs i ts) ≡ map (costAt costs i) ts
 unfolding figuresIn figuresOf figuresUpTo
 figures-in costs i ts h =
     let f : ℕ → ℤ = λ q. costAt costs i (getD ts q 0) in

@@ -1,5 +1,5 @@
 -- A list of links gone through one by one: each is to be above the one before, below m, and to join two groups. With n - 1 links that is a tree.
-use Prim.Native.Nat.{ℕ, _+_, _-_, _*_, _≤_, _<_}
+use Prim.Native.Nat.{ℕ, _+_, _-_, _≤_, _<_}
 use mathlib.Core.Path.{_≡_, refl, sym, ap, _∙_, fun-ext, subst}
 use mathlib.Core.Bool.{Bool, true, false, _&&_, and-false}
 use mathlib.Core.List.{List, [], _∷_, map}
@@ -103,7 +103,7 @@ module _ (ends : ℕ → Edge) (n m : ℕ) (some : 0 < n) (within : (c : ℕ) �
       let r = map-mem ends ts x k in
       subst (λ (y : Edge). Within n y) (sym (r .2)) (within (r .0) (rising-range 0 m ts (isRisingIn-iff 0 m ts .0 e) (r .0) (r .1) .1))
 
-  pub listed-forest : (ts : List ℕ) → length ts ≡ n - 1 → isListed ends n m ts ≡ isRisingIn 0 m ts && isForest identity (map ends ts)
+  listed-forest : (ts : List ℕ) → length ts ≡ n - 1 → isListed ends n m ts ≡ isRisingIn 0 m ts && isForest identity (map ends ts)
   unfolding isListed
   listed-forest ts size =
       rw (eq-eqb (length ts) (n - 1) size) (by-test (isRisingIn 0 m ts)

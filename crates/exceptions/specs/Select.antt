@@ -20,7 +20,7 @@ use Rattle.forest.specs.Groups.{joined}
 use Rattle.network.specs.Limits.{maxLinks}
 use Rattle.network.specs.Yard.{endsAt, sumAt}
 use Rattle.forest.specs.declared.Forest.{Forest}
-use Rattle.kruskal.specs.ByCost.{Cheap, linkOrder, order-below, order-length}
+use Rattle.kruskal_order.specs.ByCost.{Cheap, linkOrder, order-below, order-length}
 use Rattle.kruskal.specs.Tree.{Walkable}
 use Rattle.kruskal.specs.Base.{Holding, kept, kept-among, kept-few}
 use Rattle.kruskal.specs.declared.links.Links.{Links}

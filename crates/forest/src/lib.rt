@@ -1,4 +1,6 @@
 // The groups of stations already joined, as a value: joining two stations hands back the next value.
+use network::limits::MAX_STATIONS;
+ghost use mathlib.Core.List.{map};
 ghost use mathlib.Core.Path.{_≡_};
 ghost use Rattle.spanning.specs.Labelling.{crosses};
 ghost use Rattle.spanning.specs.LabelList.{labelOf, replaced};
@@ -6,14 +8,24 @@ ghost use Rattle.forest.specs.Groups.{apart, joined, link};
 
 // A leader for each station: two stations with one leader are in one group.
 pub struct Forest {
-    pub leader: [u8; 24],
+    pub leader: [u8; MAX_STATIONS],
 }
 
-// The leader that x becomes once the group of `old` is led by `new`.
-fn relabel(x: u8, old: u8, new: u8) -> u8
-    ensures { λ r. ⌜ r ≡ replaced new old x ⌝ }
+// What a leader becomes once the group of `old` is led by `new`.
+fn successor(leader: u8, old: u8, new: u8) -> u8
+    ensures { λ r. ⌜ r ≡ replaced new old leader ⌝ }
 {
-    if x == old { new } else { x }
+    if leader == old { new } else { leader }
+}
+
+// The array of leaders, handed back with the group of `old` led by `new`.
+fn relabel(mut leaders: [u8; MAX_STATIONS], old: u8, new: u8) -> [u8; MAX_STATIONS]
+    ensures { λ r. ⌜ r ≡ map (replaced new old) leaders ⌝ }
+{
+    for i in 0..MAX_STATIONS {
+        leaders[i] = successor(leaders[i], old, new);
+    }
+    leaders
 }
 
 impl Forest {
@@ -56,7 +68,11 @@ impl Forest {
         ensures { λ r. ⌜ r ≡ labelOf (self .leader) v ⌝ }
     {
         let at = v as usize;
-        if at < 24 { self.leader[at] } else { v }
+        if at < MAX_STATIONS {
+            self.leader[at]
+        } else {
+            v
+        }
     }
 
     // Whether stations a and b are in different groups.
@@ -72,10 +88,8 @@ impl Forest {
     {
         let new = self.find(a);
         let old = self.find(b);
-        let mut leader = self.leader;
-        for i in 0..24 {
-            leader[i] = relabel(leader[i], old, new);
-        }
+        let leaders = self.leader;
+        let leader = relabel(leaders, old, new);
         Forest { leader }
     }
 }

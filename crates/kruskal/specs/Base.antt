@@ -36,7 +36,9 @@ module _ (ends : List ℕ) where
   -- they are links of the list
   pub kept-among : (f : Forest) (l : List ℕ) → kept f l ⊆ l
   unfolding kept
-  kept-among f (e ∷ l) x m = go (decide (crosses (labelOf (f .leader)) (endsAt ends e))) (kept-among (joined f (endsAt ends e .a) (endsAt ends e .b)) l x) (kept-among f l x) m
+  kept-among f (e ∷ l) x m =
+      let more = kept-among (joined f (endsAt ends e .a) (endsAt ends e .b)) l x in
+      go (decide (crosses (labelOf (f .leader)) (endsAt ends e))) more (kept-among f l x) m
     where
       go : Decided (crosses (labelOf (f .leader)) (endsAt ends e)) → (x ∈ kept (joined f (endsAt ends e .a) (endsAt ends e .b)) l → x ∈ l)
           → (x ∈ kept f l → x ∈ l) → x ∈ kept f (e ∷ l) → x ∈ e ∷ l

@@ -21,12 +21,13 @@ use Rattle.kruskal.specs.Tree.{added, bare, linked}
 use Rattle.kruskal.specs.Base.{kept}
 use Rattle.kruskal.specs.declared.tree.Tree.{Tree}
 
--- a flag for each link, set for the links of a list
-abbrev pub mark : List Bool → ℕ → List Bool
-mark flags e = set flags e true
+-- the flags with that of link e set
+abbrev pub withFlag : List Bool → ℕ → List Bool
+withFlag flags e = set flags e true
 
-unfoldable pub marks : List ℕ → List Bool
-marks ts = foldl mark (replicate maxLinks false) ts
+-- a flag for each link, set for the links of a list
+unfoldable pub flagsOf : List ℕ → List Bool
+flagsOf ts = foldl withFlag (replicate maxLinks false) ts
 
 -- the links of a list join stations
 abbrev pub Near : List ℕ → List ℕ → Type 0
@@ -37,12 +38,12 @@ module _ (ends sums : List ℕ) where
   pub record Holds (ts : List ℕ) (t : Tree) : Type 0 where
     pub led : Led (t .forest)
     pub labels : labelOf (t .forest .leader) ≡ mergeAll identity (map (endsAt ends) ts)
-    pub flags : t .taken ≡ marks ts
+    pub flags : t .taken ≡ flagsOf ts
     pub total : t .sum ≡ perm.sum (sumAt sums) ts
     pub size : t .count ≡ length ts
 
   pub bare-holds : Holds [] bare
-  unfolding bare marks
+  unfolding bare flagsOf
   bare-holds = record { led = apart-led; labels = fun-ext apart-labels; flags = refl; total = refl; size = refl }
 
   added-labels : (t : Tree) (e : ℕ) → Within maxStations (endsAt ends e) → Led (t .forest)
@@ -51,14 +52,14 @@ module _ (ends sums : List ℕ) where
   added-labels t e w led = joined-labels (t .forest) (endsAt ends e .a) (endsAt ends e .b) led (w .0) (w .1)
 
   added-holds : (ts : List ℕ) (t : Tree) (e : ℕ) → Within maxStations (endsAt ends e) → Holds ts t → Holds (ts ++ (e ∷ [])) (added ends sums t e)
-  unfolding added marks
+  unfolding added flagsOf
   added-holds ts t e w h =
       record {
         led = joined-led (t .forest) (endsAt ends e .a) (endsAt ends e .b) (h .led) (w .0) (w .1);
         labels = added-labels t e w (h .led)
             ∙ ap (λ (L : Labelling). merge L (endsAt ends e)) (h .labels)
             ∙ sym (ap (mergeAll identity) (map-append (endsAt ends) ts (e ∷ [])) ∙ mergeAll-append identity (map (endsAt ends) ts) (endsAt ends e ∷ []));
-        flags = ap (λ (f : List Bool). mark f e) (h .flags) ∙ sym (foldl-append mark (replicate maxLinks false) ts (e ∷ []));
+        flags = ap (λ (f : List Bool). withFlag f e) (h .flags) ∙ sym (foldl-append withFlag (replicate maxLinks false) ts (e ∷ []));
         total = let s = h .total in omega (arith, perm.sum-append (sumAt sums) ts (e ∷ []));
         size = let s = h .size in omega (arith, length-append ts (e ∷ []));
       }
@@ -73,7 +74,8 @@ module _ (ends sums : List ℕ) where
       let far : Near ends l = λ x m. near x (there m) in
       let L : Labelling = labelOf (t .forest .leader) in
       by-test (crosses L (endsAt ends e))
-      (λ c. rw c (subst (λ (M : Labelling). Holds (ts ++ e ∷ kruskal (endsAt ends) M l) (foldl (linked ends sums) (added ends sums t e) l)) (added-labels t e w (h .led))
+      (λ c. rw c (subst (λ (M : Labelling). Holds (ts ++ e ∷ kruskal (endsAt ends) M l) (foldl (linked ends sums) (added ends sums t e) l))
+      (added-labels t e w (h .led))
       (rw append-snoc at (grown-holds (ts ++ (e ∷ [])) (added ends sums t e) l far (added-holds ts t e w h)))))
       (λ c. rw c (grown-holds ts t l far h))
 

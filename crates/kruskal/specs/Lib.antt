@@ -1,9 +1,3 @@
--- the links by cost, then number
-pub mod ByCost
--- keys of links, and their ranks
-pub mod Rank
--- the place of a link in the order
-pub mod Place
 -- a loop that folds a list
 pub mod FoldTake
 -- the forest value that takes one link after another

@@ -5,12 +5,12 @@ use mathlib.Core.List.{List}
 use mathlib.Core.Path.{_≡_}
 use native.Mathlib.Omega.{arith}
 use lib.ListN.{length, getD, set, replicate}
-use Rattle.order.specs.Lists.{_∈_}
-use Rattle.spanning.specs.Labelling.{Edge, crosses}
+use Rattle.order.specs.Lists.{_∈_, getD-mem}
+use Rattle.spanning.specs.Labelling.{crosses}
 use Rattle.spanning.specs.LabelList.{labelOf}
 use Rattle.network.specs.Limits.{maxLinks, maxSum}
 use Rattle.network.specs.Yard.{endsAt, sumAt}
-use Rattle.forest.specs.Groups.{apart, joined, link}
+use Rattle.forest.specs.Groups.{apart, joined}
 use Rattle.kruskal.specs.declared.tree.Tree.{Tree}
 
 -- no link is taken
@@ -31,8 +31,9 @@ added ends sums t e =
 unfoldable pub linked : List ℕ → List ℕ → Tree → ℕ → Tree
 linked ends sums t e = cond (crosses (labelOf (t .forest .leader)) (endsAt ends e)) (added ends sums t e) t
 
--- ---- what a walk needs: two ends and a cost for each of the links, and no sum out of range
+-- ---- what a walk needs
 
+-- there are two ends and a cost for each of the links
 pub record Columns (ends sums : List ℕ) : Type 0 where
   pub ends-size : length ends ≡ 2 * maxLinks
   pub sums-size : length sums ≡ maxLinks
@@ -42,9 +43,14 @@ pub record Usable (sums : List ℕ) (e : ℕ) : Type 0 where
   pub below : e < maxLinks
   pub cheap : sumAt sums e ≤ maxSum
 
+-- a list of such links, with no more of them than a survey may have
 pub record Walkable (sums l : List ℕ) : Type 0 where
   pub few : length l ≤ maxLinks
   pub usable : (e : ℕ) → e ∈ l → Usable sums e
+
+-- the link at a place of the walk is such a link
+pub walk-usable : {sums l : List ℕ} → Walkable sums l → (k : ℕ) → k < length l → Usable sums (getD l k 0)
+walk-usable {l = l} w k h = w .usable (getD l k 0) (getD-mem l k 0 h)
 
 -- a forest of at most j links
 pub record Light (j : ℕ) (t : Tree) : Type 0 where

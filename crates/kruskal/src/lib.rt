@@ -1,4 +1,3 @@
-// Kruskal's method on links in order of cost: the link order, the loop, and the links that it keeps.
-pub mod by_cost;
+// Kruskal's method on links in order of cost: the loop, and the links that it keeps.
 pub mod links;
 pub mod tree;

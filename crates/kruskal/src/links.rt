@@ -1,34 +1,34 @@
 // The links that Kruskal's method keeps with nothing joined before: at most one fewer than there are stations, whatever comes in.
 use forest::Forest;
-ghost use mathlib.Core.Path.{_≡_};
+use network::limits::MAX_LINKS;
 ghost use Rattle.forest.specs.Groups.{apart};
 ghost use Rattle.kruskal.specs.Tree.{Columns, Walkable};
 ghost use Rattle.kruskal.specs.Base.{Holding, kept};
 
-// A list of at most 40 links.
+// A list of links: the first `count` of the array.
 pub struct Links {
-    pub link: [u8; 40],
+    pub link: [u8; MAX_LINKS],
     pub count: usize,
 }
 
-// The links of l that are kept, in the order of l.
-pub fn base_of(ends: &[u8], sums: &[u32], l: &[u8]) -> Links
-    requires { ⌜ Columns (now ends) (now sums) × Walkable (now sums) (now l) ⌝ }
-    ensures { λ r. ⌜ Holding (kept (now (ends .entry)) apart (now (l .entry))) r ⌝ }
+// The links that are kept, in the order in which they come in.
+pub fn base_of(ends: &[u8], sums: &[u32], links: &[u8]) -> Links
+    requires { ⌜ Columns (now ends) (now sums) × Walkable (now sums) (now links) ⌝ }
+    ensures { λ r. ⌜ Holding (kept (now (ends .entry)) apart (now (links .entry))) r ⌝ }
 {
     let mut forest = Forest::new();
-    let mut link = [0u8; 40];
-    let mut n: usize = 0;
-    for k in 0..l.len() {
-        let e = l[k];
-        let i = e as usize;
-        let a = ends[2 * i];
-        let b = ends[2 * i + 1];
+    let mut base = [0u8; MAX_LINKS];
+    let mut count: usize = 0;
+    for at in 0..links.len() {
+        let link = links[at];
+        let number = link as usize;
+        let a = ends[2 * number];
+        let b = ends[2 * number + 1];
         if forest.joins(a, b) {
             forest = forest.join(a, b);
-            link[n] = e;
-            n += 1;
+            base[count] = link;
+            count += 1;
         }
     }
-    Links { link, count: n }
+    Links { link: base, count }
 }

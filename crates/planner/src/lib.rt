@@ -1,5 +1,5 @@
 // The calls open to others. None asks anything of its caller.
-use kruskal::by_cost::order_links;
+use kruskal_order::order_links;
 use network::Answer;
 use network::Checked;
 use network::Refusal;
@@ -7,8 +7,8 @@ use network::Status;
 use planlist::fetch;
 use question::solve;
 use survey::read_survey;
-use trees::costs::tree_costs;
-use trees::drawn::is_tree;
+use trees_costs::tree_costs;
+use trees_drawn::is_tree;
 use walk::list::list_plans;
 ghost use mathlib.Core.Path.{_≡_};
 ghost use lib.ListN.{length};

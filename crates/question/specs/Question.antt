@@ -20,7 +20,7 @@ use Rattle.network.specs.declared.Answer.the-variants.{Plan, Refused}
 use Rattle.network.specs.declared.Costs.{Costs}
 use Rattle.network.specs.declared.Network.{Network}
 use Rattle.network.specs.declared.Refusal.{Refusal}
-use Rattle.trees.specs.TreeCosts.{TreeLinks, tree-links}
+use Rattle.trees_costs.specs.TreeCosts.{TreeLinks, tree-links}
 use Rattle.solver.specs.Answer.{bestFound}
 
 -- the answer, by the best tree under the bounds

@@ -3,14 +3,14 @@ use network::Answer;
 use network::Network;
 use network::Refusal;
 use solver::solve::best_links;
-use trees::costs::tree_costs;
+use trees_costs::tree_costs;
 ghost use mathlib.Core.Path.{_≡_};
 ghost use Prim.Native.Nat.{_≤_};
 ghost use lib.ListN.{length, take};
 ghost use Rattle.network.specs.NetworkFine.{NetworkFine};
 ghost use Rattle.network.specs.Yard.{best, bounds, treeSize};
 ghost use Rattle.network.specs.Calls.{treeWith};
-ghost use Rattle.kruskal.specs.ByCost.{linkOrder};
+ghost use Rattle.kruskal_order.specs.ByCost.{linkOrder};
 ghost use Rattle.question.specs.Question.{answerOf};
 
 // The costs of the best tree under the numbers b1 and b2, with its links in the tree buffer.

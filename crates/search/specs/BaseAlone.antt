@@ -8,13 +8,13 @@ use lib.Dec.{eqb}
 use lib.ListN.{length}
 use Rattle.order.specs.Test.{by-test}
 use Rattle.order.specs.Perm.{sum}
-use Rattle.trees.specs.TreeCosts.{sumOf}
+use Rattle.trees_costs.specs.TreeCosts.{sumOf}
 use Rattle.spanning.specs.Labelling.{crosses}
 use Rattle.spanning.specs.LabelList.{labelOf}
 use Rattle.forest.specs.Groups.{apart, joined}
 use Rattle.kruskal.specs.Tree.{added, bare, linked}
 use Rattle.kruskal.specs.Base.{kept}
-use Rattle.kruskal.specs.Grown.{mark, marks}
+use Rattle.kruskal.specs.Grown.{flagsOf, withFlag}
 use Rattle.kruskal.specs.declared.tree.Tree.{Tree}
 use Rattle.exceptions.specs.Ceilings.{Flagged, admitted}
 use Rattle.search.specs.Search.{beats, considered, nothing, offered}
@@ -23,10 +23,10 @@ use Rattle.network.specs.Yard.{endsAt, sumAt}
 
 -- the base as the best tree so far, where the test holds and it has `goal` links
 unfoldable pub baseAlone : List ℕ → List ℕ → ℕ → Bool → Best
-baseAlone sums base goal ok = cond (ok && eqb (length base) goal) (record { found = true; sum = sum (sumAt sums) base; taken = marks base }) nothing
+baseAlone sums base goal ok = cond (ok && eqb (length base) goal) (record { found = true; sum = sum (sumAt sums) base; taken = flagsOf base }) nothing
 
 pub alone-found : (sums base : List ℕ) (goal : ℕ) (ok : Bool) (total : ℕ) (taken : List Bool) → ok && eqb (length base) goal ≡ true → total ≡ sumOf sums base
-    → taken ≡ marks base → record { found = true; sum = total; taken = taken } ≡ baseAlone sums base goal ok
+    → taken ≡ flagsOf base → record { found = true; sum = total; taken = taken } ≡ baseAlone sums base goal ok
 unfolding baseAlone sumOf
 alone-found sums base goal ok total taken k e f = rw (k, e, f)
 
@@ -41,7 +41,7 @@ pub record Kept (ends base : List ℕ) : Type 0 where
 
 -- a walk over links that are kept takes them all
 pub record Took (sums : List ℕ) (t : Tree) (l : List ℕ) (u : Tree) : Type 0 where
-  pub flags : u .taken ≡ foldl mark (t .taken) l
+  pub flags : u .taken ≡ foldl withFlag (t .taken) l
   pub total : u .sum ≡ t .sum + sum (sumAt sums) l
   pub size : u .count ≡ t .count + length l
 
@@ -69,13 +69,13 @@ module _ (ends sums : List ℕ) (goal : ℕ) (cs : List Flagged) (base : List �
   offered-first u = by-test (eqb (u .count) goal) (λ k. rw k) (λ k. rw k)
 
   pub base-considered : Kept ends base → (b : Best) (ok : Bool) → ok ≡ admitted cs [] → b ≡ baseAlone sums base goal ok → b ≡ considered ends sums goal cs base nothing []
-  unfolding considered baseAlone bare marks
+  unfolding considered baseAlone bare flagsOf
   base-considered made b ok e r =
       let u = foldl (linked ends sums) bare base in
       let took : Took sums bare base u = subst (λ (b : List ℕ). Took sums bare b (foldl (linked ends sums) bare b)) (sym (made .kept-of)) (kept-walk ends sums bare (made .links)) in
       let size : length base ≡ u .count = omega (arith, took .size) in
       let total : sum (sumAt sums) base ≡ u .sum = omega (arith, took .total) in
-      let flags : marks base ≡ u .taken = sym (took .flags) in
+      let flags : flagsOf base ≡ u .taken = sym (took .flags) in
       r ∙ by-test ok
       (λ k. rw (k, sym e ∙ k) ((λ i. cond (eqb (size i) goal) (record { found = true; sum = total i; taken = flags i }) nothing) ∙ sym (offered-first u)))
       (λ k. rw (k, sym e ∙ k))

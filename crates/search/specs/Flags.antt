@@ -18,7 +18,7 @@ use Rattle.order.specs.Order.{dictionaryLe, le-refl, orderℕ}
 use Rattle.order.specs.Sorted.{Apart, ascending, mem-sort, rising-unique, sort-mem, sort-rising}
 use Rattle.spanning.specs.Rising.{RisingIn, rising-in, rising-weaken}
 use Rattle.network.specs.Limits.{maxLinks}
-use Rattle.kruskal.specs.Grown.{mark, marks}
+use Rattle.kruskal.specs.Grown.{flagsOf, withFlag}
 
 -- the links with a flag, rising, where the first flag is that of link e
 unfoldable pub rising : ℕ → List Bool → List ℕ
@@ -53,60 +53,60 @@ flag-rising e (suc i) x (false ∷ flags) q f = flag-rising (suc e) i x flags (o
 
 -- ---- the flags of links
 
-mark-flag : (flags : List Bool) (e x : ℕ) → x < length flags → (x ≡ e) ⊎ (getD flags x false ≡ true) → getD (mark flags e) x false ≡ true
+mark-flag : (flags : List Bool) (e x : ℕ) → x < length flags → (x ≡ e) ⊎ (getD flags x false ≡ true) → getD (withFlag flags e) x false ≡ true
 mark-flag flags e x h s = go (ℕ-discrete x e) s
   where
-    go : Dec (x ≡ e) → (x ≡ e) ⊎ (getD flags x false ≡ true) → getD (mark flags e) x false ≡ true
+    go : Dec (x ≡ e) → (x ≡ e) ⊎ (getD flags x false ≡ true) → getD (withFlag flags e) x false ≡ true
     go (yes q) s = rw (← q) (getD-set-same flags x true false h)
     go (no n) (inl q) = absurd (n q)
     go (no n) (inr f) = getD-set-other flags e x true false n ∙ f
 
-flag-mark : (flags : List Bool) (e x : ℕ) → getD (mark flags e) x false ≡ true → (x ≡ e) ⊎ (getD flags x false ≡ true)
+flag-mark : (flags : List Bool) (e x : ℕ) → getD (withFlag flags e) x false ≡ true → (x ≡ e) ⊎ (getD flags x false ≡ true)
 flag-mark flags e x f = go (ℕ-discrete x e)
   where
     go : Dec (x ≡ e) → (x ≡ e) ⊎ (getD flags x false ≡ true)
     go (yes q) = inl q
     go (no n) = inr (sym (getD-set-other flags e x true false n) ∙ f)
 
-marks-from : (ts : List ℕ) (flags : List Bool) (x : ℕ) → x < length flags → (x ∈ ts) ⊎ (getD flags x false ≡ true) → getD (foldl mark flags ts) x false ≡ true
+marks-from : (ts : List ℕ) (flags : List Bool) (x : ℕ) → x < length flags → (x ∈ ts) ⊎ (getD flags x false ≡ true) → getD (foldl withFlag flags ts) x false ≡ true
 marks-from [] flags x h (inl m) = elim m [ ]
 marks-from [] flags x h (inr f) = f
-marks-from (t ∷ ts) flags x h s = marks-from ts (mark flags t) x (omega (arith, length-set flags t true)) (go s)
+marks-from (t ∷ ts) flags x h s = marks-from ts (withFlag flags t) x (omega (arith, length-set flags t true)) (go s)
   where
-    go : (x ∈ t ∷ ts) ⊎ (getD flags x false ≡ true) → (x ∈ ts) ⊎ (getD (mark flags t) x false ≡ true)
+    go : (x ∈ t ∷ ts) ⊎ (getD flags x false ≡ true) → (x ∈ ts) ⊎ (getD (withFlag flags t) x false ≡ true)
     go (inl m) = ⊎-elim (λ q. inr (mark-flag flags t x h (inl q))) (λ n. inl n) (List·Memᴰ·cases-cons m)
     go (inr f) = inr (mark-flag flags t x h (inr f))
 
-marks-to : (ts : List ℕ) (flags : List Bool) (x : ℕ) → getD (foldl mark flags ts) x false ≡ true → (x ∈ ts) ⊎ (getD flags x false ≡ true)
+marks-to : (ts : List ℕ) (flags : List Bool) (x : ℕ) → getD (foldl withFlag flags ts) x false ≡ true → (x ∈ ts) ⊎ (getD flags x false ≡ true)
 marks-to [] flags x f = inr f
 marks-to (t ∷ ts) flags x f =
-    ⊎-elim (λ m. inl (there m)) (λ g. ⊎-elim (λ q. inl (here q)) (λ k. inr k) (flag-mark flags t x g)) (marks-to ts (mark flags t) x f)
+    ⊎-elim (λ m. inl (there m)) (λ g. ⊎-elim (λ q. inl (here q)) (λ k. inr k) (flag-mark flags t x g)) (marks-to ts (withFlag flags t) x f)
 
 no-flag : (n x : ℕ) → getD (replicate n false) x false ≡ true → ⊥
 no-flag zero x f = clash f refl
 no-flag (suc n) zero f = clash f refl
 no-flag (suc n) (suc x) f = no-flag n x f
 
-pub marks-length : (ts : List ℕ) → length (marks ts) ≡ maxLinks
-unfolding marks
+pub marks-length : (ts : List ℕ) → length (flagsOf ts) ≡ maxLinks
+unfolding flagsOf
 marks-length ts = go ts (replicate maxLinks false) ∙ length-replicate maxLinks false
   where
-    go : (ts : List ℕ) (flags : List Bool) → length (foldl mark flags ts) ≡ length flags
+    go : (ts : List ℕ) (flags : List Bool) → length (foldl withFlag flags ts) ≡ length flags
     go [] flags = refl
-    go (t ∷ ts) flags = go ts (mark flags t) ∙ length-set flags t true
+    go (t ∷ ts) flags = go ts (withFlag flags t) ∙ length-set flags t true
 
 -- the flags of links of which none stands twice give these links back in rising order
-pub marks-rising : (ts : List ℕ) → Apart (λ x. x) ts → ((t : ℕ) → t ∈ ts → t < maxLinks) → rising 0 (marks ts) ≡ ascending ts
-unfolding marks
+pub marks-rising : (ts : List ℕ) → Apart (λ x. x) ts → ((t : ℕ) → t ∈ ts → t < maxLinks) → rising 0 (flagsOf ts) ≡ ascending ts
+unfolding flagsOf
 marks-rising ts apart below =
-    rising-unique orderℕ (λ x. x) (rising 0 (marks ts)) (ascending ts)
-    (rising-in 0 (length (marks ts)) (rising 0 (marks ts)) (rising-range 0 (length (marks ts)) (marks ts) (zero-add (length (marks ts)))))
+    rising-unique orderℕ (λ x. x) (rising 0 (flagsOf ts)) (ascending ts)
+    (rising-in 0 (length (flagsOf ts)) (rising 0 (flagsOf ts)) (rising-range 0 (length (flagsOf ts)) (flagsOf ts) (zero-add (length (flagsOf ts)))))
     (sort-rising orderℕ (λ x. x) ts apart)
-    (λ x m. let r = rising-flag 0 x (marks ts) m in
+    (λ x m. let r = rising-flag 0 x (flagsOf ts) m in
     let q : x ≡ r .0 = omega arith in
     ⊎-elim (λ k. mem-sort orderℕ (λ x. x) (Memᴰ·cast q k)) (λ f. absurd (no-flag maxLinks (r .0) f)) (marks-to ts (replicate maxLinks false) (r .0) (r .2)))
     (λ x m. let k = sort-mem orderℕ (λ x. x) ts m in
-    flag-rising 0 x x (marks ts) (sym (zero-add x)) (marks-from ts (replicate maxLinks false) x (below x k) (inl k)))
+    flag-rising 0 x x (flagsOf ts) (sym (zero-add x)) (marks-from ts (replicate maxLinks false) x (below x k) (inl k)))
 
 -- ---- which of two trees comes first
 

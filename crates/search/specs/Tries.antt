@@ -18,7 +18,7 @@ use Rattle.order.specs.Perm.{sum}
 use Rattle.order.specs.Sorted.{Sorted}
 use Rattle.network.specs.declared.Network.{Network}
 use Rattle.network.specs.Yard.{sumAt}
-use Rattle.kruskal.specs.ByCost.{linkOrder}
+use Rattle.kruskal_order.specs.ByCost.{linkOrder}
 use Rattle.forest.specs.Groups.{apart}
 use Rattle.kruskal.specs.Tree.{Light, Usable, Walkable, bare, light-linked, light-up, linked}
 use Rattle.kruskal.specs.Base.{kept}

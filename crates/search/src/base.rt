@@ -1,17 +1,17 @@
 // The base alone as the best tree so far.
 use crate::best::Best;
-use trees::costs::sum_of;
+use trees_costs::sum_of;
 ghost use mathlib.Core.Path.{_≡_};
 ghost use lib.ListN.{length};
 ghost use Rattle.network.specs.Limits.{maxLinks};
-ghost use Rattle.kruskal.specs.Grown.{marks};
+ghost use Rattle.kruskal.specs.Grown.{flagsOf};
 ghost use Rattle.kruskal.specs.Tree.{Walkable};
 ghost use Rattle.search.specs.BaseAlone.{baseAlone};
 
 // A flag for each link, set for the links of l.
 fn flags_of(sums: &[u32], l: &[u8]) -> [bool; 40]
     requires { ⌜ Walkable (now sums) (now l) ⌝ }
-    ensures { λ r. ⌜ r ≡ marks (now (l .entry)) ⌝ }
+    ensures { λ r. ⌜ r ≡ flagsOf (now (l .entry)) ⌝ }
 {
     let mut taken = [false; 40];
     for k in 0..l.len() {

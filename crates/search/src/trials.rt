@@ -7,7 +7,7 @@ use exceptions::ceilings::admits;
 use exceptions::ceilings::admits_alone;
 use kruskal::tree::empty;
 use kruskal::tree::grow;
-use trees::costs::sum_at;
+use trees_costs::sum_at;
 ghost use mathlib.Core.Path.{_≡_};
 ghost use mathlib.Core.Bool.{true};
 ghost use mathlib.Core.List.{_∷_, []};

@@ -12,7 +12,7 @@ use Rattle.network.specs.Yard.{best, bounds, sumAt, treeSize}
 use Rattle.network.specs.Calls.{isNone, linksOf, treeWith}
 use Rattle.network.specs.NetworkFine.{NetworkFine}
 use Rattle.network.specs.declared.Network.{Network}
-use Rattle.kruskal.specs.ByCost.{linkOrder}
+use Rattle.kruskal_order.specs.ByCost.{linkOrder}
 use Rattle.search.specs.Flags.{rising}
 use Rattle.solver.specs.Buffer.{put-front, putAt}
 use Rattle.exceptions.specs.Two.{twoOf}

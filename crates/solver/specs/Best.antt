@@ -26,7 +26,7 @@ use Rattle.network.specs.Yard.{best, bounds, endsAt, graph, ranks, sumAt, trees
 use Rattle.network.specs.NetworkFine.{NetworkFine, graph-sound}
 use Rattle.network.specs.declared.Network.{Network}
 use Rattle.forest.specs.Groups.{apart, apart-labels, apart-led}
-use Rattle.kruskal.specs.ByCost.{linkOrder, order-below}
+use Rattle.kruskal_order.specs.ByCost.{linkOrder, order-below}
 use Rattle.kruskal.specs.Base.{kept}
 use Rattle.kruskal.specs.Grown.{kept-kruskal}
 use Rattle.solver.specs.Filter.{filter-ext, filter-sort}

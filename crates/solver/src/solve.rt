@@ -16,7 +16,7 @@ ghost use Rattle.network.specs.Calls.{treeWith};
 ghost use Rattle.network.specs.Yard.{best, bounds, treeSize};
 ghost use Rattle.network.specs.NetworkFine.{NetworkFine};
 ghost use Rattle.forest.specs.Groups.{apart};
-ghost use Rattle.kruskal.specs.ByCost.{linkOrder};
+ghost use Rattle.kruskal_order.specs.ByCost.{linkOrder};
 ghost use Rattle.kruskal.specs.Tree.{Columns};
 ghost use Rattle.kruskal.specs.Base.{kept};
 ghost use Rattle.exceptions.specs.Select.{InOrder};

@@ -20,7 +20,7 @@ use Rattle.network.specs.Walk.{positionCount, positions, values}
 use Rattle.network.specs.PlanList.{bufferNeed, costsOf, headSize, planSize, planSlots}
 use Rattle.network.specs.NetworkFine.{NetworkFine, graph-sound}
 use Rattle.network.specs.declared.Network.{Network}
-use Rattle.kruskal.specs.ByCost.{linkOrder}
+use Rattle.kruskal_order.specs.ByCost.{linkOrder}
 use Rattle.planlist.specs.Stored.{absent, costs-padded}
 use Rattle.marking.specs.Place.{placeIn, placesOf}
 use Rattle.marking.specs.Slots.{ceilingValues, rank-count, value-count}

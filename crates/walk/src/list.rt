@@ -1,6 +1,6 @@
 // The list of plans.
 use crate::visit::solve_at;
-use kruskal::by_cost::order_links;
+use kruskal_order::order_links;
 use marking::mark::next_unmarked;
 use marking::values::ceiling_values;
 use network::Network;

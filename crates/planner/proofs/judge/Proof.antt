@@ -3,7 +3,7 @@ use borrow.Author.Needs.{needs}
 use mathlib.Core.Path.{sym, _∙_}
 use denote.Ref.{now}
 use Rattle.survey.specs.Survey.{Read, read-accepted, read-checked}
-use Rattle.trees.specs.TreeCosts.{tree-links}
+use Rattle.trees_costs.specs.TreeCosts.{tree-links}
 use Rattle.planner.specs.Judge.{judged-no-tree, judged-refused, judged-tree}
 use Rattle.planner.proofs.judge.Statement.{statement}
 use Rattle.planner.proofs.judge.Tie as tie

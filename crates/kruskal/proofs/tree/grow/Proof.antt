@@ -1,4 +1,4 @@
--- After k turns the four locals are the fold over the first k links.
+-- After `at` turns the four locals are the fold over the first `at` links.
 use Prim.Native.Nat.{ℕ, _+_, _-_, _*_, _≤_, _<_}
 use mathlib.Core.Bool.{Bool}
 use mathlib.Core.List.{List, foldl}
@@ -8,10 +8,10 @@ use native.Mathlib.Omega.{arith}
 use borrow.Author.Needs.{needs}
 use lib.ListN.{length-set, length, take, getD}
 use lib.Seq.{take-all}
-use Rattle.order.specs.Lists.{getD-mem}
+use Rattle.network.specs.Limits.{maxLinks, maxSum}
 use Rattle.forest.specs.declared.Forest.{Forest}
 use Rattle.kruskal.specs.FoldTake.{foldl-turn}
-use Rattle.kruskal.specs.Tree.{Usable, added, linked, linked-adds}
+use Rattle.kruskal.specs.Tree.{Usable, added, linked, linked-adds, walk-usable}
 use Rattle.kruskal.specs.declared.tree.Tree.{Tree}
 use Rattle.kruskal.proofs.tree.grow.Statement.{statement}
 use Rattle.kruskal.proofs.tree.grow.Tie as tie
@@ -21,26 +21,32 @@ abbrev whole : Forest → List Bool → ℕ → ℕ → Tree
 whole f taken sum count = record { forest = f; taken = taken; sum = sum; count = count }
 
 abbrev Inv-loop : tie.InvT-loop
-Inv-loop ends sums l forest₀ taken₀ sum₀ count₀ k₀ k-end forest taken sum count k = (k ≤ k-end) × (k-end ≡ length l) × (length taken ≡ 40) × (whole forest taken sum count ≡ foldl (linked ends sums) (whole forest₀ taken₀ sum₀ count₀) (take k l)) × (sum ≤ sum₀ + k * 1_000_000) × (count ≤ count₀ + k)
+Inv-loop ends sums links forest₀ taken₀ sum₀ count₀ at₀ at-end forest taken sum count at =
+    (at ≤ at-end) × (at-end ≡ length links) × (length taken ≡ maxLinks)
+    × (whole forest taken sum count ≡ foldl (linked ends sums) (whole forest₀ taken₀ sum₀ count₀) (take at links))
+    × (sum ≤ sum₀ + at * maxSum) × (count ≤ count₀ + at)
 
 abbrev μ-loop : tie.MeasureT-loop
-μ-loop ends sums l forest₀ taken₀ sum₀ count₀ k₀ k-end forest taken sum count k = k-end - k
+μ-loop ends sums links forest₀ taken₀ sum₀ count₀ at₀ at-end forest taken sum count at = at-end - at
+
+-- what the function is given
+abbrev start : tie.In-loop Inv-loop μ-loop → tie.Start Inv-loop μ-loop
+start c = c .before .before .before .before .before .before .before
 
 -- the link at a turn
-usable : (c : tie.In-loop Inv-loop μ-loop) → let i = c .before .before .before .before .before .before .before .args in Usable (i .sums .now) (getD (i .l .now) (c .before .loop .k) 0)
+usable : (c : tie.In-loop Inv-loop μ-loop) → Usable (start c .args .sums .now) (getD (start c .args .links .now) (c .before .loop .at) 0)
 usable c =
-    let i = c .before .before .before .before .before .before .before in
-    let h : c .before .loop .k < length (i .args .l .now) = omega arith in
-    i .pre .1 .usable _ (getD-mem _ _ 0 h)
+    let h : c .before .loop .at < length (start c .args .links .now) = omega arith in
+    walk-usable (start c .pre .1) _ h
 
 loop-holds : tie.Need-loop-holds Inv-loop μ-loop
 loop-holds c = (omega arith, refl, search needs, refl, omega arith, omega arith)
 
-shared-slice-read-i : tie.Need-shared-slice-read-i Inv-loop μ-loop
-shared-slice-read-i c = search needs
+shared-slice-read-link : tie.Need-shared-slice-read-link Inv-loop μ-loop
+shared-slice-read-link c = search needs
 
-cast-i : tie.Need-cast-i Inv-loop μ-loop
-cast-i c = let u = usable (c .before) in omega arith
+cast-link : tie.Need-cast-link Inv-loop μ-loop
+cast-link c = let u = usable (c .before) in omega arith
 
 mul-a : tie.Need-mul-a Inv-loop μ-loop
 mul-a c = let u = usable (c .before) in omega arith
@@ -73,19 +79,29 @@ shared-slice-read-sum : tie.Need-shared-slice-read-sum Inv-loop μ-loop
 shared-slice-read-sum c = let u = usable (c .before .before .before .before .before .before .before) in omega arith
 
 add-sum : tie.Need-add-sum Inv-loop μ-loop
-add-sum c = let u = usable (c .before .before .before .before .before .before .before) in omega (arith, c .before .before .before .before .before .before .before .before .before .before .before .before .before .before .pre .1 .few, c .before .before .before .before .before .before .before .before .before .before .before .before .before .before .pre .2)
+add-sum c =
+    let turn = c .before .before .before .before .before .before .before in
+    let u = usable turn in
+    omega (arith, start turn .pre .1 .few, start turn .pre .2)
 
 add-count : tie.Need-add-count Inv-loop μ-loop
-add-count c = let u = usable (c .before .before .before .before .before .before .before) in omega (arith, c .before .before .before .before .before .before .before .before .before .before .before .before .before .before .pre .1 .few, c .before .before .before .before .before .before .before .before .before .before .before .before .before .before .pre .2)
+add-count c =
+    let turn = c .before .before .before .before .before .before .before in
+    let u = usable turn in
+    omega (arith, start turn .pre .1 .few, start turn .pre .2)
 
-add-k : tie.Need-add-k Inv-loop μ-loop
-add-k c = search needs
+add-at : tie.Need-add-at Inv-loop μ-loop
+add-at c = search needs
 
 loop-less : tie.Need-loop-less Inv-loop μ-loop
 loop-less c = search needs
 
 -- the turn is Kruskal's rule
-turned : (c : tie.Joined1 Inv-loop μ-loop) → let i = c .before .before .before .before .before .before .before .before .before .before .before .before .args in let v = c .before .before .before .before .before .before .loop in whole (c .if1 .forest) (c .if1 .taken) (c .if1 .sum) (c .if1 .count) ≡ linked (i .ends .now) (i .sums .now) (whole (v .forest) (v .taken) (v .sum) (v .count)) (getD (i .l .now) (v .k) 0)
+turned : (c : tie.Joined1 Inv-loop μ-loop) → let t = c .before .before .before .before .before in
+    let i = start t .args in
+    let v = t .before .loop in
+    whole (c .if1 .forest) (c .if1 .taken) (c .if1 .sum) (c .if1 .count)
+    ≡ linked (i .ends .now) (i .sums .now) (whole (v .forest) (v .taken) (v .sum) (v .count)) (getD (i .links .now) (v .at) 0)
 unfolding linked added
 turned c =
     ⊎-elim
@@ -93,23 +109,26 @@ turned c =
     (λ w. rw (w .1, w .2, w .3, w .4, ← c .before .joins .ensures, w .0 .left))
     (c .if1 .came)
 
-length-taken : (c : tie.Joined1 Inv-loop μ-loop) → length (c .if1 .taken) ≡ 40
+length-taken : (c : tie.Joined1 Inv-loop μ-loop) → length (c .if1 .taken) ≡ maxLinks
 length-taken c =
-    let v = c .before .before .before .before .before .before .loop .inv in
-    ⊎-elim (λ w. rw (w .4) (simp length-set (v .2))) (λ w. rw (w .2) (v .2)) (c .if1 .came)
+    let size = c .before .before .before .before .before .before .loop .inv .2 in
+    ⊎-elim (λ w. rw (w .4) (simp length-set size)) (λ w. rw (w .2) size) (c .if1 .came)
 
 loop-again : tie.Need-loop-again Inv-loop μ-loop
-loop-again c = let v = c .before .before .before .before .before .before .loop in
-    let i = c .before .before .before .before .before .before .before .before .before .before .before .before .args in
-    let h : v .k < length (i .l .now) = omega arith in
-    let u = usable (c .before .before .before .before .before) in
+loop-again c =
+    let turn = c .before .before .before .before .before in
+    let v = turn .before .loop in
+    let h : v .at < length (start turn .args .links .now) = omega arith in
+    let u = usable turn in
     let adds = linked-adds _ _ _ _ (turned c) in
     (omega arith, refl, length-taken c, foldl-turn _ 0 _ _ _ _ _ h (v .inv .3) (turned c), omega arith, omega arith)
 
 returns : tie.Need-returns Inv-loop μ-loop
-returns c = let v = c .before .loop in
-    let h : length (c .before .before .before .before .before .before .before .args .l .now) ≤ v .k = omega arith in
-    rw (take-all (v .k) (c .before .before .before .before .before .before .before .args .l .now) h) at (v .inv .3)
+returns c =
+    let v = c .before .loop in
+    let links = c .before .before .before .before .before .before .before .args .links .now in
+    let h : length links ≤ v .at = omega arith in
+    rw (take-all (v .at) links h) at (v .inv .3)
 
 pub grow-spec : {M : Type 1} → statement M
 grow-spec =
@@ -118,8 +137,8 @@ grow-spec =
     Inv-loop
     μ-loop
     loop-holds
-    shared-slice-read-i
-    cast-i
+    shared-slice-read-link
+    cast-link
     mul-a
     shared-slice-read-a
     mul-b
@@ -132,7 +151,7 @@ grow-spec =
     shared-slice-read-sum
     add-sum
     add-count
-    add-k
+    add-at
     loop-less
     loop-again
     returns)

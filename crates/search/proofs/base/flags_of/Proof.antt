@@ -9,12 +9,12 @@ use lib.ListN.{getD, length, replicate, take}
 use lib.Seq.{take-all}
 use Rattle.order.specs.Lists.{getD-mem}
 use Rattle.kruskal.specs.FoldTake.{foldl-turn}
-use Rattle.kruskal.specs.Grown.{mark, marks}
+use Rattle.kruskal.specs.Grown.{flagsOf, withFlag}
 use Rattle.search.proofs.base.flags_of.Statement.{statement}
 use Rattle.search.proofs.base.flags_of.Tie as tie
 
 abbrev Inv-loop : tie.InvT-loop
-Inv-loop sums l taken₀ k₀ k-end taken k = (k-end ≡ length l) × (length taken ≡ 40) × (taken ≡ foldl mark (replicate 40 false) (take k l))
+Inv-loop sums l taken₀ k₀ k-end taken k = (k-end ≡ length l) × (length taken ≡ 40) × (taken ≡ foldl withFlag (replicate 40 false) (take k l))
 
 abbrev μ-loop : tie.MeasureT-loop
 μ-loop sums l taken₀ k₀ k-end taken k = k-end - k
@@ -47,10 +47,10 @@ loop-again : tie.Need-loop-again Inv-loop μ-loop
 loop-again c =
     let v = c .before .before .loop in
     let h : v .k < length (c .before .before .before .args .l .now) = omega arith in
-    (refl, search needs, foldl-turn mark 0 _ _ _ _ _ h (v .inv .2) refl)
+    (refl, search needs, foldl-turn withFlag 0 _ _ _ _ _ h (v .inv .2) refl)
 
 returns : tie.Need-returns Inv-loop μ-loop
-unfolding marks
+unfolding flagsOf
 returns c =
     let v = c .before .loop in
     let h : length (c .before .before .args .l .now) ≤ v .k = omega arith in

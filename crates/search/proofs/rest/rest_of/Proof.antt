@@ -7,7 +7,7 @@ use borrow.Author.Needs.{needs}
 use lib.ListN.{length, take}
 use lib.Seq.{length-take-le}
 use denote.Ref.{now}
-use Rattle.trees.specs.TreeCosts.{sumOf}
+use Rattle.trees_costs.specs.TreeCosts.{sumOf}
 use Rattle.search.specs.Rest.{first-fits, first-known, rest-enough, rest-few}
 use Rattle.search.proofs.rest.rest_of.Statement.{statement}
 use Rattle.search.proofs.rest.rest_of.Tie as tie

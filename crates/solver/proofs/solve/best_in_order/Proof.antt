@@ -3,7 +3,7 @@ use mathlib.Core.Path.{sym, ap, _∙_}
 use borrow.Author.Needs.{needs}
 use lib.ListN.{length}
 use mir.Facts.{toZ-ofZ}
-use Rattle.kruskal.specs.ByCost.{order-length}
+use Rattle.kruskal_order.specs.ByCost.{order-length}
 use Rattle.exceptions.specs.Select.{order-in-order}
 use Rattle.exceptions.specs.Two.{flags-length}
 use Rattle.search.specs.Tries.{assembled-network}

@@ -1,0 +1,2 @@
+-- a list gone through link by link: when it is a tree
+pub mod Drawn

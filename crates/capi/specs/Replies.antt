@@ -16,7 +16,7 @@ use Rattle.network.specs.declared.Answer.{Answer}
 use Rattle.network.specs.declared.Answer.the-variants.{Plan, Refused}
 use Rattle.network.specs.declared.Costs.{Costs}
 use Rattle.network.specs.declared.Refusal.{Refusal}
-use Rattle.planlist.specs.Fetched.{found, links-found, links-none, plan-inside, start-found, start-none}
+use Rattle.planlist_fetching.specs.Fetched.{found, links-found, links-none, plan-inside, start-found, start-none}
 use Rattle.capi.specs.declared.Reply.{Reply}
 use Rattle.capi.specs.declared.Part.{Part}
 

@@ -19,7 +19,7 @@ use Rattle.network.specs.NetworkFine.{position-limit, survey-fine, survey-sound
 use Rattle.network.specs.Promise.{Complete, demand-3}
 use Rattle.network.specs.declared.Checked.the-variants.{Fine}
 use Rattle.network.specs.declared.Status.{Status}
-use Rattle.planlist.specs.Fetched.{filled-links, filled-number}
+use Rattle.planlist_fetching.specs.Fetched.{filled-links, filled-number}
 
 -- what a list call that replied r and left these bytes in its buffer has delivered
 pub record Delivered (s : List ℕ) (size : ℕ) (r : Status) (left : List ℕ) : Type 0 where

@@ -4,7 +4,6 @@ use network::Answer;
 use network::Checked;
 use network::Refusal;
 use network::Status;
-use planlist::fetch;
 use question::solve;
 use survey::read_survey;
 use trees::costs::tree_costs;
@@ -80,12 +79,12 @@ pub fn list(survey: &[u8], allowance: u32, buffer: &mut [u8]) -> Status
 pub fn fetch_number(list: &[u8], r: u32) -> u8
     ensures { λ n. ⌜ n ≡ fetchNumber (now (list .entry)) r ⌝ }
 {
-    fetch::fetch_number(list, r)
+    planlist_fetching::fetch_number(list, r)
 }
 
 // The link bytes of plan r, a part of the list; an empty part if the number is not 0.
 pub fn fetch_links<'a>(list: &'a [u8], r: u32) -> &'a [u8]
     ensures { λ part. ⌜ now part ≡ fetchLinks (now (list .entry)) r ⌝ }
 {
-    fetch::fetch_links(list, r)
+    planlist_fetching::fetch_links(list, r)
 }

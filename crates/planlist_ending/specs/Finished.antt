@@ -9,8 +9,8 @@ use lib.Seq.{length-take-le}
 use Rattle.frontier.specs.Frontier.{Problem}
 use Rattle.network.specs.PlanList.{headBytes, headSize, join, planSize, planSlots}
 use Rattle.network.specs.declared.Costs.{Costs}
-use Rattle.planlist_records.specs.Blocks.{blocks, join-blocks}
-use Rattle.planlist_records.specs.Records.{encode}
+use Rattle.planlist_records.specs.Blocks.{join-blocks}
+use Rattle.planlist_records.specs.Records.{encode, planRecords}
 use Rattle.planlist_insertion.specs.Stored.{Holds, holds-count}
 
 -- a buffer of `size` bytes that begins with these and is 0 after them
@@ -19,12 +19,12 @@ thenZeros size list = list ++ replicate (size - length list) 0
 
 -- the buffer bs, finished: the head, the `count` records behind its place, and zeros
 unfoldable pub finished : List ℕ → ℕ → ℕ → ℕ → ℕ → List ℕ
-finished bs count solved t p = thenZeros (length bs) (headBytes count solved t p ++ join (blocks (planSize planSlots t) count (drop headSize bs)))
+finished bs count solved t p = thenZeros (length bs) (headBytes count solved t p ++ join (planRecords t count (drop headSize bs)))
 
 -- the same by the bytes
 pub finished-bytes : (bs : List ℕ) (count solved t p : ℕ) → headSize + count * planSize planSlots t ≤ length bs
-    → finished bs count solved t p
-    ≡ headBytes count solved t p ++ (take (count * planSize planSlots t) (drop headSize bs) ++ replicate (length bs - (headSize + count * planSize planSlots t)) 0)
+    → let n = count * planSize planSlots t in
+    finished bs count solved t p ≡ headBytes count solved t p ++ (take n (drop headSize bs) ++ replicate (length bs - (headSize + n)) 0)
 unfolding finished
 finished-bytes bs count solved t p h =
     let n = count * planSize planSlots t in
@@ -37,8 +37,8 @@ finished-bytes bs count solved t p h =
     ∙ append-assoc head part (replicate (length bs - (headSize + n)) 0)
 
 -- A buffer that holds the plans l behind the head's place: finished, it is their list.
-pub finished-list : {S : Type 0} (P : Problem ℤ S) (costs : S → Costs) (links : S → List ℕ) (pad : List ℤ) (bs : List ℕ) (solved t p : ℕ) {count : ℕ} {l : List S}
-    → Holds P costs links pad (planSize planSlots t) count (drop headSize bs) l
+pub finished-list : {S : Type 0} (P : Problem ℤ S) (costs : S → Costs) (links : S → List ℕ) (pad : List ℤ) (bs : List ℕ) (solved t p : ℕ)
+    {count : ℕ} {l : List S} → Holds P costs links pad (planSize planSlots t) count (drop headSize bs) l
     → finished bs count solved t p ≡ thenZeros (length bs) (headBytes (length l) solved t p ++ join (map (encode costs links) l))
 unfolding finished
 finished-list P costs links pad bs solved t p {count} {l} h =

@@ -15,7 +15,9 @@ same-length : tie.Need-same-length
 same-length c = search needs
 
 returns : tie.Need-returns
-returns c = c .before .before .clear-from .ensures ∙ ap (λ (n : ℕ). replicate n 0) (sub-zero (length (now (c .before .before .before .before .before .args .out))))
+returns c =
+    let a = c .before .before .before .before .before .args in
+    c .before .before .clear-from .ensures ∙ ap (λ (n : ℕ). replicate n 0) (sub-zero (length (now (a .out))))
 
 pub clear-spec : {M : Type 1} → statement M
 clear-spec = tie.close (tie.spec clear-from-requires same-length returns)

@@ -4,17 +4,22 @@ use Prim.Native.Nat.{ℕ, _+_, _-_}
 use native.Mathlib.Omega.{arith}
 use lib.ListN.{take, drop}
 use denote.Ref.{now}
-use Rattle.network.specs.Fetching.{headTreeSize}
+use Rattle.network.specs.PlanList.{planSize, planSlots}
+use Rattle.network.specs.Fetching.{fetchNumber, headTreeSize}
 use Rattle.planlist_fetching.specs.Fetched.{found, links-found, links-none}
 use borrow.Author.Needs.{needs}
 use Rattle.planlist_fetching.proofs.fetch_links.Statement.{statement}
 use Rattle.planlist_fetching.proofs.fetch_links.Tie as tie
 
+-- the plan is found
+is-found : (c : tie.Then1) → let a = c .before .before .before .args in fetchNumber (now (a .list)) (a .r) ≡ 0
+is-found c = sym (c .before .fetch-number .ensures) ∙ c .if1 .taken
+
 fetch-number-requires : tie.Need-fetch-number-requires
 fetch-number-requires c κs = search needs
 
 plan-start-requires : tie.Need-plan-start-requires
-plan-start-requires c κs = found (now (c .before .before .before .args .list)) (c .before .before .before .args .r) (sym (c .before .fetch-number .ensures) ∙ c .if1 .taken)
+plan-start-requires c κs = let a = c .before .before .before .args in found (now (a .list)) (a .r) (is-found c)
 
 add-start : tie.Need-add-start
 add-start c = search needs
@@ -39,13 +44,16 @@ part-result-end c = search needs
 
 returns : tie.Need-returns
 returns c =
-    let l = now (c .before .before .before .before .before .before .before .args .list) in
+    let then = c .before .before .before .before in
+    let a = then .before .before .before .args in
+    let l = now (a .list) in
     let at = c .before .before .before .plan-start in
     let size = c .before .plan-size in
-    let e : at .result + size .result - (at .result + 10) ≡ headTreeSize l = omega (arith, size .ensures) in
-    ap (λ (k : ℕ). take k (drop (at .result + 10) l)) e
-    ∙ ap (λ (k : ℕ). take (headTreeSize l) (drop (k + 10) l)) (at .ensures .0)
-    ∙ sym (links-found l (c .before .before .before .before .before .before .before .args .r) (sym (c .before .before .before .before .before .fetch-number .ensures) ∙ c .before .before .before .before .if1 .taken))
+    let front = planSize planSlots 0 in
+    let e : at .result + size .result - (at .result + front) ≡ headTreeSize l = omega (arith, size .ensures) in
+    ap (λ (k : ℕ). take k (drop (at .result + front) l)) e
+    ∙ ap (λ (k : ℕ). take (headTreeSize l) (drop (k + front) l)) (at .ensures .0)
+    ∙ sym (links-found l (a .r) (is-found then))
 
 sub-result-2 : tie.Need-sub-result-2
 sub-result-2 c = search needs
@@ -57,7 +65,9 @@ part-result-end-2 : tie.Need-part-result-end-2
 part-result-end-2 c = search needs
 
 returns-2 : tie.Need-returns-2
-returns-2 c = sym (links-none (now (c .before .before .before .before .args .list)) (c .before .before .before .before .args .r) (λ e. c .before .if1 .left (c .before .before .fetch-number .ensures ∙ e)))
+returns-2 c =
+    let s = c .before .before .before .before in
+    sym (links-none (now (s .args .list)) (s .args .r) (λ e. c .before .if1 .left (c .before .before .fetch-number .ensures ∙ e)))
 
 pub fetch-links-spec : {M : Type 1} → statement M
 fetch-links-spec =

@@ -20,7 +20,7 @@ atMost v w = leAll orderℤ (costValues v) (costValues w)
 unfoldable pub inOrder : Costs → Costs → Bool
 inOrder v w = dictionaryLe orderℤ (costValues v) (costValues w)
 
--- the same by the tests of their entries
+-- "at most" by the tests of the entries
 pub at-most-by : (v w : Costs) {a b : Bool} → a ≡ leZ (v .y1) (w .y1) → b ≡ leZ (v .y2) (w .y2) → leb (v .sum) (w .sum) && (a && b) ≡ atMost v w
 unfolding atMost
 at-most-by v w e f = λ i. leb (v .sum) (w .sum) && (e i && (f ∙ and-true (leZ (v .y2) (w .y2))) i)
@@ -29,7 +29,11 @@ at-most-by v w e f = λ i. leb (v .sum) (w .sum) && (e i && (f ∙ and-true (leZ
     and-true true = refl
     and-true false = refl
 
-in-order-by : (v w : Costs) → leb (v .sum) (w .sum) && (not (leb (w .sum) (v .sum)) || (leZ (v .y1) (w .y1) && (not (leZ (w .y1) (v .y1)) || leZ (v .y2) (w .y2)))) ≡ inOrder v w
+-- dictionary order by two tests of the sums, each way round, and those of the ceiling costs
+abbrev bySums : Costs → Costs → Bool → Bool → Bool
+bySums v w p q = p && (not q || (leZ (v .y1) (w .y1) && (not (leZ (w .y1) (v .y1)) || leZ (v .y2) (w .y2))))
+
+in-order-by : (v w : Costs) → bySums v w (leb (v .sum) (w .sum)) (leb (w .sum) (v .sum)) ≡ inOrder v w
 unfolding inOrder
 in-order-by v w =
     ap (λ (b : Bool). leb (v .sum) (w .sum) && (not (leb (w .sum) (v .sum)) || (leZ (v .y1) (w .y1) && (not (leZ (w .y1) (v .y1)) || b))))
@@ -40,26 +44,25 @@ in-order-by v w =
     last true false = refl
     last false b = refl
 
--- where the sums are equal, and where they differ
+-- where the sums are equal, the ceiling costs decide
 pub in-order-tie : (v w : Costs) {a b c : Bool} → v .sum ≡ w .sum → a ≡ leZ (v .y1) (w .y1) → b ≡ leZ (w .y1) (v .y1) → c ≡ leZ (v .y2) (w .y2)
     → a && (not b || c) ≡ inOrder v w
 in-order-tie v w s e f g =
     (λ i. e i && (not (f i) || g i))
-    ∙ sym (ap₂ (λ (p q : Bool). p && (not q || (leZ (v .y1) (w .y1) && (not (leZ (w .y1) (v .y1)) || leZ (v .y2) (w .y2)))))
-    (le-leb (v .sum) (w .sum) (omega arith)) (le-leb (w .sum) (v .sum) (omega arith)))
+    ∙ sym (ap₂ (bySums v w) (le-leb (v .sum) (w .sum) (omega arith)) (le-leb (w .sum) (v .sum) (omega arith)))
     ∙ in-order-by v w
 
+-- where they differ, the sums do
 pub in-order-apart : (v w : Costs) → (v .sum ≡ w .sum → ⊥) → ltb (v .sum) (w .sum) ≡ inOrder v w
 in-order-apart v w ne =
     by-test (ltb (v .sum) (w .sum))
-    (λ e. let l = ltb-true (v .sum) (w .sum) e in e ∙ sym (ap₂ by (le-leb (v .sum) (w .sum) (omega arith)) (lt-leb (w .sum) (v .sum) l)) ∙ in-order-by v w)
+    (λ e.
+    let l = ltb-true (v .sum) (w .sum) e in
+    e ∙ sym (ap₂ (bySums v w) (le-leb (v .sum) (w .sum) (omega arith)) (lt-leb (w .sum) (v .sum) l)) ∙ in-order-by v w)
     (λ e.
     let l = ltb-false (v .sum) (w .sum) e in
     let m : w .sum < v .sum = omega (arith, ne) in
-    e ∙ sym (ap (λ (p : Bool). by p (leb (w .sum) (v .sum))) (lt-leb (v .sum) (w .sum) m)) ∙ in-order-by v w)
-  where
-    by : Bool → Bool → Bool
-    by p q = p && (not q || (leZ (v .y1) (w .y1) && (not (leZ (w .y1) (v .y1)) || leZ (v .y2) (w .y2))))
+    e ∙ sym (ap (λ (p : Bool). bySums v w p (leb (w .sum) (v .sum))) (lt-leb (v .sum) (w .sum) m)) ∙ in-order-by v w)
 
 -- costs that are at most others stand before them
 pub at-most-before : (v w : Costs) → atMost v w ≡ true → inOrder v w ≡ true

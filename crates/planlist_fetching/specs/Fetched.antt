@@ -23,11 +23,12 @@ use Rattle.encoding.specs.RoundTrip.{u16-bytes}
 use Rattle.planlist_records.specs.Blocks.{Sized, join-at, length-join}
 use Rattle.planlist_records.specs.Records.{encode, length-plan}
 
--- a list that is not damaged
+-- a list with room for its head and for its plans
 pub record Whole (list : List ℕ) : Type 0 where
   pub long : headSize ≤ length list
   pub room : planStart list (headCount list) ≤ length list
 
+-- a list that is not damaged has it
 pub whole : (list : List ℕ) → damaged list ≡ false → Whole list
 unfolding damaged
 whole list e =
@@ -38,11 +39,12 @@ whole list e =
     let j = or-false (ltb (length list) headSize) (not (markAt list 0 headMark)) (i .0) in
     record { long = ltb-false _ _ (j .0); room = ltb-false _ _ (f .1) }
 
--- the test, by those that the code makes
+-- a list that is shorter than a head is damaged
 pub damaged-short : (list : List ℕ) → length list < headSize → damaged list ≡ true
 unfolding damaged
 damaged-short list h = rw (lt-ltb (length list) headSize h)
 
+-- any other by the tests that the code makes
 pub damaged-by : (list : List ℕ) → headSize ≤ length list → {mark : Bool} {count size : ℕ} → mark ≡ markAt list 0 headMark → count ≡ headCount list
     → size ≡ planSize planSlots (headTreeSize list)
     → not mark || ltb maxPlans count || ltb maxTree (headTreeSize list) || ltb maxCeilings (headCeilings list) || ltb (length list) (headSize + count * size)
@@ -63,14 +65,17 @@ plan-inside list r e h =
 -- ---- the number and the links, by the tests that lead to them
 
 module _ (list : List ℕ) (r : ℕ) where
+  -- 12 where the list is damaged
   pub number-damaged : damaged list ≡ true → fetchNumber list r ≡ 12
   unfolding fetchNumber
   number-damaged e = rw e
 
+  -- 13 where it has no plan r
   pub number-none : damaged list ≡ false → headCount list ≤ r → fetchNumber list r ≡ 13
   unfolding fetchNumber
   number-none e h = rw (e, le-ltb r (headCount list) h)
 
+  -- else by plan r's mark
   pub number-marked : damaged list ≡ false → r < headCount list → {b : Bool} → markAt list (planStart list r) planMark ≡ b → fetchNumber list r ≡ cond b 0 12
   unfolding fetchNumber
   number-marked e h f = rw (e, lt-ltb r (headCount list) h, f)
@@ -85,6 +90,7 @@ module _ (list : List ℕ) (r : ℕ) where
       go false true c h e = (refl, h refl)
       go false false c h e = absurd (omega arith)
 
+  -- the links of a plan that is found, and of one that is not
   pub links-found : fetchNumber list r ≡ 0 → fetchLinks list r ≡ take (headTreeSize list) (drop (linksStart list r) list)
   unfolding fetchLinks
   links-found e = rw e
@@ -93,6 +99,7 @@ module _ (list : List ℕ) (r : ℕ) where
   unfolding fetchLinks
   links-none e = rw (ne-eqb (fetchNumber list r) 0 e)
 
+  -- and where they start
   pub start-found : fetchNumber list r ≡ 0 → fetchStart list r ≡ linksStart list r
   unfolding fetchStart
   start-found e = rw e
@@ -110,18 +117,22 @@ listed costs links solved t p plans rest = headBytes (length plans) solved t p +
 -- of plans with t links each, within the limits
 module _ {S : Type 0} (costs : S → Costs) (links : S → List ℕ) (solved t p : ℕ) (plans : List S) (rest : List ℕ)
     (full : (s : S) → s ∈ plans → length (links s) ≡ t) (few : length plans ≤ maxPlans) (short : t ≤ maxTree) (flat : p ≤ maxCeilings) where
+  -- the list
   bytes : List ℕ
   bytes = listed costs links solved t p plans rest
 
+  -- its records have one size
   sized : Sized (planSize planSlots t) (map (encode costs links) plans)
   sized b m =
       let w = map-mem (encode costs links) plans b m in
       ap length (w .2) ∙ length-plan (costs (w .0)) (links (w .0)) ∙ ap (planSize planSlots) (full (w .0) (w .1))
 
+  -- its head has the number of plans
   count : headCount bytes ≡ length plans
   unfolding bytes
   count = u16-bytes (length plans) (omega arith)
 
+  -- it is not damaged
   undamaged : damaged (listed costs links solved t p plans rest) ≡ false
   unfolding bytes damaged
   undamaged =
@@ -136,10 +147,11 @@ module _ {S : Type 0} (costs : S → Costs) (links : S → List ℕ) (solved t p
       λ i. a i || not (markAt bytes 0 headMark) || b i || le-ltb maxTree t short i || le-ltb maxCeilings p flat i || e i
 
   module _ (r : ℕ) (below : r < length plans) (d : S) where
-    -- the bytes from plan r's record on
+    -- the bytes after plan r's record
     later : List ℕ
     later = join (drop (suc r) (map (encode costs links) plans)) ++ rest
 
+    -- plan r's record stands where it is looked for
     record-at : drop (headSize + r * planSize planSlots t) bytes ≡ encode costs links (getD plans r d) ++ later
     unfolding bytes later
     record-at =
@@ -147,6 +159,7 @@ module _ {S : Type 0} (costs : S → Costs) (links : S → List ℕ) (solved t p
         ∙ join-at (planSize planSlots t) (map (encode costs links) plans) rest sized r (rw length-map below)
         ∙ ap (λ (b : List ℕ). b ++ later) (getD-map (encode costs links) plans r d [] below)
 
+    -- plan r is found
     pub fetched : fetchNumber (listed costs links solved t p plans rest) r ≡ 0
     unfolding bytes
     fetched =
@@ -156,33 +169,37 @@ module _ {S : Type 0} (costs : S → Costs) (links : S → List ℕ) (solved t p
         let second : byteAt bytes (at + 1) ≡ 0x4C = sym (getD-drop at bytes 1 0) ∙ ap (λ (l : List ℕ). byteAt l 1) record-at in
         number-marked bytes r undamaged (omega arith) {b = true} (λ i. eqb (first i) 0x50 && eqb (second i) 0x4C)
 
+    -- with its own links
     pub fetched-links : fetchLinks (listed costs links solved t p plans rest) r ≡ links (getD plans r d)
     unfolding bytes
     fetched-links =
         let at = headSize + r * planSize planSlots t in
         links-found bytes r fetched
-        ∙ ap (take t) (sym (drop-drop 10 at bytes) ∙ ap (drop 10) record-at)
+        ∙ ap (take t) (sym (drop-drop (planSize planSlots 0) at bytes) ∙ ap (drop (planSize planSlots 0)) record-at)
         ∙ take-at (links (getD plans r d)) later t (full (getD plans r d) (getD-mem plans r d below))
 
 -- ---- the list of a yard
 
--- every plan of the list that a list call leaves is found, with its own links
+-- of a yard whose plans are within the limits
 module _ (net : Network) (size : ℕ) (full : (ts : List ℕ) → ts ∈ plans net → length ts ≡ treeSize net) (few : length (plans net) ≤ maxPlans)
     (short : treeSize net ≤ maxTree) (flat : net .p ≤ maxCeilings) (r : ℕ) (below : r < length (plans net)) where
   -- what stands after the list
   zeros : List ℕ
   zeros = replicate (size - length (listBytes net)) 0
 
+  -- the buffer is the list of its plans, followed by these
   in-parts : filled net size ≡ listed (costsOf net) (λ ts. ts) (solvedCount net) (treeSize net) (net .p) (plans net) zeros
   unfolding zeros
   in-parts =
       append-assoc (headBytes (length (plans net)) (solvedCount net) (treeSize net) (net .p)) (join (map (encode (costsOf net) (λ ts. ts)) (plans net))) zeros
 
+  -- every plan of the list that a list call leaves is found
   pub filled-number : fetchNumber (filled net size) r ≡ 0
   filled-number =
       ap (λ (l : List ℕ). fetchNumber l r) in-parts
       ∙ fetched (costsOf net) (λ ts. ts) (solvedCount net) (treeSize net) (net .p) (plans net) zeros full few short flat r below []
 
+  -- with its own links
   pub filled-links : fetchLinks (filled net size) r ≡ getD (plans net) r []
   filled-links =
       ap (λ (l : List ℕ). fetchLinks l r) in-parts

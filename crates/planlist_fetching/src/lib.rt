@@ -30,7 +30,11 @@ fn is_damaged(list: &[u8]) -> bool
     let t = list[TREE_SIZE_AT];
     let p = list[CEILINGS_AT];
     let need = HEAD_SIZE + count * plan_size(t);
-    !mark_at(list, 0, HEAD_MARK) | (MAX_PLANS < count) | ((MAX_TREE as u8) < t) | ((MAX_CEILINGS as u8) < p) | (list.len() < need)
+    !mark_at(list, 0, HEAD_MARK)
+        | (MAX_PLANS < count)
+        | ((MAX_TREE as u8) < t)
+        | ((MAX_CEILINGS as u8) < p)
+        | (list.len() < need)
 }
 
 // Where plan r's record starts.

@@ -15,31 +15,36 @@ use Rattle.frontier.specs.Frontier.{Problem, insertPlan, vector, vectorOrder}
 -- ---- the same entries added behind
 
 module _ {C : Type 0} (O : TotalOrder C) where
+  -- "at most" is as without them
   pub leAll-append : (v w t : List C) → length v ≡ length w → leAll O (v ++ t) (w ++ t) ≡ leAll O v w
   leAll-append [] [] t h = leAll-refl O t
   leAll-append [] (y ∷ w) t h = absurd (omega arith)
   leAll-append (x ∷ v) [] t h = absurd (omega arith)
   leAll-append (x ∷ v) (y ∷ w) t h = ap (λ (b : Bool). O .le x y && b) (leAll-append v w t (omega arith))
 
+  -- and so is dictionary order
   pub dictionary-append : (v w t : List C) → length v ≡ length w → dictionaryLe O (v ++ t) (w ++ t) ≡ dictionaryLe O v w
   dictionary-append [] [] t h = le-refl (dictionary O) t
   dictionary-append [] (y ∷ w) t h = absurd (omega arith)
   dictionary-append (x ∷ v) [] t h = absurd (omega arith)
   dictionary-append (x ∷ v) (y ∷ w) t h = ap (λ (b : Bool). tieBreak (O .le x y) (O .le y x) b) (dictionary-append v w t (omega arith))
 
--- ---- tests of the images of members
+-- ---- where a test of the image of each member is a test of the member
 
 module _ {A B : Type 0} (f : A → B) where
+  -- whether one passes
   any-map : (p : B → Bool) (q : A → Bool) (l : List A) → ((x : A) → x ∈ l → p (f x) ≡ q x) → any p (map f l) ≡ any q l
   any-map p q [] h = refl
   any-map p q (x ∷ l) h = rw (h x (here refl), any-map p q l (λ y m. h y (there m)))
 
+  -- which pass
   filter-map : (p : B → Bool) (q : A → Bool) (l : List A) → ((x : A) → x ∈ l → p (f x) ≡ q x) → filter p (map f l) ≡ map f (filter q l)
   filter-map p q [] h = refl
   filter-map p q (x ∷ l) h =
       let ih = filter-map p q l (λ y m. h y (there m)) in
       by-test (q x) (λ e. rw (h x (here refl), e, ih)) (λ e. rw (h x (here refl), e, ih))
 
+  -- where one more is put
   insert-map : {K L : Type 0} (O : TotalOrder K) (key : B → K) (Q : TotalOrder L) (key′ : A → L) (x : A) (l : List A)
       → ((y : A) → y ∈ l → O .le (key (f x)) (key (f y)) ≡ Q .le (key′ x) (key′ y)) → insert O key (f x) (map f l) ≡ map f (insert Q key′ x l)
   insert-map O key Q key′ x [] h = refl
@@ -55,10 +60,12 @@ module _ {C D S B : Type 0} (P : Problem C S) (Q : Problem D B) (f : S → B) wh
     pub at-most : leAll (Q .order) (vector Q (f x)) (vector Q (f y)) ≡ leAll (P .order) (vector P x) (vector P y)
     pub in-order : dictionaryLe (Q .order) (vector Q (f x)) (vector Q (f y)) ≡ dictionaryLe (P .order) (vector P x) (vector P y)
 
+  -- and one image dominates the other where x dominates y
   alike-dominates : {x y : S} → Alike x y → Alike y x
       → dominates (Q .order) (vector Q (f x)) (vector Q (f y)) ≡ dominates (P .order) (vector P x) (vector P y)
   alike-dominates h k = λ i. h .at-most i && not (h .in-order i && k .in-order i)
 
+  -- insertion of the image among the images is the image of insertion
   pub insert-alike : (s : S) (l : List S) → ((x y : S) → x ∈ s ∷ l → y ∈ s ∷ l → Alike x y) → insertPlan Q (f s) (map f l) ≡ map f (insertPlan P s l)
   insert-alike s l h =
       (λ i. cond (below i) (map f l) (insert (dictionary (Q .order)) (vector Q) (f s) (left i)))

@@ -99,22 +99,28 @@ module _ {C S : Type 0} (P : Problem C S) (s : S) where
       let n = leading (λ q. dictionaryLe (P .order) (vector P s) (vector P q)) l in
       take n l ++ s ∷ filter (λ q. not (leAll (P .order) (vector P s) (vector P q))) (drop n l)
 
+  -- a frontier with s inserted: as it was where a plan of it is at most s, and else with s placed
   by-parts : (l : List S) → Rising (vectorOrder P) (vector P) l
       → insertPlan P s l ≡ cond (any (λ q. leAll (P .order) (vector P q) (vector P s)) l) l (placed l)
   by-parts l r = go (any (λ q. leAll (P .order) (vector P q) (vector P s)) l) refl
     where
+      in-front : (q : S) → dictionaryLe (P .order) (vector P s) (vector P q) ≡ false → leAll (P .order) (vector P s) (vector P q) ≡ false
+      in-front q =
+          refute (leAll (P .order) (vector P s) (vector P q)) (dictionaryLe (P .order) (vector P s) (vector P q))
+          (leAll→dictionaryLe (P .order) (vector P s) (vector P q))
+
       go : (b : Bool) → any (λ q. leAll (P .order) (vector P q) (vector P s)) l ≡ b
           → cond b l (insert (vectorOrder P) (vector P) s (filter (λ q. not (dominates (P .order) (vector P s) (vector P q))) l))
           ≡ cond b l (placed l)
       go true e = refl
       go false e =
           ap (insert (vectorOrder P) (vector P) s) (dominated (P .order) (vector P) s l e)
-          ∙ insert-kept (vectorOrder P) (vector P) s (λ q. not (leAll (P .order) (vector P s) (vector P q)))
-          (λ q k. ap not (refute (leAll (P .order) (vector P s) (vector P q)) (dictionaryLe (P .order) (vector P s) (vector P q)) (leAll→dictionaryLe (P .order) (vector P s) (vector P q)) k))
-          l (rising-sorted (vectorOrder P) (vector P) l r)
+          ∙ insert-kept (vectorOrder P) (vector P) s (λ q. not (leAll (P .order) (vector P s) (vector P q))) (λ q k. ap not (in-front q k)) l
+          (rising-sorted (vectorOrder P) (vector P) l r)
 
 -- of a record with the costs v
 module _ (x : List ℕ) (v : Costs) (bs : List (List ℕ)) (rise : RecordsRise bs) (holds : costsAt x 0 ≡ v) where
+  -- x among bs, by its costs and whether a record is at most them
   inserted : Costs → Bool → List (List ℕ)
   inserted w b = cond b bs (take (placeOf w bs) bs ++ x ∷ prunedBy w (drop (placeOf w bs) bs))
 
@@ -125,10 +131,12 @@ module _ (x : List ℕ) (v : Costs) (bs : List (List ℕ)) (rise : RecordsRise b
   in-parts : {b : Bool} → coveredBy v bs ≡ b → insertRecord x bs ≡ inserted v b
   in-parts t = parts ∙ ap (λ (w : Costs). inserted w (coveredBy w bs)) holds ∙ ap (inserted v) t
 
+  -- where a record is at most it, the records stay as they are
   pub insert-covered : coveredBy v bs ≡ true → insertRecord x bs ≡ bs
   unfolding inserted
   insert-covered t = in-parts t
 
+  -- else it stands at its place, and the records behind it that it is at most are gone
   pub insert-free : coveredBy v bs ≡ false → insertRecord x bs ≡ take (placeOf v bs) bs ++ x ∷ prunedBy v (drop (placeOf v bs) bs)
   unfolding inserted
   insert-free t = in-parts t

@@ -24,6 +24,7 @@ pub record Level (v : Costs) (bs : List (List ℕ)) : Type 0 where
   pub none-lower : (b : List ℕ) → b ∈ bs → atMost (costsAt b 0) v ≡ true → v .sum ≤ costsAt b 0 .sum
   pub none-higher : (b : List ℕ) → b ∈ bs → atMost v (costsAt b 0) ≡ true → costsAt b 0 .sum ≤ v .sum
 
+-- no more members stand before the first that passes than there are
 leading-few : {A : Type 0} (p : A → Bool) (l : List A) → leading p l ≤ length l
 leading-few p [] = omega arith
 leading-few p (x ∷ l) = let ih = leading-few p l in by-test (p x) (λ e. rw e (omega arith)) (λ e. rw e (omega arith))
@@ -39,11 +40,13 @@ drop-mem zero l m = m
 drop-mem (suc n) [] m = m
 drop-mem (suc n) (y ∷ l) m = there (drop-mem n l m)
 
+-- what rises, rises from a place on
 rising-drop : {K A : Type 0} (O : TotalOrder K) (key : A → K) (n : ℕ) (l : List A) → Rising O key l → Rising O key (drop n l)
 rising-drop O key zero l r = r
 rising-drop O key (suc n) [] r = r
 rising-drop O key (suc n) (y ∷ l) r = rising-drop O key n l (r .1)
 
+-- one more, in either case
 suc-cond : (t : Bool) (m n : ℕ) → suc (cond t m n) ≡ cond t (suc m) (suc n)
 suc-cond true m n = refl
 suc-cond false m n = refl
@@ -70,6 +73,7 @@ module _ (v : Costs) where
       (λ c m. refute (atMost (costsAt c 0) v) (inOrder (costsAt c 0) (costsAt b 0))
       (λ k. dictionary-trans orderℤ (vector records c) (costValues v) (vector records b) (at-most-before (costsAt c 0) v k) h) (r .0 c m))
 
+  -- the pass finds whether a record is at most v, and v's place
   by-one-pass : (bs : List (List ℕ)) → Rising (vectorOrder records) (vector records) bs
       → ((b : List ℕ) → b ∈ bs → atMost (costsAt b 0) v ≡ true → v .sum ≤ costsAt b 0 .sum)
       → freePlace v bs ≡ cond (coveredBy v bs) (suc (length bs)) (placeOf v bs)
@@ -88,6 +92,7 @@ module _ (v : Costs) where
       (λ e. rw (d, e) refl)
       (λ e. by-test (inOrder v w) (λ f. rw (d, e, f, free-from b bs r f)) (λ f. rw (d, e, f) ih)))
 
+  -- the pass that stops at a higher sum keeps what v is not at most
   pruned-early : (bs : List (List ℕ)) → Rising (vectorOrder records) (vector records) bs
       → ((b : List ℕ) → b ∈ bs → atMost v (costsAt b 0) ≡ true → costsAt b 0 .sum ≤ v .sum) → prunedLevel v bs ≡ prunedBy v bs
   unfolding prunedLevel prunedBy

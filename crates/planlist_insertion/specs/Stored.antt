@@ -44,9 +44,11 @@ module _ {S : Type 0} (P : Problem ℤ S) (costs : S → Costs) (links : S → L
     pub records-are : blocks z n bs ≡ map (encode costs links) l
     pub stored : (s : S) → s ∈ l → Stored s
 
+  -- its record has that vector
   held : (s : S) → Stored s → vector records (encode costs links s) ≡ vector P s ++ pad
   held s h = ap costValues (costs-encoded (costs s) (links s) (h .writable)) ∙ h .padded
 
+  -- vectors that take the same padding have one length
   same-length : (s q : S) → Padded s → Padded q → length (vector P s) ≡ length (vector P q)
   same-length s q h k =
       let a = ap length h in
@@ -56,10 +58,12 @@ module _ {S : Type 0} (P : Problem ℤ S) (costs : S → Costs) (links : S → L
       omega arith
 
   module _ (ordered : P .order ≡ orderℤ) where
+    -- the padding changes no comparison
     unpadded : (s q : S) → Padded s → Padded q → leAll orderℤ (vector P s ++ pad) (vector P q ++ pad) ≡ leAll (P .order) (vector P s) (vector P q)
     unpadded s q h k =
         leAll-append orderℤ (vector P s) (vector P q) pad (same-length s q h k) ∙ ap (λ (O : TotalOrder ℤ). leAll O (vector P s) (vector P q)) (sym ordered)
 
+    -- records compare as the vectors do
     alike : (s q : S) → Stored s → Stored q → Alike P records (encode costs links) s q
     alike s q h k = record {
       at-most =
@@ -82,7 +86,7 @@ module _ {S : Type 0} (P : Problem ℤ S) (costs : S → Costs) (links : S → L
         subst⁻¹ RecordsRise (h .records-are)
         (record { rising = rising-alike P records (encode costs links) l (λ x y m n. alike x y (h .stored x m) (h .stored y n)) r })
 
-    -- costs compare as the vectors do
+    -- and so do costs
     compare : (s t : S) → Padded s → Padded t → atMost (costs s) (costs t) ≡ leAll (P .order) (vector P s) (vector P t)
     unfolding atMost
     compare s t h k = ap₂ (leAll orderℤ) h k ∙ unpadded s t h k
@@ -125,10 +129,11 @@ module _ {S : Type 0} (P : Problem ℤ S) (costs : S → Costs) (links : S → L
         go q (inr (here e)) = rw e k
         go q (inr (there m)) = absurd (List·Memᴰ·not-nil m)
 
-  -- no plans, and the number of plans
+  -- no records are those of no plans
   pub holds-none : (z : ℕ) (bs : List ℕ) → Holds z 0 bs []
   holds-none z bs = record { records-are = blocks-none z 0 bs refl; stored = λ s m. absurd (List·Memᴰ·not-nil m) }
 
+  -- there are as many records as plans
   pub holds-count : {z n : ℕ} {bs : List ℕ} {l : List S} → Holds z n bs l → n ≡ length l
   holds-count {z} {n} {bs} {l} h = sym (length-blocks z n bs) ∙ ap length (h .records-are) ∙ length-map l (encode costs links)
 
@@ -143,6 +148,7 @@ costs-length : (G : Graph) (i : ℕ) (js ts : List ℕ) → length (costsFrom G 
 costs-length G i [] ts = refl
 costs-length G i (k ∷ js) ts = ap suc (costs-length G (suc i) js ts)
 
+-- the two ceiling costs of a record are those of a vector of at most two, followed by zeros
 two-entries : (cs : List ℤ) → length cs ≤ maxCeilings → getD cs 0 (pos 0) ∷ getD cs 1 (pos 0) ∷ [] ≡ cs ++ replicate (maxCeilings - length cs) (pos 0)
 two-entries [] h = refl
 two-entries (x ∷ []) h = refl

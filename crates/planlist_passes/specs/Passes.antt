@@ -12,7 +12,7 @@ use Rattle.planlist_records.specs.Blocks.{blocks, blocks-turn, length-blocks}
 use Rattle.planlist_costs.specs.Held.{costsAt, costs-block}
 use Rattle.planlist_costs.specs.Orders.{atMost, inOrder}
 
--- the number of records that stand before v; one more than all, where one of no lower sum holds costs that are at most v
+-- the number of records that stand before v; one more than all where, before that place, one of no lower sum is at most v
 unfoldable pub freePlace : Costs → List (List ℕ) → ℕ
 freePlace v [] = 0
 freePlace v (b ∷ bs) =
@@ -28,14 +28,15 @@ prunedLevel v (b ∷ bs) = let r = prunedLevel v bs in cond (ltb (v .sum) (costs
 
 module _ (v : Costs) (bs : List ℕ) (at left z : ℕ) (more : 0 < left) (wide : planSize planSlots 0 ≤ z) where
   -- a function of the records, by what it makes of the first one's costs
-  turn : {A : Type 0} (f : List (List ℕ) → A) (g : Costs → A) → f (take z (drop at bs) ∷ blocks z (left - 1) (drop (at + z) bs)) ≡ g (costsAt (take z (drop at bs)) 0)
+  turn : {A : Type 0} (f : List (List ℕ) → A) (g : Costs → A)
+      → f (take z (drop at bs) ∷ blocks z (left - 1) (drop (at + z) bs)) ≡ g (costsAt (take z (drop at bs)) 0)
       → f (blocks z left (drop at bs)) ≡ g (costsAt bs at)
   turn f g e = ap f (blocks-turn z left at bs more) ∙ e ∙ ap g (costs-block bs at z wide)
 
+  -- what is kept, by whether its sum is higher and whether v is at most it
   pub pruned-turn : {p q : Bool} → ltb (v .sum) (costsAt bs at .sum) ≡ p → atMost v (costsAt bs at) ≡ q
-      → prunedLevel v (blocks z left (drop at bs))
-      ≡ cond p (blocks z left (drop at bs))
-      (cond q (prunedLevel v (blocks z (left - 1) (drop (at + z) bs))) (take z (drop at bs) ∷ prunedLevel v (blocks z (left - 1) (drop (at + z) bs))))
+      → let rest = prunedLevel v (blocks z (left - 1) (drop (at + z) bs)) in
+      prunedLevel v (blocks z left (drop at bs)) ≡ cond p (blocks z left (drop at bs)) (cond q rest (take z (drop at bs) ∷ rest))
   unfolding prunedLevel
   pruned-turn e f =
       let x = take z (drop at bs) in
@@ -45,10 +46,10 @@ module _ (v : Costs) (bs : List ℕ) (at left z : ℕ) (more : 0 < left) (wide :
       turn (prunedLevel v) (λ w. cond (ltb (v .sum) (w .sum)) (x ∷ others) (cond (atMost v w) rest (x ∷ rest))) refl
       ∙ (λ i. cond (e i) (same i) (cond (f i) rest (x ∷ rest)))
 
+  -- v's place, by whether its sum is lower, whether it is at most v, and whether v stands before it
   pub free-turn : {o p q : Bool} → ltb (costsAt bs at .sum) (v .sum) ≡ o → atMost (costsAt bs at) v ≡ p → inOrder v (costsAt bs at) ≡ q
-      → freePlace v (blocks z left (drop at bs))
-      ≡ cond o (suc (freePlace v (blocks z (left - 1) (drop (at + z) bs))))
-      (cond p (suc left) (cond q 0 (suc (freePlace v (blocks z (left - 1) (drop (at + z) bs))))))
+      → let rest = suc (freePlace v (blocks z (left - 1) (drop (at + z) bs))) in
+      freePlace v (blocks z left (drop at bs)) ≡ cond o rest (cond p (suc left) (cond q 0 rest))
   unfolding freePlace
   free-turn d e f =
       let others = blocks z (left - 1) (drop (at + z) bs) in
@@ -57,8 +58,7 @@ module _ (v : Costs) (bs : List ℕ) (at left z : ℕ) (more : 0 < left) (wide :
       turn (freePlace v) (λ w. cond (ltb (w .sum) (v .sum)) rest (cond (atMost w v) (suc (suc (length others))) (cond (inOrder v w) 0 rest))) refl
       ∙ (λ i. cond (d i) rest (cond (e i) (suc (all i)) (cond (f i) 0 rest)))
 
--- ---- with no record
-
+-- of no records none are kept, and v's place is the first
 pub pruned-none : (v : Costs) → prunedLevel v [] ≡ []
 unfolding prunedLevel
 pruned-none v = refl

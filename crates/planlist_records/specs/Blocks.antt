@@ -16,10 +16,12 @@ unfoldable pub blocks : ℕ → ℕ → List ℕ → List (List ℕ)
 blocks z zero bs = []
 blocks z (suc n) bs = take z bs ∷ blocks z n (drop z bs)
 
+-- no records
 pub blocks-none : (z n : ℕ) (bs : List ℕ) → n ≡ 0 → blocks z n bs ≡ []
 unfolding blocks
 blocks-none z n bs e = rw e
 
+-- how many they are
 pub length-blocks : (z n : ℕ) (bs : List ℕ) → length (blocks z n bs) ≡ n
 unfolding blocks
 length-blocks z zero bs = refl
@@ -33,6 +35,7 @@ blocks-turn z (suc n) at bs h =
     let e : n ≡ suc n - 1 = omega arith in
     ap₂ (λ (k : ℕ) (l : List ℕ). take z (drop at bs) ∷ blocks z k l) e (drop-drop z at bs)
 
+-- the bytes of n records are those of one and of the others
 pub mul-step : (n z : ℕ) → 0 < n → n * z ≡ z + (n - 1) * z
 mul-step zero z h = absurd (omega arith)
 mul-step (suc n) z h = let e : n ≡ suc n - 1 = omega arith in let s = suc-mul n z in rw (← e) (omega arith)
@@ -63,6 +66,7 @@ blocks-take z (suc n) bs =
     (take-take z (z + n * z) bs (omega arith))
     (ap (blocks z n) (drop-take z (n * z) bs) ∙ blocks-take z n (drop z bs)))
 
+-- bytes that are alike that far hold the same records
 blocks-agree : (z n : ℕ) (a b : List ℕ) → take (n * z) a ≡ take (n * z) b → blocks z n a ≡ blocks z n b
 blocks-agree z n a b e = sym (blocks-take z n a) ∙ ap (blocks z n) e ∙ blocks-take z n b
 
@@ -155,11 +159,12 @@ join-blocks z (suc n) bs =
     let m : suc n * z ≡ z + n * z = let s = suc-mul n z in omega arith in
     ap (λ (l : List ℕ). take z bs ++ l) (join-blocks z n (drop z bs)) ∙ sym (take-add z (n * z) bs) ∙ ap (λ (k : ℕ). take k bs) (sym m)
 
--- of records that have z bytes each
 module _ (z : ℕ) where
+  -- each record has z bytes
   abbrev pub Sized : List (List ℕ) → Type 0
   Sized rs = (b : List ℕ) → b ∈ rs → length b ≡ z
 
+  -- the length of such records, one after the other
   pub length-join : (rs : List (List ℕ)) → Sized rs → length (join rs) ≡ length rs * z
   length-join [] h = sym (zero-mul z)
   length-join (b ∷ rs) h =

@@ -1,7 +1,7 @@
 // The calls of `planner` for programs in C and Rust: replies are structs of plain numbers.
 use network::Answer;
 use network::Status;
-use planlist::fetch::fetch_start;
+use planlist_fetching::fetch_start;
 ghost use mathlib.Core.Path.{_≡_};
 ghost use lib.ListN.{length};
 ghost use Rattle.network.specs.Calls.{asked, judged, listAfter, listStatus, says, treeAfter};

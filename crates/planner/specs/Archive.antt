@@ -16,7 +16,7 @@ use Rattle.network.specs.Meaning.{tree-size}
 use Rattle.network.specs.NetworkFine.{position-limit, survey-fine, survey-sound}
 use Rattle.network.specs.Promise.{LinksKept, NumberKept, complete}
 use Rattle.network.specs.declared.Checked.the-variants.{Fine}
-use Rattle.planlist.specs.Fetched.{listed-links, listed-number}
+use Rattle.planlist_fetching.specs.Fetched.{listed-links, listed-number}
 
 -- a list that the planner made keeps within what a plan list may hold
 record Listable (s : List ℕ) : Type 0 where

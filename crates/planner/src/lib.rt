@@ -4,7 +4,6 @@ use network::Answer;
 use network::Checked;
 use network::Refusal;
 use network::Status;
-use planlist::fetch;
 use question::solve;
 use survey::read_survey;
 use trees_costs::tree_costs;
@@ -85,7 +84,7 @@ pub fn fetch_number(list: &[u8], r: u32) -> u8
     ensures reply { λ n. ⌜ n ≡ fetchNumber (now (list .entry)) r ⌝ }
     ensures kept { λ n. ⌜ NumberKept (now (list .entry)) r n ⌝ }
 {
-    fetch::fetch_number(list, r)
+    planlist_fetching::fetch_number(list, r)
 }
 
 // The link bytes of plan r, a part of the list; an empty part if the number is not 0.
@@ -93,5 +92,5 @@ pub fn fetch_links<'a>(list: &'a [u8], r: u32) -> &'a [u8]
     ensures reply { λ part. ⌜ now part ≡ fetchLinks (now (list .entry)) r ⌝ }
     ensures kept { λ part. ⌜ LinksKept (now (list .entry)) r (now part) ⌝ }
 {
-    fetch::fetch_links(list, r)
+    planlist_fetching::fetch_links(list, r)
 }

@@ -16,7 +16,7 @@ use Rattle.frontier.specs.Frontier.{Picks, best, picks-cons, picks-nil, positio
 use Rattle.frontier.specs.Places.{InRange, in-cons, in-nil, number-lt, pick, places, places-range}
 use Rattle.planning.specs.Graph.{Graph, Sound, problem}
 use Rattle.planning.specs.Grid.{all-fall, on-grid}
-use Rattle.planlist.specs.Alike.{leAll-append}
+use Rattle.planlist_insertion.specs.Alike.{leAll-append}
 use Rattle.marking.specs.Place.{placeIn, places-of, placesOf}
 use Rattle.marking.specs.Paint.{paint, sweep}
 use Rattle.marking.specs.Box.{sides}

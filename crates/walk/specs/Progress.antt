@@ -19,12 +19,12 @@ use Rattle.network.specs.Walk.{positionCount, positions, solved, solvedCount, v
 use Rattle.network.specs.PlanList.{costsOf, filled, headBytes, headSize, join, planBytes, planSize, planSlots}
 use Rattle.network.specs.NetworkFine.{NetworkFine, graph-sound}
 use Rattle.network.specs.declared.Network.{Network}
-use Rattle.planlist.specs.Blocks.{blocks}
-use Rattle.planlist.specs.Records.{Writable}
-use Rattle.planlist.specs.Insertion.{RecordsRise, insertRecord}
-use Rattle.planlist.specs.Passes.{Level}
-use Rattle.planlist.specs.Stored.{Holds, Padded, absent, costs-padded, holds-inserted, holds-level, holds-none, holds-rise}
-use Rattle.planlist.specs.Finished.{finished, finished-list, thenZeros}
+use Rattle.planlist_records.specs.Blocks.{blocks}
+use Rattle.planlist_costs.specs.Held.{Writable}
+use Rattle.planlist_insertion.specs.Insertion.{RecordsRise, insertRecord}
+use Rattle.planlist_insertion.specs.Level.{Level}
+use Rattle.planlist_insertion.specs.Stored.{Holds, Padded, absent, costs-padded, holds-inserted, holds-level, holds-none, holds-rise}
+use Rattle.planlist_ending.specs.Finished.{finished, finished-list, thenZeros}
 use Rattle.marking.specs.Settle.{Settled}
 use Rattle.marking.specs.Slots.{rank-count}
 use Rattle.marking.specs.Unmarked.{nextUnmarked, unmarked-keeps}

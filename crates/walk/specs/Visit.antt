@@ -21,7 +21,7 @@ use Rattle.network.specs.PlanList.{bufferNeed, costsOf, headSize, planSize, pla
 use Rattle.network.specs.NetworkFine.{NetworkFine, graph-sound}
 use Rattle.network.specs.declared.Network.{Network}
 use Rattle.kruskal_order.specs.ByCost.{linkOrder}
-use Rattle.planlist.specs.Stored.{absent, costs-padded}
+use Rattle.planlist_insertion.specs.Stored.{absent, costs-padded}
 use Rattle.marking.specs.Place.{placeIn, placesOf}
 use Rattle.marking.specs.Slots.{ceilingValues, rank-count, value-count}
 use Rattle.marking.specs.Paint.{Run, paint, run, through}

@@ -3,7 +3,7 @@ use marking::mark::mark_through;
 use marking::place::place_of;
 use network::Answer;
 use network::Network;
-use planlist::list::insert_plan;
+use planlist_insertion::insert_plan;
 use question::solve;
 ghost use Prim.Native.Nat.{_+_, _*_, _≤_, _<_};
 ghost use lib.ListN.{length};

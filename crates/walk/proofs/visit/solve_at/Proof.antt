@@ -16,10 +16,10 @@ use Rattle.network.specs.PlanList.{costsOf, headSize, planBytes, planSize, plan
 use Rattle.network.specs.Walk.{positions}
 use Rattle.network.specs.declared.Costs.{Costs}
 use Rattle.network.specs.Calls.{treeWith}
-use Rattle.planlist.specs.Blocks.{blocks}
-use Rattle.planlist.specs.Insertion.{RecordsRise, insertRecord}
-use Rattle.planlist.specs.Passes.{Level}
-use Rattle.planlist.specs.Records.{Writable}
+use Rattle.planlist_records.specs.Blocks.{blocks}
+use Rattle.planlist_insertion.specs.Insertion.{RecordsRise, insertRecord}
+use Rattle.planlist_insertion.specs.Level.{Level}
+use Rattle.planlist_costs.specs.Held.{Writable}
 use Rattle.marking.specs.Settle.{Settled}
 use Rattle.marking.specs.Paint.{paint, through}
 use Rattle.marking.specs.Place.{placeIn}

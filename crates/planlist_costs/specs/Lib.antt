@@ -1,0 +1,4 @@
+-- the costs in a record
+pub mod Held
+-- the orders of costs
+pub mod Orders

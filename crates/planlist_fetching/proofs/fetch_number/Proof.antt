@@ -1,0 +1,75 @@
+-- `planlist_fetching::fetch_number` meets its contract. Each return by the tests that lead to it.
+use mathlib.Core.Path.{_≡_, sym, ap, _∙_}
+use mathlib.Core.Bool.{Bool, cond, false}
+use Prim.Native.Nat.{ℕ, _<_}
+use native.Mathlib.Omega.{arith}
+use denote.Ref.{now}
+use Rattle.network.specs.Bytes.{markAt}
+use Rattle.network.specs.PlanList.{planMark}
+use Rattle.network.specs.Fetching.{damaged, fetchNumber, headCount}
+use Rattle.planlist_fetching.specs.Fetched.{whole, number-damaged, number-none, number-marked}
+use borrow.Author.Needs.{needs}
+use Rattle.planlist_fetching.proofs.fetch_number.Statement.{statement}
+use Rattle.planlist_fetching.proofs.fetch_number.Tie as tie
+
+-- the list is not damaged
+intact : (c : tie.Else1) → damaged (now (c .before .before .before .args .list)) ≡ false
+intact c = sym (c .before .is-damaged .ensures) ∙ c .if1 .left
+
+-- the plan is below the count
+below : (c : tie.Then2) → let a = c .before .before .before .before .before .args in a .r < headCount (now (a .list))
+below c = omega (arith, c .if2 .taken, c .before .read-u16 .ensures)
+
+-- the number, by whether its mark is there
+marked : (c : tie.After-mark-at) → {b : Bool} → c .mark-at .result ≡ b
+    → let a = c .before .before .before .before .before .before .before .args in fetchNumber (now (a .list)) (a .r) ≡ cond b 0 12
+marked c e =
+    let then = c .before .before in
+    let a = then .before .before .before .before .before .args in
+    let mark = ap (λ (k : ℕ). markAt (now (a .list)) k planMark) (sym (c .before .plan-start .ensures .0)) ∙ sym (c .mark-at .ensures) ∙ e in
+    number-marked (now (a .list)) (a .r) (intact (then .before .before)) (below then) mark
+
+is-damaged-requires : tie.Need-is-damaged-requires
+is-damaged-requires c κs = search needs
+
+returns : tie.Need-returns
+returns c =
+    let a = c .before .before .before .args in
+    sym (number-damaged (now (a .list)) (a .r) (sym (c .before .is-damaged .ensures) ∙ c .if1 .taken))
+
+read-u16-requires : tie.Need-read-u16-requires
+read-u16-requires c κs = omega (arith, whole (now (c .before .before .before .args .list)) (intact c) .long)
+
+cast-if2 : tie.Need-cast-if2
+cast-if2 c = search needs
+
+plan-start-requires : tie.Need-plan-start-requires
+plan-start-requires c κs = (intact (c .before .before), below c)
+
+mark-at-requires : tie.Need-mark-at-requires
+mark-at-requires c κs = search needs
+
+returns-2 : tie.Need-returns-2
+returns-2 c = sym (marked (c .before) (c .if3 .taken))
+
+returns-3 : tie.Need-returns-3
+returns-3 c = sym (marked (c .before) (c .if3 .left))
+
+returns-4 : tie.Need-returns-4
+returns-4 c =
+    let a = c .before .before .before .before .before .args in
+    sym (number-none (now (a .list)) (a .r) (intact (c .before .before)) (omega (arith, c .if2 .left, c .before .read-u16 .ensures)))
+
+pub fetch-number-spec : {M : Type 1} → statement M
+fetch-number-spec =
+    tie.close
+    (tie.spec
+    is-damaged-requires
+    returns
+    read-u16-requires
+    cast-if2
+    plan-start-requires
+    mark-at-requires
+    returns-2
+    returns-3
+    returns-4)

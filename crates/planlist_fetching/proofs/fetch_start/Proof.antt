@@ -1,0 +1,36 @@
+-- `planlist_fetching::fetch_start` meets its contract. The links stand behind plan r's costs.
+use mathlib.Core.Path.{_≡_, sym, ap, _∙_}
+use Prim.Native.Nat.{ℕ, _+_}
+use denote.Ref.{now}
+use Rattle.network.specs.PlanList.{planSize, planSlots}
+use Rattle.network.specs.Fetching.{fetchNumber}
+use Rattle.planlist_fetching.specs.Fetched.{found, start-found, start-none}
+use borrow.Author.Needs.{needs}
+use Rattle.planlist_fetching.proofs.fetch_start.Statement.{statement}
+use Rattle.planlist_fetching.proofs.fetch_start.Tie as tie
+
+-- the plan is found
+is-found : (c : tie.Then1) → let a = c .before .before .before .args in fetchNumber (now (a .list)) (a .r) ≡ 0
+is-found c = sym (c .before .fetch-number .ensures) ∙ c .if1 .taken
+
+fetch-number-requires : tie.Need-fetch-number-requires
+fetch-number-requires c κs = search needs
+
+plan-start-requires : tie.Need-plan-start-requires
+plan-start-requires c κs = let a = c .before .before .before .args in found (now (a .list)) (a .r) (is-found c)
+
+add-result : tie.Need-add-result
+add-result c = search needs
+
+returns : tie.Need-returns
+returns c =
+    let a = c .before .before .before .before .args in
+    ap (λ (k : ℕ). k + planSize planSlots 0) (c .plan-start .ensures .0) ∙ sym (start-found (now (a .list)) (a .r) (is-found (c .before)))
+
+returns-2 : tie.Need-returns-2
+returns-2 c =
+    let a = c .before .before .before .args in
+    sym (start-none (now (a .list)) (a .r) (λ e. c .if1 .left (c .before .fetch-number .ensures ∙ e)))
+
+pub fetch-start-spec : {M : Type 1} → statement M
+fetch-start-spec = tie.close (tie.spec fetch-number-requires plan-start-requires add-result returns returns-2)

@@ -1,0 +1,125 @@
+-- Records that rise, of which v compares with none of another sum: the passes by sums find and keep what insertion does.
+use mathlib.Core.Path.{_≡_, refl, sym, ap, _∙_}
+use mathlib.Core.Bool.{Bool, true, false, not, cond}
+use mathlib.Core.List.{List, [], _∷_, List·Memᴰ·head as here, List·Memᴰ·tail as there}
+use Prim.Native.Nat.{ℕ, zero, suc, _≤_, _<_}
+use native.Mathlib.Omega.{arith}
+use borrow.Author.Tests.{le-ltb, ltb-false, ltb-true}
+use lib.Dec.{ltb}
+use lib.ListN.{length, drop}
+use Rattle.order.specs.Test.{by-test, clash, fails, refute}
+use Rattle.order.specs.Lists.{_∈_, filter, none-any}
+use Rattle.order.specs.Order.{TotalOrder, dictionary-trans, orderℤ}
+use Rattle.order.specs.Sorted.{Rising}
+use Rattle.frontier.specs.Frontier.{vector, vectorOrder}
+use Rattle.network.specs.Calls.{costValues}
+use Rattle.network.specs.declared.Costs.{Costs}
+use Rattle.planlist_costs.specs.Held.{costsAt}
+use Rattle.planlist_costs.specs.Orders.{atMost, inOrder, at-most-before, in-order-apart}
+use Rattle.planlist_passes.specs.Passes.{freePlace, prunedLevel}
+use Rattle.planlist_insertion.specs.Insertion.{RecordsRise, coveredBy, leading, placeOf, prunedBy, records}
+
+-- records that are at most v, or that v is at most, have its sum
+pub record Level (v : Costs) (bs : List (List ℕ)) : Type 0 where
+  pub none-lower : (b : List ℕ) → b ∈ bs → atMost (costsAt b 0) v ≡ true → v .sum ≤ costsAt b 0 .sum
+  pub none-higher : (b : List ℕ) → b ∈ bs → atMost v (costsAt b 0) ≡ true → costsAt b 0 .sum ≤ v .sum
+
+-- no more members stand before the first that passes than there are
+leading-few : {A : Type 0} (p : A → Bool) (l : List A) → leading p l ≤ length l
+leading-few p [] = omega arith
+leading-few p (x ∷ l) = let ih = leading-few p l in by-test (p x) (λ e. rw e (omega arith)) (λ e. rw e (omega arith))
+
+-- a filter that all pass
+filter-all : {A : Type 0} (p : A → Bool) (l : List A) → ((x : A) → x ∈ l → p x ≡ true) → filter p l ≡ l
+filter-all p [] h = refl
+filter-all p (x ∷ l) h = rw (h x (here refl)) (ap (λ (r : List _). x ∷ r) (filter-all p l (λ y m. h y (there m))))
+
+-- the members from a place on
+drop-mem : {A : Type 0} (n : ℕ) (l : List A) {x : A} → x ∈ drop n l → x ∈ l
+drop-mem zero l m = m
+drop-mem (suc n) [] m = m
+drop-mem (suc n) (y ∷ l) m = there (drop-mem n l m)
+
+-- what rises, rises from a place on
+rising-drop : {K A : Type 0} (O : TotalOrder K) (key : A → K) (n : ℕ) (l : List A) → Rising O key l → Rising O key (drop n l)
+rising-drop O key zero l r = r
+rising-drop O key (suc n) [] r = r
+rising-drop O key (suc n) (y ∷ l) r = rising-drop O key n l (r .1)
+
+-- one more, in either case
+suc-cond : (t : Bool) (m n : ℕ) → suc (cond t m n) ≡ cond t (suc m) (suc n)
+suc-cond true m n = refl
+suc-cond false m n = refl
+
+-- from a record on the sums are no lower
+sums-rise : (b : List ℕ) (bs : List (List ℕ)) → Rising (vectorOrder records) (vector records) (b ∷ bs) → (c : List ℕ) → c ∈ b ∷ bs
+    → costsAt b 0 .sum ≤ costsAt c 0 .sum
+unfolding inOrder
+sums-rise b bs r c (here q) = rw q (omega arith)
+sums-rise b bs r c (there m) =
+    by-test (ltb (costsAt c 0 .sum) (costsAt b 0 .sum))
+    (λ d.
+    let l = ltb-true (costsAt c 0 .sum) (costsAt b 0 .sum) d in
+    clash (sym (in-order-apart (costsAt c 0) (costsAt b 0) (λ q. omega arith)) ∙ d) (r .0 c m))
+    (λ d. ltb-false (costsAt c 0 .sum) (costsAt b 0 .sum) d)
+
+module _ (v : Costs) where
+  -- from a record on that v stands before, none is at most v
+  free-from : (b : List ℕ) (bs : List (List ℕ)) → Rising (vectorOrder records) (vector records) (b ∷ bs) → inOrder v (costsAt b 0) ≡ true
+      → coveredBy v bs ≡ false
+  unfolding coveredBy inOrder atMost
+  free-from b bs r h =
+      none-any (λ c. atMost (costsAt c 0) v) bs
+      (λ c m. refute (atMost (costsAt c 0) v) (inOrder (costsAt c 0) (costsAt b 0))
+      (λ k. dictionary-trans orderℤ (vector records c) (costValues v) (vector records b) (at-most-before (costsAt c 0) v k) h) (r .0 c m))
+
+  -- the pass finds whether a record is at most v, and v's place
+  by-one-pass : (bs : List (List ℕ)) → Rising (vectorOrder records) (vector records) bs
+      → ((b : List ℕ) → b ∈ bs → atMost (costsAt b 0) v ≡ true → v .sum ≤ costsAt b 0 .sum)
+      → freePlace v bs ≡ cond (coveredBy v bs) (suc (length bs)) (placeOf v bs)
+  unfolding freePlace coveredBy placeOf
+  by-one-pass [] r h = refl
+  by-one-pass (b ∷ bs) r h =
+      let w = costsAt b 0 in
+      let ih = ap suc (by-one-pass bs (r .1) (λ c m. h c (there m))) ∙ suc-cond (coveredBy v bs) (suc (length bs)) (placeOf v bs) in
+      by-test (ltb (w .sum) (v .sum))
+      (λ d.
+      let l = ltb-true (w .sum) (v .sum) d in
+      let e : atMost w v ≡ false = fails (atMost w v) (λ k. let g = h b (here refl) k in omega arith) in
+      let f : inOrder v w ≡ false = sym (in-order-apart v w (λ q. omega arith)) ∙ le-ltb (v .sum) (w .sum) (omega arith) in
+      rw (d, e, f) ih)
+      (λ d. by-test (atMost w v)
+      (λ e. rw (d, e) refl)
+      (λ e. by-test (inOrder v w) (λ f. rw (d, e, f, free-from b bs r f)) (λ f. rw (d, e, f) ih)))
+
+  -- the pass that stops at a higher sum keeps what v is not at most
+  pruned-early : (bs : List (List ℕ)) → Rising (vectorOrder records) (vector records) bs
+      → ((b : List ℕ) → b ∈ bs → atMost v (costsAt b 0) ≡ true → costsAt b 0 .sum ≤ v .sum) → prunedLevel v bs ≡ prunedBy v bs
+  unfolding prunedLevel prunedBy
+  pruned-early [] r h = refl
+  pruned-early (b ∷ bs) r h =
+      let ih = pruned-early bs (r .1) (λ c m. h c (there m)) in
+      by-test (ltb (v .sum) (costsAt b 0 .sum))
+      (λ d.
+      let l = ltb-true (v .sum) (costsAt b 0 .sum) d in
+      rw d (sym (filter-all (λ c. not (atMost v (costsAt c 0))) (b ∷ bs)
+      (λ c m. ap not (fails (atMost v (costsAt c 0)) (λ k. let g = h c m k in let u = sums-rise b bs r c m in omega arith))))))
+      (λ d. by-test (atMost v (costsAt b 0)) (λ e. rw (d, e) ih) (λ e. rw (d, e) (ap (λ (l : List (List ℕ)). b ∷ l) ih)))
+
+  module _ (bs : List (List ℕ)) (r : RecordsRise bs) (h : Level v bs) where
+    one-pass : {t : Bool} → coveredBy v bs ≡ t → freePlace v bs ≡ cond t (suc (length bs)) (placeOf v bs)
+    one-pass e = by-one-pass bs (r .rising) (h .none-lower) ∙ ap (λ (t : Bool). cond t (suc (length bs)) (placeOf v bs)) e
+
+    -- beyond all: a record is at most v
+    pub free-covered : length bs < freePlace v bs → coveredBy v bs ≡ true
+    unfolding placeOf
+    free-covered k =
+        by-test (coveredBy v bs) (λ e. e) (λ e. let one = one-pass e in absurd (omega (arith, leading-few (λ b. inOrder v (costsAt b 0)) bs)))
+
+    -- else none is, and it is v's place
+    pub free-place : freePlace v bs ≤ length bs → (coveredBy v bs ≡ false) × (freePlace v bs ≡ placeOf v bs)
+    free-place k = by-test (coveredBy v bs) (λ e. let one = one-pass e in absurd (omega arith)) (λ e. (e, one-pass e))
+
+    -- from any place on, what v is not at most is what is left by sums
+    pub pruned-behind : (i : ℕ) → prunedLevel v (drop i bs) ≡ prunedBy v (drop i bs)
+    pruned-behind i = pruned-early (drop i bs) (rising-drop (vectorOrder records) (vector records) i bs (r .rising)) (λ b m. h .none-higher b (drop-mem i bs m))

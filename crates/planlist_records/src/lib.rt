@@ -1,0 +1,65 @@
+// The records of a plan list: a head, and then a record for each plan. Their marks, the places of their fields, and how they are written.
+use encoding::copy::copy_in;
+use encoding::write::write_i16;
+use encoding::write::write_u8;
+use encoding::write::write_u16;
+use encoding::write::write_u32;
+use network::Costs;
+use network::limits::COSTS_SIZE;
+ghost use mathlib.Core.Path.{_≡_};
+ghost use Prim.Native.Nat.{_+_, _≤_};
+ghost use lib.ListN.{length};
+ghost use Rattle.network.specs.PlanList.{headBytes, headSize, planBytes, planSize, planSlots};
+ghost use Rattle.encoding.specs.Overwrite.{overwrite};
+
+// The marks of a list head and of a plan record.
+pub const HEAD_MARK: [u8; 2] = *b"PH";
+
+pub const PLAN_MARK: [u8; 2] = *b"PL";
+
+// Where a list head has the plan count, the solved count, the links of a tree and the number of ceilings.
+pub const COUNT_AT: usize = 2;
+
+pub const SOLVED_AT: usize = 4;
+
+pub const TREE_SIZE_AT: usize = 8;
+
+pub const CEILINGS_AT: usize = 9;
+
+// Where a plan record has its costs.
+pub const SUM_AT: usize = 2;
+
+pub const Y1_AT: usize = 6;
+
+pub const Y2_AT: usize = 8;
+
+// The size of a plan record of t links.
+pub fn plan_size(t: u8) -> usize
+    ensures { λ r. ⌜ r ≡ planSize planSlots t ⌝ }
+{
+    COSTS_SIZE + (t as usize)
+}
+
+// Writes a plan record.
+pub fn write_plan(out: &mut [u8], at: usize, v: Costs, links: &[u8])
+    requires { ⌜ at + planSize planSlots (length (now links)) ≤ length (now out) ⌝ }
+    ensures { λ _. ⌜ now (out .exit) ≡ overwrite (now (out .entry)) at (planBytes v (now (links .entry))) ⌝ }
+{
+    copy_in(out, at, &PLAN_MARK);
+    write_u32(out, at + SUM_AT, v.sum);
+    write_i16(out, at + Y1_AT, v.y1);
+    write_i16(out, at + Y2_AT, v.y2);
+    copy_in(out, at + COSTS_SIZE, links);
+}
+
+// Writes a list head at the front.
+pub fn write_head(out: &mut [u8], count: u16, solved: u32, t: u8, p: u8)
+    requires { ⌜ headSize ≤ length (now out) ⌝ }
+    ensures { λ _. ⌜ now (out .exit) ≡ overwrite (now (out .entry)) 0 (headBytes count solved t p) ⌝ }
+{
+    copy_in(out, 0, &HEAD_MARK);
+    write_u16(out, COUNT_AT, count);
+    write_u32(out, SOLVED_AT, solved);
+    write_u8(out, TREE_SIZE_AT, t);
+    write_u8(out, CEILINGS_AT, p);
+}

@@ -27,7 +27,7 @@ module _ {C : Type 0} where
   lasts-range in-nil = in-nil
   lasts-range (in-cons {l = l} h p) = let g : length l - 1 < length l = omega arith in in-cons g (lasts-range p)
 
-  lasts-le : {js : List ℕ} {ls : List (List C)} → InRange js ls → leAll orderℕ js (lasts ls) ≡ true
+  pub lasts-le : {js : List ℕ} {ls : List (List C)} → InRange js ls → leAll orderℕ js (lasts ls) ≡ true
   lasts-le in-nil = refl
   lasts-le (in-cons {i = j} {l = l} h p) = ap₂ _&&_ (le-leb j (length l - 1) (omega arith)) (lasts-le p)
 

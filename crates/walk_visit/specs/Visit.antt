@@ -1,7 +1,7 @@
 -- One position of the walk over the two ceilings that the code has: what it asks, and that what it marks is what the answer settles.
 use mathlib.Core.Bool.{true}
 use mathlib.Core.List.{List, [], _∷_, _++_}
-use mathlib.Core.Option.{none, some}
+use mathlib.Core.Option.{Option, none, some}
 use mathlib.Core.Path.{_≡_, refl, sym, ap, ap₂, _∙_, subst, subst⁻¹}
 use Prim.Native.Nat.{ℕ, suc, _+_, _*_, _-_, _/_, _%_, _≤_, _<_}
 use native.Mathlib.Nat.{mul-le-mul-right, mul-one}
@@ -19,18 +19,25 @@ use Rattle.network.specs.Yard.{best, bounds, ceilingCosts, graph, ranks, treeSi
 use Rattle.network.specs.Walk.{positionCount, positions, values}
 use Rattle.network.specs.PlanList.{bufferNeed, costsOf, headSize, planSize, planSlots}
 use Rattle.network.specs.NetworkFine.{NetworkFine, graph-sound}
+use Rattle.network.specs.declared.Answer.{Answer}
 use Rattle.network.specs.declared.Network.{Network}
 use Rattle.kruskal.specs.ByCost.{linkOrder}
 use Rattle.planlist.specs.Stored.{absent, costs-padded}
-use Rattle.marking.specs.Place.{placeIn, placesOf}
-use Rattle.marking.specs.Slots.{ceilingValues, rank-count, value-count}
-use Rattle.marking.specs.Paint.{Run, paint, run, through}
-use Rattle.marking.specs.Box.{sides}
-use Rattle.marking.specs.Settle.{Settled, lasts, position-at}
-use Rattle.walk.specs.Absent.{marked-none, marked-some, own-later, own-range, ownPlaces, position-wide, product-wide, wide}
+use Rattle.question.specs.Question.{answerOf}
+use Rattle.marking_values.specs.Place.{placesOf}
+use Rattle.marking_values.specs.Slots.{ceilingValues, rank-count, value-count}
+use Rattle.marking_marks.specs.Paint.{Run, paint, run, through}
+use Rattle.marking_marks.specs.Box.{sides}
+use Rattle.marking_marks.specs.Settle.{Settled, lasts, position-at}
+use Rattle.walk_visit.specs.Absent.{ends, ends-later, ends-marked, ends-range, position-wide, product-wide, wide}
+use Rattle.walk_visit.specs.Answered.{Reaches, last1, last2, lastPlace, settledBy}
+
+-- the best tree at position n
+abbrev pub bestAt : Network → ℕ → Option (List ℕ)
+bestAt net n = best net (getD (positions net) n [])
 
 -- two slots, filled from a list and then with d
-two-slots : {A : Type 0} (d : A) (l : List A) → length l ≤ 2 → getD l 0 d ∷ getD l 1 d ∷ [] ≡ l ++ replicate (2 - length l) d
+two-slots : {A : Type 0} (d : A) (l : List A) → length l ≤ maxCeilings → getD l 0 d ∷ getD l 1 d ∷ [] ≡ l ++ replicate (maxCeilings - length l) d
 two-slots d [] h = refl
 two-slots d (x ∷ []) h = refl
 two-slots d (x ∷ y ∷ []) h = refl
@@ -81,6 +88,12 @@ module _ {net : Network} {order : List ℕ} {v1 v2 : List ℤ} (ready : Ready ne
   costs-two : (ts : List ℕ) → costsOf net ts .y1 ∷ costsOf net ts .y2 ∷ [] ≡ ceilingCosts net ts ++ absent net
   costs-two ts = ap (drop 1) (costs-padded net ts few)
 
+  -- the last places that an answer settles, of both ceilings
+  ends-two : (o : Option (List ℕ)) → ends (graph net) missing o ≡ last1 v1 (answerOf net o) ∷ last2 v2 (answerOf net o) ∷ []
+  unfolding lastPlace answerOf
+  ends-two none = ap lasts (sym both)
+  ends-two (some ts) = sym (ap₂ (λ (v : List ℤ) (ls : List (List ℤ)). placesOf v ls) (costs-two ts) both)
+
   module _ (n : ℕ) (h : n < positionCount net) where
     stride : length v2 * 1 ≡ length v2
     stride = mul-one (length v2)
@@ -104,7 +117,8 @@ module _ {net : Network} {order : List ℕ} {v1 v2 : List ℤ} (ready : Ready ne
     asked =
         let b = getD (positions net) n [] in
         let size : length b ≡ net .p =
-        ap length (position-at (yard net) (pos 0) n h) ∙ picks-length (pick-picks (pos 0) (places-range (values net) n h)) ∙ value-count net fine ∙ rank-count net fine in
+        ap length (position-at (yard net) (pos 0) n h) ∙ picks-length (pick-picks (pos 0) (places-range (values net) n h))
+        ∙ value-count net fine ∙ rank-count net fine in
         ap (take (net .p))
         (ap (λ (is : List ℕ). pick (pos 0) is (v1 ∷ v2 ∷ [])) (sym places-two)
         ∙ ap (λ (ls : List (List ℤ)). pick (pos 0) (places ls n) ls) both ∙ position-wide (graph net) missing n h)
@@ -117,46 +131,44 @@ module _ {net : Network} {order : List ℕ} {v1 v2 : List ℤ} (ready : Ready ne
         let e2 : suc k2 - n % length v2 ≡ k2 + 1 - n % length v2 = omega arith in
         ap (λ (is : List ℕ). sides is (k1 ∷ k2 ∷ []) (v1 ∷ v2 ∷ [])) places-two ∙ (λ i. run (stride i) (e1 i) ∷ run 1 (e2 i) ∷ [])
 
-    module _ (ms : List ℕ) (room : positionCount net ≤ length ms) where
-      -- with no tree, through the last places
-      pub none-marked : Settled (yard net) n none ms (paint (through (length v2) n (length v1 - 1) (length v2 - 1)) n ms)
-      none-marked =
-          subst (λ (rs : List Run). Settled (yard net) n none ms (paint rs n ms)) (same-sides (length v1 - 1) (length v2 - 1))
-          (subst⁻¹ (λ (ls : List (List ℤ)). Settled (yard net) n none ms (paint (sides (places ls n) (lasts ls) ls) n ms)) both
-          (marked-none (graph net) missing n h ms room))
-
-    module _ (ts : List ℕ) (found : best net (getD (positions net) n []) ≡ some ts) where
-      -- the places of the tree's costs
-      own-two : ownPlaces (graph net) missing ts ≡ placeIn (costsOf net ts .y1) v1 ∷ placeIn (costsOf net ts .y2) v2 ∷ []
-      own-two = sym (ap₂ (λ (v : List ℤ) (ls : List (List ℤ)). placesOf v ls) (costs-two ts) both)
-
-      own-in : InRange (placeIn (costsOf net ts .y1) v1 ∷ placeIn (costsOf net ts .y2) v2 ∷ []) (v1 ∷ v2 ∷ [])
-      own-in =
-          subst⁻¹ (λ (ls : List (List ℤ)). InRange (placeIn (costsOf net ts .y1) v1 ∷ placeIn (costsOf net ts .y2) v2 ∷ []) ls) both
-          (subst (λ (is : List ℕ). InRange is (wide (graph net) missing)) own-two (own-range (graph net) missing n h (graph-sound net fine) ts found))
-
-      own-after : leAll orderℕ (n / length v2 ∷ n % length v2 ∷ []) (placeIn (costsOf net ts .y1) v1 ∷ placeIn (costsOf net ts .y2) v2 ∷ []) ≡ true
-      own-after =
-          ap₂ (leAll orderℕ) (sym places-two ∙ ap (λ (ls : List (List ℤ)). places ls n) both) (sym own-two)
-          ∙ own-later (graph net) missing n h (graph-sound net fine) ts found
+    -- THE ANSWER a: the last places that it settles
+    module _ {a : Answer} (answered : a ≡ answerOf net (bestAt net n)) where
+      ends-are : ends (graph net) missing (bestAt net n) ≡ last1 v1 a ∷ last2 v2 a ∷ []
+      ends-are = ends-two (bestAt net n) ∙ ap (λ (b : Answer). last1 v1 b ∷ last2 v2 b ∷ []) (sym answered)
 
       -- they are in range, and no earlier than the position's
-      pub own-places-in : (placeIn (costsOf net ts .y1) v1 < length v1) × (placeIn (costsOf net ts .y2) v2 < length v2)
-      own-places-in = two-in own-in
+      ends-in : InRange (last1 v1 a ∷ last2 v2 a ∷ []) (v1 ∷ v2 ∷ [])
+      ends-in =
+          subst⁻¹ (λ (ls : List (List ℤ)). InRange (last1 v1 a ∷ last2 v2 a ∷ []) ls) both
+          (subst (λ (is : List ℕ). InRange is (wide (graph net) missing)) ends-are
+          (ends-range (graph net) missing n h (graph-sound net fine) (bestAt net n) refl))
 
-      pub own-places-later : (n / length v2 ≤ placeIn (costsOf net ts .y1) v1) × (n % length v2 ≤ placeIn (costsOf net ts .y2) v2)
-      own-places-later =
+      ends-after : leAll orderℕ (n / length v2 ∷ n % length v2 ∷ []) (last1 v1 a ∷ last2 v2 a ∷ []) ≡ true
+      ends-after =
+          ap₂ (leAll orderℕ) (sym places-two ∙ ap (λ (ls : List (List ℤ)). places ls n) both) (sym ends-are)
+          ∙ ends-later (graph net) missing n h (graph-sound net fine) (bestAt net n) refl
+
+      pub reaches : {size : ℕ} → positionCount net ≤ size → Reaches v1 v2 n a size
+      reaches room =
           let i = n / length v2 in
           let j = n % length v2 in
-          let k1 = placeIn (costsOf net ts .y1) v1 in
-          let k2 = placeIn (costsOf net ts .y2) v2 in
-          (leb-true i k1 (leAll-head orderℕ i k1 (j ∷ []) (k2 ∷ []) own-after), leb-true j k2 (leAll-head orderℕ j k2 [] [] (leAll-tail orderℕ i k1 (j ∷ []) (k2 ∷ []) own-after)))
+          let k1 = last1 v1 a in
+          let k2 = last2 v2 a in
+          let w = two-in ends-in in
+          let rows : k1 + 1 ≤ length v1 = omega arith in
+          record {
+            row = leb-true i k1 (leAll-head orderℕ i k1 (j ∷ []) (k2 ∷ []) ends-after);
+            column = leb-true j k2 (leAll-head orderℕ j k2 [] [] (leAll-tail orderℕ i k1 (j ∷ []) (k2 ∷ []) ends-after));
+            inside = w;
+            room = omega (arith, count-is, mul-le-mul-right (length v2) rows);
+          }
 
-      -- and the box through them is what the tree settles
-      pub some-marked : (ms : List ℕ) → positionCount net ≤ length ms
-          → Settled (yard net) n (some ts) ms (paint (through (length v2) n (placeIn (costsOf net ts .y1) v1) (placeIn (costsOf net ts .y2) v2)) n ms)
-      some-marked ms room =
-          subst (λ (rs : List Run). Settled (yard net) n (some ts) ms (paint rs n ms)) (same-sides (placeIn (costsOf net ts .y1) v1) (placeIn (costsOf net ts .y2) v2))
-          (subst (λ (is : List ℕ). Settled (yard net) n (some ts) ms (paint (sides (places (v1 ∷ v2 ∷ []) n) is (v1 ∷ v2 ∷ [])) n ms)) own-two
-          (subst⁻¹ (λ (ls : List (List ℤ)). Settled (yard net) n (some ts) ms (paint (sides (places ls n) (ownPlaces (graph net) missing ts) ls) n ms)) both
-          (marked-some (graph net) missing n h (graph-sound net fine) ts found ms room)))
+      -- and the marks that it sets are what it settles
+      pub settles : (ms : List ℕ) → positionCount net ≤ length ms → Settled (yard net) n (bestAt net n) ms (settledBy v1 v2 n a ms)
+      unfolding settledBy
+      settles ms room =
+          subst (λ (rs : List Run). Settled (yard net) n (bestAt net n) ms (paint rs n ms)) (same-sides (last1 v1 a) (last2 v2 a))
+          (subst (λ (is : List ℕ). Settled (yard net) n (bestAt net n) ms (paint (sides (places (v1 ∷ v2 ∷ []) n) is (v1 ∷ v2 ∷ [])) n ms)) ends-are
+          (subst⁻¹ (λ (ls : List (List ℤ)). Settled (yard net) n (bestAt net n) ms
+          (paint (sides (places ls n) (ends (graph net) missing (bestAt net n)) ls) n ms)) both
+          (ends-marked (graph net) missing n h (graph-sound net fine) (bestAt net n) refl ms room)))

@@ -2,7 +2,7 @@
 -- more, whose further ceilings have the one value d.
 use mathlib.Core.List.{List, [], _∷_, _++_}
 use mathlib.Core.Bool.{true}
-use mathlib.Core.Option.{none, some}
+use mathlib.Core.Option.{Option, none, some}
 use mathlib.Core.Path.{_≡_, refl, sym, ap, _∙_}
 use Prim.Native.Nat.{ℕ, zero, suc, _+_, _-_, _*_, _≤_, _<_, _/_, _%_}
 use native.Mathlib.Nat.{mod-lt}
@@ -17,10 +17,10 @@ use Rattle.frontier.specs.Places.{InRange, in-cons, in-nil, number-lt, pick, pl
 use Rattle.planning.specs.Graph.{Graph, Sound, problem}
 use Rattle.planning.specs.Grid.{all-fall, on-grid}
 use Rattle.planlist.specs.Alike.{leAll-append}
-use Rattle.marking.specs.Place.{placeIn, places-of, placesOf}
-use Rattle.marking.specs.Paint.{paint, sweep}
-use Rattle.marking.specs.Box.{sides}
-use Rattle.marking.specs.Settle.{Settled, lasts, lasts-range, own-later as later, position-at, settled-none, settled-some}
+use Rattle.marking_values.specs.Place.{placeIn, places-of, placesOf}
+use Rattle.marking_marks.specs.Paint.{paint, sweep}
+use Rattle.marking_marks.specs.Box.{sides}
+use Rattle.marking_marks.specs.Settle.{Settled, lasts, lasts-le, lasts-range, own-later, position-at, settled-none, settled-some}
 
 -- k ceilings with the one value d
 abbrev pub single : {C : Type 0} → ℕ → C → List (List C)
@@ -102,48 +102,72 @@ placesOf-wide k d (picks-cons {x = x} {l = l} m p) = ap (λ (is : List ℕ). pla
 abbrev pub wide : Graph → ℕ → List (List ℤ)
 wide G k = problem G .values ++ single k (pos 0)
 
--- the places of a tree's costs in them
-abbrev pub ownPlaces : Graph → ℕ → List ℕ → List ℕ
-ownPlaces G k ts = placesOf (problem G .ceilings ts ++ replicate k (pos 0)) (wide G k)
+-- the last places that an answer settles: those of a tree's own costs, or the last of all
+abbrev pub ends : Graph → ℕ → Option (List ℕ) → List ℕ
+ends G k none = lasts (wide G k)
+ends G k (some ts) = placesOf (problem G .ceilings ts ++ replicate k (pos 0)) (wide G k)
 
 -- Position n of a graph's walk, with k further ceilings
 module _ (G : Graph) (k n : ℕ) (h : n < product (problem G .values)) where
+  abbrev vs : List (List ℤ)
+  vs = problem G .values
+
+  from : InRange (places vs n) vs
+  from = places-range vs n h
+
   -- its values
-  pub position-wide : pick (pos 0) (places (wide G k) n) (wide G k) ≡ getD (positions (problem G .values)) n [] ++ replicate k (pos 0)
+  pub position-wide : pick (pos 0) (places (wide G k) n) (wide G k) ≡ getD (positions vs) n [] ++ replicate k (pos 0)
   position-wide =
-      rw (places-wide (pos 0) k (problem G .values) n h)
-      (pick-wide (pos 0) k (pos 0) (places-range (problem G .values) n h) ∙ ap (λ (v : List ℤ). v ++ replicate k (pos 0)) (sym (position-at (problem G) (pos 0) n h)))
+      rw (places-wide (pos 0) k vs n h)
+      (pick-wide (pos 0) k (pos 0) from ∙ ap (λ (v : List ℤ). v ++ replicate k (pos 0)) (sym (position-at (problem G) (pos 0) n h)))
 
-  -- with no solution: a box to the last places
-  pub marked-none : (ms : List ℕ) → product (problem G .values) ≤ length ms → Settled (problem G) n none ms (paint (sides (places (wide G k) n) (lasts (wide G k)) (wide G k)) n ms)
-  marked-none ms room =
-      let vs = problem G .values in
-      let from = places-range vs n h in
-      rw (places-wide (pos 0) k vs n h, lasts-wide (pos 0) k vs, paint-wide (pos 0) k from (lasts-range from) n ms)
-      (settled-none (problem G) (pos 0) n h (all-fall G 0 (G .ks)) ms room)
+  -- the last places ks that its answer o settles, without the further ceilings: in range, no earlier than its own, and a box through them is marked
+  record Ends (o : Option (List ℕ)) (ks : List ℕ) : Type 0 where
+    range : InRange ks vs
+    later : leAll orderℕ (places vs n) ks ≡ true
+    marked : (ms : List ℕ) → product vs ≤ length ms → Settled (problem G) n o ms (paint (sides (places vs n) ks vs) n ms)
+    same : ends G k o ≡ ks ++ fronts k
 
-  -- with the solution ts: the places of its costs are in range and no earlier, and a box through them is marked
-  module _ (sound : Sound G) (ts : List ℕ) (found : best (problem G) (getD (positions (problem G .values)) n []) ≡ some ts) where
-    picks : Picks (problem G .ceilings ts) (problem G .values)
-    picks = on-grid G sound ts (best-some (problem G) (getD (positions (problem G .values)) n []) ts found .member)
+  module _ (sound : Sound G) (o : Option (List ℕ)) (found : best (problem G) (getD (positions vs) n []) ≡ o) where
+    its-ends : (ks : List ℕ) × Ends o ks
+    its-ends = go o found
+      where
+        go : (q : Option (List ℕ)) → best (problem G) (getD (positions vs) n []) ≡ q → (ks : List ℕ) × Ends q ks
+        go none e = (
+          lasts vs,
+          record {
+            range = lasts-range from;
+            later = lasts-le from;
+            marked = settled-none (problem G) (pos 0) n h (all-fall G 0 (G .ks));
+            same = lasts-wide (pos 0) k vs;
+          },
+        )
+        go (some ts) e =
+            let picks = on-grid G sound ts (best-some (problem G) (getD (positions vs) n []) ts e .member) in
+            let own = places-of (pos 0) picks (all-fall G 0 (G .ks)) in (
+              placesOf (problem G .ceilings ts) vs,
+              record {
+                range = own .0;
+                later = own-later (problem G) (pos 0) n h (all-fall G 0 (G .ks)) (own .0) ts (own .1) e;
+                marked = settled-some (problem G) (pos 0) n h (all-fall G 0 (G .ks)) (own .0) ts (own .1);
+                same = placesOf-wide k (pos 0) picks;
+              },
+            )
 
-    own : InRange (placesOf (problem G .ceilings ts) (problem G .values)) (problem G .values)
-        × (problem G .ceilings ts ≡ pick (pos 0) (placesOf (problem G .ceilings ts) (problem G .values)) (problem G .values))
-    own = places-of (pos 0) picks (all-fall G 0 (G .ks))
+    -- with them: in range
+    pub ends-range : InRange (ends G k o) (wide G k)
+    ends-range = let w = its-ends .1 in rw (w .same) (range-wide (pos 0) k (w .range))
 
-    pub own-range : InRange (ownPlaces G k ts) (wide G k)
-    own-range = rw (placesOf-wide k (pos 0) picks) (range-wide (pos 0) k (own .0))
+    -- no earlier
+    pub ends-later : leAll orderℕ (places (wide G k) n) (ends G k o) ≡ true
+    ends-later =
+        let ks = its-ends .0 in
+        let w = its-ends .1 in
+        rw (places-wide (pos 0) k vs n h, w .same)
+        (leAll-append orderℕ (places vs n) ks (fronts k) (range-length from ∙ sym (range-length (w .range))) ∙ w .later)
 
-    pub own-later : leAll orderℕ (places (wide G k) n) (ownPlaces G k ts) ≡ true
-    own-later =
-        let vs = problem G .values in
-        rw (places-wide (pos 0) k vs n h, placesOf-wide k (pos 0) picks)
-        (leAll-append orderℕ (places vs n) (placesOf (problem G .ceilings ts) vs) (fronts k) (range-length (places-range vs n h) ∙ sym (range-length (own .0)))
-        ∙ later (problem G) (pos 0) n h (all-fall G 0 (G .ks)) (own .0) ts (own .1) found)
-
-    pub marked-some : (ms : List ℕ) → product (problem G .values) ≤ length ms
-        → Settled (problem G) n (some ts) ms (paint (sides (places (wide G k) n) (ownPlaces G k ts) (wide G k)) n ms)
-    marked-some ms room =
-        let vs = problem G .values in
-        rw (places-wide (pos 0) k vs n h, placesOf-wide k (pos 0) picks, paint-wide (pos 0) k (places-range vs n h) (own .0) n ms)
-        (settled-some (problem G) (pos 0) n h (all-fall G 0 (G .ks)) (own .0) ts (own .1) ms room)
+    -- and marked
+    pub ends-marked : (ms : List ℕ) → product vs ≤ length ms → Settled (problem G) n o ms (paint (sides (places (wide G k) n) (ends G k o) (wide G k)) n ms)
+    ends-marked ms room =
+        let w = its-ends .1 in
+        rw (places-wide (pos 0) k vs n h, w .same, paint-wide (pos 0) k from (w .range) n ms) (w .marked ms room)

@@ -1,9 +1,9 @@
 -- The walk as its loop does it: what the marks and the records are when the first n positions have been visited.
 use mathlib.Core.Bool.{Bool, true, false, cond, _||_}
-use mathlib.Core.List.{List, [], _∷_, _++_, map, List·Memᴰ·not-nil}
+use mathlib.Core.List.{List, [], _∷_, List·Memᴰ·not-nil}
 use mathlib.Core.Logic.{_⊎_, inl, inr}
 use mathlib.Core.Option.{Option, none, some}
-use mathlib.Core.Path.{_≡_, refl, sym, ap, _∙_, ap₂, subst, subst⁻¹}
+use mathlib.Core.Path.{_≡_, refl, sym, ap, _∙_, subst, subst⁻¹}
 use Prim.Native.Nat.{ℕ, _+_, _*_, _≤_, _<_}
 use native.Mathlib.Omega.{arith}
 use borrow.Author.Tests.{leb-true}
@@ -16,16 +16,10 @@ use Rattle.frontier.specs.Walk.{positions-length}
 use Rattle.planning.specs.Grid.{walk-lists}
 use Rattle.network.specs.Yard.{best, graph, treeSize, yard}
 use Rattle.network.specs.Walk.{plans, positionCount, positions, solvedCount, values}
-use Rattle.network.specs.PlanList.{costsOf, filled, headBytes, headSize, join, planBytes, planSize, planSlots}
+use Rattle.network.specs.PlanList.{costsOf, headSize, planSize, planSlots}
 use Rattle.network.specs.NetworkFine.{NetworkFine, graph-sound}
 use Rattle.network.specs.declared.Network.{Network}
-use Rattle.planlist.specs.Blocks.{blocks}
-use Rattle.planlist.specs.Records.{Writable}
-use Rattle.planlist.specs.Insertion.{RecordsRise, insertRecord}
-use Rattle.planlist.specs.Passes.{Level}
 use Rattle.planlist.specs.Stored.{Holds, Padded, absent, costs-padded, holds-inserted, holds-level, holds-none, holds-rise}
-use Rattle.planlist.specs.Finished.{finished, finished-list, thenZeros}
-use Rattle.marking_marks.specs.Settle.{Settled}
 use Rattle.marking_values.specs.Slots.{rank-count}
 use Rattle.marking_marks.specs.Unmarked.{nextUnmarked, unmarked-keeps}
 use Rattle.walk_visit.specs.Answered.{recordsIn}

@@ -1,7 +1,7 @@
 -- What the walk says of itself, and what its buffer then holds.
 use mathlib.Core.Bool.{cond, false, true}
 use mathlib.Core.List.{List, _++_, map}
-use mathlib.Core.Path.{_≡_, refl, sym, ap, ap₂, _∙_}
+use mathlib.Core.Path.{_≡_, refl, sym, ap, _∙_}
 use Prim.Native.Nat.{ℕ, _+_, _*_, _≤_, _<_}
 use native.Mathlib.Nat.{mul-le-mul-right}
 use native.Mathlib.Omega.{arith}
@@ -71,6 +71,6 @@ concluded w t p bs = cond (w .spent) (replicate (length bs) 0) (finished bs (w .
 pub list-filled : (net : Network) {allowance : ℕ} {bs : List ℕ} {w : Walked} → Outcome net allowance bs w → w .spent ≡ false
     → finished bs (w .plans) (w .solved) (treeSize net) (net .p) ≡ filled net (length bs)
 list-filled net {bs = bs} {w = w} o e =
+    let records = join (map (λ ts. planBytes (costsOf net ts) ts) (plans net)) in
     finished-list (yard net) (costsOf net) (λ ts. ts) (absent net) bs (w .solved) (treeSize net) (net .p) (o .ended e .2)
-    ∙ ap (λ (k : ℕ). thenZeros (length bs) (headBytes (length (plans net)) k (treeSize net) (net .p) ++ join (map (λ ts. planBytes (costsOf net ts) ts) (plans net))))
-    (o .ended e .0)
+    ∙ ap (λ (k : ℕ). thenZeros (length bs) (headBytes (length (plans net)) k (treeSize net) (net .p) ++ records)) (o .ended e .0)

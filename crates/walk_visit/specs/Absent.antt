@@ -84,7 +84,8 @@ module _ {C : Type 0} (d : C) where
   paint-wide (suc k) in-nil in-nil at ms = paint-wide k in-nil in-nil at ms
   paint-wide k (in-cons {i = i} {is = is} {ls = ls} h p) (in-cons {i = j} {is = js} g q) at ms =
       ap (λ (s : ℕ). sweep (paint (sides (is ++ fronts k) (js ++ fronts k) (ls ++ single k d))) s (suc j - i) at ms) (product-wide k ls)
-      ∙ sweep-cong (paint (sides (is ++ fronts k) (js ++ fronts k) (ls ++ single k d))) (paint (sides is js ls)) (paint-wide k p q) (product ls) (suc j - i) at ms
+      ∙ sweep-cong (paint (sides (is ++ fronts k) (js ++ fronts k) (ls ++ single k d))) (paint (sides is js ls)) (paint-wide k p q)
+      (product ls) (suc j - i) at ms
 
 -- as many places as ceilings
 range-length : {C : Type 0} {is : List ℕ} {ls : List (List C)} → InRange is ls → length is ≡ length ls

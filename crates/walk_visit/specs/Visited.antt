@@ -1,7 +1,7 @@
 -- What solving a position asks of the records of plans, and what it leaves.
 use mathlib.Core.List.{List, []}
 use mathlib.Core.Option.{Option, none, some}
-use mathlib.Core.Path.{_≡_, refl, sym, ap, ap₂, _∙_, subst, subst⁻¹}
+use mathlib.Core.Path.{_≡_, refl, sym, ap, ap₂, _∙_, subst⁻¹}
 use Prim.Native.Nat.{ℕ, _+_, _*_, _≤_}
 use native.Mathlib.Omega.{arith}
 use lib.ListN.{getD, length, take}
@@ -41,16 +41,19 @@ module _ (net : Network) where
     pub rise : RecordsRise (recordsIn (treeSize net) count bs)
     pub level : (ts : List ℕ) → bestAt net n ≡ some ts → Level (costsOf net ts) (recordsIn (treeSize net) count bs)
 
-  -- Position n has the answer a, and left the tree buffer so; its links are the first t bytes there.
-  module _ (n : ℕ) {a : Answer} (answered : a ≡ answerOf net (bestAt net n)) (tree : List ℕ) {left links : List ℕ} (leaves : left ≡ treeWith (bestAt net n) tree)
-      (room : treeSize net ≤ length left) (front : links ≡ take (treeSize net) left) where
+  -- Position n has the answer a, and left the tree buffer so; the links are the first t bytes there.
+  module _ (n : ℕ) {a : Answer} (answered : a ≡ answerOf net (bestAt net n)) (tree : List ℕ) {left : List ℕ}
+      (leaves : left ≡ treeWith (bestAt net n) tree) (room : treeSize net ≤ length left) where
+    abbrev links : List ℕ
+    links = take (treeSize net) left
+
     size : length links ≡ treeSize net
-    size = ap length front ∙ length-take-le (treeSize net) left room
+    size = length-take-le (treeSize net) left room
 
     -- they are those of the best tree
     links-are : (ts : List ℕ) → bestAt net n ≡ some ts → links ≡ ts
     links-are ts e =
-        front ∙ ap₂ (λ (k : ℕ) (l : List ℕ). take k l) (sym (best-length net (getD (positions net) n []) ts e)) leaves ∙ tree-front (bestAt net n) ts tree e
+        ap₂ (λ (k : ℕ) (l : List ℕ). take k l) (sym (best-length net (getD (positions net) n []) ts e)) leaves ∙ tree-front (bestAt net n) ts tree e
 
     -- its plan can be taken in
     pub takes : {bs : List ℕ} {count : ℕ} → Prepared n bs count → Takes a links count bs

@@ -61,12 +61,13 @@ pub fn solve_at(
     out: &mut [u8],
     count: usize,
 ) -> usize
-    requires { ⌜ Ready net (now order) (now v1) (now v2) × (n < positionCount net) × (positionCount net ≤ length (now marks)) × Prepared net n (now out) count ⌝ }
+    requires { ⌜ Ready net (now order) (now v1) (now v2) × (n < positionCount net) × (positionCount net ≤ length (now marks))
+        × Prepared net n (now out) count ⌝ }
     ensures { λ r. ⌜ Visited net n (now (marks .entry)) (now (marks .exit)) (now (out .entry)) (now (out .exit)) count r ⌝ }
 {
     let t = net.n as usize - 1;
     let mut tree = [0u8; MAX_TREE];
     let answer = ask(net, order, v1, v2, n, &mut tree);
     settle(marks, n, v1, v2, answer);
-    take_in(out, count, answer, &tree[0..t])
+    take_in(out, count, answer, &tree[..t])
 }

@@ -1,7 +1,6 @@
 -- `walk::list::conclude` meets its contract.
 use mathlib.Core.Bool.{true, false}
 use mathlib.Core.Path.{_≡_}
-use native.Mathlib.Omega.{arith}
 use borrow.Author.Needs.{needs}
 use Rattle.network.specs.Calls.{status}
 use Rattle.network.specs.Checked.{refuseIf}

@@ -1,7 +1,7 @@
 -- `walk::list::list_plans` meets its contract: the links in order and the values of the two ceilings are what the walk sets out with.
 use mathlib.Core.List.{List}
 use mathlib.Core.Path.{_≡_, sym, _∙_}
-use Prim.Native.Nat.{ℕ, _≤_}
+use Prim.Native.Nat.{_≤_}
 use native.Mathlib.Omega.{arith}
 use borrow.Author.Needs.{needs}
 use lib.IntN.{ℤ}
@@ -26,7 +26,8 @@ values1 c = let r = c .before .before .before .before .before .ceiling-values in
 abbrev values2 : tie.After-need → List ℤ
 values2 c = let r = c .before .before .ceiling-values2 in take (r .result) (r .last .1 .1 .0)
 
-ready : (c : tie.After-need) → Ready (start c .args .net) (c .before .before .before .before .before .before .before .order-links .result) (values1 c) (values2 c)
+ready : (c : tie.After-need)
+    → Ready (start c .args .net) (c .before .before .before .before .before .before .before .order-links .result) (values1 c) (values2 c)
 ready c =
     record {
       fine = start c .pre;
@@ -49,7 +50,10 @@ count2 c =
     length-take-le (r .result) (r .last .1 .1 .0) (omega (arith, r .ensures .0))
 
 few : (c : tie.After-need) → (length (values1 c) ≤ maxLinks) × (length (values2 c) ≤ maxLinks)
-few c = (omega (arith, count1 c, c .before .before .before .before .before .ceiling-values .ensures .0), omega (arith, count2 c, c .before .before .ceiling-values2 .ensures .0))
+few c =
+    let first = c .before .before .before .before .before .ceiling-values .ensures in
+    let second = c .before .before .ceiling-values2 .ensures in
+    (omega (arith, count1 c, first .0), omega (arith, count2 c, second .0))
 
 -- what was computed is what the list buffer needs
 need-known : (c : tie.After-need) → c .need .result ≡ bufferNeed (start c .args .net)

@@ -4,7 +4,6 @@ use mathlib.Core.Path.{_≡_, refl, subst⁻¹}
 use Prim.Native.Nat.{ℕ, _+_, _*_, _-_, _≤_, _<_}
 use native.Mathlib.Nat.{mul-le-mul-right}
 use native.Mathlib.Omega.{arith}
-use borrow.Author.Needs.{needs}
 use lib.ListN.{length, length-replicate}
 use Rattle.network.specs.Limits.{maxPlans}
 use Rattle.network.specs.PlanList.{headSize, planSize, planSlots}
@@ -99,6 +98,7 @@ loop-again c =
     let turn = c .before .before .before .before .before .before .before .before in
     let s = entry turn in
     let l = turn .before .loop in
+    let unmarked = c .before .before .before .before .before .before .before .if1 .taken in
     let new = c .before .before .before .solve-at in (
       omega (arith, new .kept),
       omega (arith, new .kept),
@@ -106,7 +106,7 @@ loop-again c =
       omega (arith, new .ensures .bounded),
       omega (arith, l .inv .4),
       omega (arith, l .inv .5, c .before .before .before .before .before .before .if2 .left),
-      step (s .args .net) (l .n) (inside turn) (l .inv .6) (c .before .before .before .before .before .before .before .if1 .taken) (s .pre .0 .fine) (new .ensures),
+      step (s .args .net) (l .n) (inside turn) (l .inv .6) unmarked (s .pre .0 .fine) (new .ensures),
     )
 
 slice-aggregate-next-unmarked : tie.Need-slice-aggregate-next-unmarked Inv-loop μ-loop

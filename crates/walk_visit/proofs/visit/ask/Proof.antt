@@ -1,5 +1,5 @@
 -- `walk_visit::visit::ask` meets its contract: the bounds asked are the values of the position.
-use mathlib.Core.Path.{_≡_, ap, ap₂, _∙_}
+use mathlib.Core.Path.{ap, ap₂, _∙_}
 use mathlib.Core.List.{List}
 use Prim.Native.Nat.{_/_, _%_, _<_}
 use native.Mathlib.Omega.{arith}
@@ -15,7 +15,8 @@ use Rattle.walk_visit.proofs.visit.ask.Statement.{statement}
 use Rattle.walk_visit.proofs.visit.ask.Tie as tie
 
 -- the places of the position are in range
-inside : (s : tie.Start) → (s .args .n / length (s .args .v2 .now) < length (s .args .v1 .now)) × (s .args .n % length (s .args .v2 .now) < length (s .args .v2 .now))
+inside : (s : tie.Start)
+    → (s .args .n / length (s .args .v2 .now) < length (s .args .v1 .now)) × (s .args .n % length (s .args .v2 .now) < length (s .args .v2 .now))
 inside s = places-in (s .pre .0) (s .args .n) (s .pre .1)
 
 div-solve : tie.Need-div-solve

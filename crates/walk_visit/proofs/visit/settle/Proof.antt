@@ -1,16 +1,26 @@
 -- `walk_visit::visit::settle` meets its contract: the box is marked through the last places that the answer settles.
 use mathlib.Core.Path.{_≡_, sym, ap, _∙_}
+use Prim.Native.Nat.{_-_}
 use native.Mathlib.Omega.{arith}
 use borrow.Author.Needs.{needs}
 use mir.Facts.{toZ-ofZ}
 use lib.IntN.{ℤ}
-use Rattle.network.specs.declared.Costs.{Costs}
+use lib.ListN.{length}
 use Rattle.marking_values.specs.Place.{placeIn}
 use Rattle.walk_visit.specs.Answered.{box-fits, box-marks, last-none, last-plan, last1, last2}
 use Rattle.walk_visit.proofs.visit.settle.Statement.{statement}
 use Rattle.walk_visit.proofs.visit.settle.Tie as tie
 
--- where the places of a plan's costs have been found: they are these
+-- with no plan: the last of all
+none1 : (c : tie.After-enum-told)
+    → last1 (c .before .before .before .args .v1 .now) (c .before .before .before .args .answer) ≡ length (c .before .before .before .args .v1 .now) - 1
+none1 c = last-none (λ v. v .y1) (c .before .before .before .args .v1 .now) (c .enum-told .given .1)
+
+none2 : (c : tie.After-enum-told)
+    → last2 (c .before .before .before .args .v2 .now) (c .before .before .before .args .answer) ≡ length (c .before .before .before .args .v2 .now) - 1
+none2 c = last-none (λ v. v .y2) (c .before .before .before .args .v2 .now) (c .enum-told .given .1)
+
+-- with a plan: the places found of its costs
 abbrev start : tie.After-place-of2 → tie.Start
 start c = c .before .before .before .before .before .before .before .before .before
 
@@ -43,9 +53,7 @@ sub-mark-through-2 c = search needs
 mark-through-requires : tie.Need-mark-through-requires
 mark-through-requires c κs =
     let s = c .before .before .before .before in
-    let a = s .args in
-    let none = c .before .enum-told .given .1 in
-    box-fits (a .v1 .now) (a .v2 .now) (a .n) (a .answer) (last-none (λ v. v .y1) (a .v1 .now) none) (last-none (λ v. v .y2) (a .v2 .now) none) (s .pre)
+    box-fits (s .args .v1 .now) (s .args .v2 .now) (s .args .n) (s .args .answer) (none1 (c .before)) (none2 (c .before)) (s .pre)
 
 same-length : tie.Need-same-length
 same-length c = search needs
@@ -54,9 +62,7 @@ returns : tie.Need-returns
 returns c =
     let told = c .before .before .before .before in
     let a = told .before .before .before .args in
-    let none = told .enum-told .given .1 in
-    c .before .before .mark-through .ensures
-    ∙ box-marks (a .v1 .now) (a .v2 .now) (a .n) (a .answer) (last-none (λ v. v .y1) (a .v1 .now) none) (last-none (λ v. v .y2) (a .v2 .now) none) (a .marks .now)
+    c .before .before .mark-through .ensures ∙ box-marks (a .v1 .now) (a .v2 .now) (a .n) (a .answer) (none1 told) (none2 told) (a .marks .now)
 
 place-of-requires : tie.Need-place-of-requires
 place-of-requires c κs = search needs

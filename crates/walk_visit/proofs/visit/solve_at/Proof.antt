@@ -1,11 +1,10 @@
 -- `walk_visit::visit::solve_at` meets its contract: what the position settles is marked, and its plan is taken in.
-use mathlib.Core.Path.{_≡_, ap, _∙_, subst⁻¹}
-use mathlib.Core.List.{List}
-use Prim.Native.Nat.{ℕ, _≤_}
-use native.Mathlib.Nat.{sub-zero}
+use mathlib.Core.Path.{sym, subst⁻¹}
+use Prim.Native.Nat.{_≤_}
 use native.Mathlib.Omega.{arith}
 use borrow.Author.Needs.{needs}
-use lib.ListN.{length, replicate, take}
+use lib.ListN.{length, replicate}
+use lib.Seq.{length-take-le}
 use Rattle.network.specs.Limits.{maxTree}
 use Rattle.network.specs.Yard.{treeSize, yard}
 use Rattle.marking_marks.specs.Settle.{Settled}
@@ -39,23 +38,17 @@ settle-requires c κs =
     let s = start asked in
     reaches (s .pre .0) (s .args .n) (s .pre .1) (asked .ask .ensures .0) (s .pre .2)
 
-sub-take-in : tie.Need-sub-take-in
-sub-take-in c = search needs
+array-share-prefix-tree : tie.Need-array-share-prefix-tree
+array-share-prefix-tree c = search needs
 
-part-take-in-start : tie.Need-part-take-in-start
-part-take-in-start c = search needs
-
-part-take-in-end : tie.Need-part-take-in-end
-part-take-in-end c = search needs
+slice-aggregate-take-in : tie.Need-slice-aggregate-take-in
+slice-aggregate-take-in c = sym (length-take-le _ _ (tree-room (c .before .before .before .before .before .before .before)))
 
 take-in-requires : tie.Need-take-in-requires
 take-in-requires c κs =
-    let asked = c .before .before .before .before .before .before .before .before in
+    let asked = c .before .before .before .before .before .before .before in
     let s = start asked in
-    let a = s .args in
-    let left = asked .ask .last .1 .1 .1 .1 .1 .0 in
-    takes (a .net) (a .n) (asked .ask .ensures .0) (replicate maxTree 0) (asked .ask .ensures .1) (tree-room asked)
-    (ap (λ (k : ℕ). take k left) (sub-zero (treeSize (a .net)))) (s .pre .3)
+    takes (s .args .net) (s .args .n) (asked .ask .ensures .0) (replicate maxTree 0) (asked .ask .ensures .1) (tree-room asked) (s .pre .3)
 
 same-length : tie.Need-same-length
 same-length c = search needs
@@ -65,13 +58,11 @@ same-length-2 c = search needs
 
 returns : tie.Need-returns
 returns c =
-    let asked = c .before .before .before .before .before .before .before .before .before .before .before in
+    let asked = c .before .before .before .before .before .before .before .before .before .before in
     let s = start asked in
     let a = s .args in
-    let left = asked .ask .last .1 .1 .1 .1 .1 .0 in
-    let marked = c .before .before .before .before .before .before .before .before .settle in
+    let marked = c .before .before .before .before .before .before .before .settle in
     visited (a .net) (a .n) (asked .ask .ensures .0) (replicate maxTree 0) (asked .ask .ensures .1) (tree-room asked)
-    (ap (λ (k : ℕ). take k left) (sub-zero (treeSize (a .net))))
     (subst⁻¹ (Settled (yard (a .net)) (a .n) (bestAt (a .net) (a .n)) (a .marks .now)) (marked .ensures)
     (settles (s .pre .0) (a .n) (s .pre .1) (asked .ask .ensures .0) (a .marks .now) (s .pre .2)))
     (c .before .before .take-in .ensures)
@@ -85,9 +76,8 @@ solve-at-spec =
     slice-aggregate-ask
     ask-requires
     settle-requires
-    sub-take-in
-    part-take-in-start
-    part-take-in-end
+    array-share-prefix-tree
+    slice-aggregate-take-in
     take-in-requires
     same-length
     same-length-2

@@ -53,11 +53,14 @@ module _ {C S : Type 0} (P : Problem C S) where
   unfolding entriesAt
   entries-within n =
       let rest = drop n (positions values) in
-      let whole = ap (λ (l : List (List C)). length (walk P l [])) (sym (take-append-drop n (positions values))) ∙ ap length (walk-append (take n (positions values)) rest []) in
+      let whole =
+      ap (λ (l : List (List C)). length (walk P l [])) (sym (take-append-drop n (positions values)))
+      ∙ ap length (walk-append (take n (positions values)) rest []) in
       omega (arith, walk-grows P rest (walk P (take n (positions values)) []))
 
   -- where a position is still to be solved, more are solved in the end
-  pub entries-fewer : (n : ℕ) → n < length (positions values) → covered P (entriesAt n) (getD (positions values) n []) ≡ false → length (entriesAt n) < length (solved P)
+  pub entries-fewer : (n : ℕ) → n < length (positions values) → covered P (entriesAt n) (getD (positions values) n []) ≡ false
+      → length (entriesAt n) < length (solved P)
   entries-fewer n h e =
       let more = ap length (entries-solve n h e) ∙ length-append (entriesAt n) (solve P (getD (positions values) n []) ∷ []) in
       omega (arith, entries-within (n + 1))
@@ -82,7 +85,8 @@ module _ {C S : Type 0} (P : Problem C S) where
       let w = mapSome-mem (λ e. e .answer) (entriesAt n) m in
       go (w .0) (w .2) (walk-member P (take n (positions values)) [] (w .1))
     where
-      go : (e : Entry C S) → e .answer ≡ some s → (e ∈ []) ⊎ ((b : List C) × (b ∈ take n (positions values)) × (e ≡ solve P b)) → (b : List C) × (best P b ≡ some s)
+      go : (e : Entry C S) → e .answer ≡ some s → (e ∈ []) ⊎ ((b : List C) × (b ∈ take n (positions values)) × (e ≡ solve P b))
+          → (b : List C) × (best P b ≡ some s)
       go e k (inl o) = absurd (List·Memᴰ·not-nil o)
       go e k (inr w) = (w .0, sym (ap (λ (x : Entry C S). x .answer) (w .2)) ∙ k)
 

@@ -1,9 +1,7 @@
--- The threshold walk of a network: what solving a position leaves
+-- the threshold walk of a network: the entries that it solves, and what it has done when the first n positions are visited
 pub mod Entries
 pub mod Progress
--- absent ceilings, for any number of ceilings
-pub mod Absent
--- one position, for the two ceilings of the code
-pub mod Visit
+-- what it says of itself in the end
+pub mod Walked
 -- the list call on a network
 pub mod Call

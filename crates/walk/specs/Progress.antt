@@ -1,10 +1,10 @@
 -- The walk as its loop does it: what the marks and the records are when the first n positions have been visited.
 use mathlib.Core.Bool.{Bool, true, false, cond, _||_}
-use mathlib.Core.List.{List, [], _∷_, _++_, map, List·Memᴰ·not-nil}
+use mathlib.Core.List.{List, [], _∷_, List·Memᴰ·not-nil}
 use mathlib.Core.Logic.{_⊎_, inl, inr}
 use mathlib.Core.Option.{Option, none, some}
-use mathlib.Core.Path.{_≡_, refl, sym, ap, _∙_, ap₂, subst, subst⁻¹}
-use Prim.Native.Nat.{ℕ, _+_, _≤_, _<_}
+use mathlib.Core.Path.{_≡_, refl, sym, ap, _∙_, subst, subst⁻¹}
+use Prim.Native.Nat.{ℕ, _+_, _*_, _≤_, _<_}
 use native.Mathlib.Omega.{arith}
 use borrow.Author.Tests.{leb-true}
 use lib.IntN.{ℤ}
@@ -15,20 +15,18 @@ use Rattle.frontier.specs.Plans.{Front, collect-front, collect-member}
 use Rattle.frontier.specs.Walk.{positions-length}
 use Rattle.planning.specs.Grid.{walk-lists}
 use Rattle.network.specs.Yard.{best, graph, treeSize, yard}
-use Rattle.network.specs.Walk.{positionCount, positions, solved, solvedCount, values}
-use Rattle.network.specs.PlanList.{costsOf, filled, headBytes, headSize, join, planBytes, planSize, planSlots}
+use Rattle.network.specs.Walk.{plans, positionCount, positions, solvedCount, values}
+use Rattle.network.specs.PlanList.{costsOf, headSize, planSize, planSlots}
 use Rattle.network.specs.NetworkFine.{NetworkFine, graph-sound}
 use Rattle.network.specs.declared.Network.{Network}
-use Rattle.planlist_records.specs.Blocks.{blocks}
-use Rattle.planlist_costs.specs.Held.{Writable}
-use Rattle.planlist_insertion.specs.Insertion.{RecordsRise, insertRecord}
-use Rattle.planlist_insertion.specs.Level.{Level}
 use Rattle.planlist_insertion.specs.Stored.{Holds, Padded, absent, costs-padded, holds-inserted, holds-level, holds-none, holds-rise}
-use Rattle.planlist_ending.specs.Finished.{finished, finished-list, thenZeros}
-use Rattle.marking.specs.Settle.{Settled}
-use Rattle.marking.specs.Slots.{rank-count}
-use Rattle.marking.specs.Unmarked.{nextUnmarked, unmarked-keeps}
-use Rattle.walk.specs.Entries.{answered, collect-more, entries-all, entries-fewer, entries-none, entries-skip, entries-solve, entriesAt, no-lower, takeAnswer}
+use Rattle.marking_values.specs.Slots.{rank-count}
+use Rattle.marking_marks.specs.Unmarked.{nextUnmarked, unmarked-keeps}
+use Rattle.walk_visit.specs.Answered.{recordsIn}
+use Rattle.walk_visit.specs.Visit.{bestAt}
+use Rattle.walk_visit.specs.Visited.{Prepared, Visited, takeRecord}
+use Rattle.walk.specs.Entries.{answered, collect-more, entries-all, entries-fewer, entries-none}
+use Rattle.walk.specs.Entries.{entries-skip, entries-solve, entriesAt, no-lower, takeAnswer}
 
 -- a mark
 abbrev pub bit : Bool → ℕ
@@ -48,31 +46,12 @@ bit-one : (a : Bool) → (bit a ≡ 0 → ⊥) → a ≡ true
 bit-one true e = refl
 bit-one false e = absurd (e refl)
 
--- ---- what solving a position does, and what holds between positions
+-- ---- what holds between positions
 
 module _ (net : Network) where
   -- the first `count` records behind the head's place are those of the plans l
-  abbrev pub Stands : ℕ → List ℕ → List (List ℕ) → Type 0
-  Stands count bs l = Holds (yard net) (costsOf net) (λ ts. ts) (absent net) (planSize planSlots (treeSize net)) count (drop headSize bs) l
-
-  -- the records with an answer's taken in
-  abbrev pub takeRecord : Option (List ℕ) → List (List ℕ) → List (List ℕ)
-  takeRecord none rs = rs
-  takeRecord (some ts) rs = insertRecord (planBytes (costsOf net ts) ts) rs
-
-  -- what solving position n does to the marks ms and to the `count` records of bs
-  pub record Visited (n : ℕ) (ms ms′ bs bs′ : List ℕ) (count count′ : ℕ) : Type 0 where
-    pub marks : Settled (yard net) n (best net (getD (positions net) n [])) ms ms′
-    pub records : blocks (planSize planSlots (treeSize net)) count′ (drop headSize bs′)
-        ≡ takeRecord (best net (getD (positions net) n [])) (blocks (planSize planSlots (treeSize net)) count (drop headSize bs))
-    pub writable : (ts : List ℕ) → best net (getD (positions net) n []) ≡ some ts → Writable (costsOf net ts)
-    pub bounded : count′ ≤ count + 1
-
-  -- what taking in the plan of position n asks of the `count` records of bs: they rise, and it compares with none of another sum. Of two plans found,
-  -- one that is at most the other fits where the other is best, so its sum is not the lower one.
-  pub record Prepared (n : ℕ) (bs : List ℕ) (count : ℕ) : Type 0 where
-    pub rise : RecordsRise (blocks (planSize planSlots (treeSize net)) count (drop headSize bs))
-    pub level : (ts : List ℕ) → best net (getD (positions net) n []) ≡ some ts → Level (costsOf net ts) (blocks (planSize planSlots (treeSize net)) count (drop headSize bs))
+  abbrev pub Recorded : ℕ → List ℕ → List (List ℕ) → Type 0
+  Recorded count bs l = Holds (yard net) (costsOf net) (λ ts. ts) (absent net) (planSize planSlots (treeSize net)) count (drop headSize bs) l
 
   padded : NetworkFine net → (ts : List ℕ) → Padded (yard net) (costsOf net) (λ ts. ts) (absent net) ts
   padded fine ts = costs-padded net ts (omega (arith, rank-count net fine, fine .few-ceilings))
@@ -80,7 +59,7 @@ module _ (net : Network) where
   -- the marks, the records and the counts when the entries es have been solved
   pub record Reached (es : List (Entry ℤ (List ℕ))) (ms bs : List ℕ) (count done : ℕ) : Type 0 where
     pub marks : (x : ℕ) → x < positionCount net → getD ms x 0 ≡ bit (covered (yard net) es (getD (positions net) x []))
-    pub records : Stands count bs (collect (yard net) [] (answers (yard net) es))
+    pub records : Recorded count bs (collect (yard net) [] (answers (yard net) es))
     pub counted : done ≡ length es
 
   -- when the first n positions have been visited
@@ -100,14 +79,18 @@ module _ (net : Network) where
     inside : n < length (positions net)
     inside = omega (arith, positions-length (values net))
 
-    -- its plan can be taken in
-    pub prepared : NetworkFine net → Prepared n bs count
-    prepared fine = record {
+    -- Its plan can be taken in, where there is room. Of two plans found, one that is at most the other fits where the other is best, so its sum is not
+    -- the lower one.
+    pub prepared : NetworkFine net → headSize + (count + 1) * planSize planSlots (treeSize net) ≤ length bs → Prepared net n bs count
+    prepared fine room = record {
+      room = room;
       rise = holds-rise (yard net) (costsOf net) (λ ts. ts) (absent net) refl plans (p .records) (front .rising);
       level = λ ts e.
           holds-level (yard net) (costsOf net) (λ ts. ts) (absent net) refl plans (p .records) ts (padded fine ts)
-          (λ s m h. let w = best-at s m in leb-true (costsOf net ts .sum) (costsOf net s .sum) (no-lower (yard net) (getD (positions net) n []) (w .0) s ts e (w .1) h))
-          (λ s m h. let w = best-at s m in leb-true (costsOf net s .sum) (costsOf net ts .sum) (no-lower (yard net) (w .0) (getD (positions net) n []) ts s (w .1) e h));
+          (λ s m h. let w = best-at s m in
+          leb-true (costsOf net ts .sum) (costsOf net s .sum) (no-lower (yard net) (getD (positions net) n []) (w .0) s ts e (w .1) h))
+          (λ s m h. let w = best-at s m in
+          leb-true (costsOf net s .sum) (costsOf net ts .sum) (no-lower (yard net) (w .0) (getD (positions net) n []) ts s (w .1) e h));
     }
       where
         found : List (List ℕ)
@@ -141,7 +124,7 @@ module _ (net : Network) where
       spent = omega (arith, p .counted, entries-fewer (yard net) n inside unseen)
 
       -- an unmarked one is solved
-      pub step : NetworkFine net → {ms′ bs′ : List ℕ} {count′ : ℕ} → Visited n ms ms′ bs bs′ count count′ → Progress (n + 1) ms′ bs′ count′ (done + 1)
+      pub step : NetworkFine net → {ms′ bs′ : List ℕ} {count′ : ℕ} → Visited net n ms ms′ bs bs′ count count′ → Progress (n + 1) ms′ bs′ count′ (done + 1)
       step fine {ms′} {bs′} {count′} v =
           let new = solve (yard net) (getD (positions net) n []) in
           let es = entriesAt (yard net) n in
@@ -150,17 +133,19 @@ module _ (net : Network) where
             marks = λ x g. v .marks x g ∙ ap (cond (covers (yard net) new (getD (positions net) x [])) 1) (p .marks x g)
                 ∙ bit-or (covered (yard net) es (getD (positions net) x [])) (covers (yard net) new (getD (positions net) x []))
                 ∙ ap bit (sym (any-snoc (λ z. covers (yard net) z (getD (positions net) x [])) es new));
-            records = subst⁻¹ (Stands count′ bs′) (collect-more (yard net) es new) (taken (new .answer) refl (v .records));
+            records = subst⁻¹ (Recorded count′ bs′) (collect-more (yard net) es new) (taken (new .answer) refl (v .records));
             counted = omega (arith, p .counted, length-append es (new ∷ []));
           })
         where
-          -- the answer's plan among those that stand
-          taken : (o : Option (List ℕ)) → best net (getD (positions net) n []) ≡ o
-              → blocks (planSize planSlots (treeSize net)) count′ (drop headSize bs′) ≡ takeRecord o (blocks (planSize planSlots (treeSize net)) count (drop headSize bs))
-              → Stands count′ bs′ (takeAnswer (yard net) o (collect (yard net) [] (answers (yard net) (entriesAt (yard net) n))))
+          plans : List (List ℕ)
+          plans = collect (yard net) [] (answers (yard net) (entriesAt (yard net) n))
+
+          -- the answer's plan among those recorded
+          taken : (o : Option (List ℕ)) → bestAt net n ≡ o
+              → recordsIn (treeSize net) count′ bs′ ≡ takeRecord net o (recordsIn (treeSize net) count bs) → Recorded count′ bs′ (takeAnswer (yard net) o plans)
           taken none b e = record { records-are = e ∙ p .records .records-are; stored = p .records .stored }
           taken (some ts) b e =
-              holds-inserted (yard net) (costsOf net) (λ ts. ts) (absent net) refl ts (collect (yard net) [] (answers (yard net) (entriesAt (yard net) n))) (p .records)
+              holds-inserted (yard net) (costsOf net) (λ ts. ts) (absent net) refl ts plans (p .records)
               (record { writable = v .writable ts b; padded = padded fine ts }) e
 
   -- all marked positions among n from number `at` on are skipped
@@ -168,15 +153,10 @@ module _ (net : Network) where
       → Progress (nextUnmarked ms n at) ms bs count done
   skip-all {ms} {bs} {count} {done} n at h p = unmarked-keeps ms (λ k. Progress k ms bs count done) n at (λ k l e q. skip k (omega arith) q e) p
 
-  -- at the end all positions are visited
-  pub finish : (n : ℕ) → positionCount net ≤ n → {ms bs : List ℕ} {count done : ℕ} → Progress n ms bs count done → Reached (solved net) ms bs count done
-  finish n h {ms} {bs} {count} {done} p =
-      subst (λ (es : List (Entry ℤ (List ℕ))). Reached es ms bs count done) (entries-all (yard net) n (omega (arith, positions-length (values net)))) p
-
-  -- THE LIST: finished, the records of the entries solved are the promised list, with zeros behind it
-  pub full : NetworkFine net → {ms bs : List ℕ} {count done : ℕ} → Reached (solved net) ms bs count done
-      → finished bs count done (treeSize net) (net .p) ≡ filled net (length bs)
-  full fine {ms} {bs} {count} {done} r =
-      finished-list (yard net) (costsOf net) (λ ts. ts) (absent net) bs done (treeSize net) (net .p) (r .records)
-      ∙ ap₂ (λ (k : ℕ) (l : List (List ℕ)). thenZeros (length bs) (headBytes (length l) k (treeSize net) (net .p) ++ join (map (λ ts. planBytes (costsOf net ts) ts) l)))
-      (r .counted) (walk-lists (graph net) (graph-sound net fine))
+  -- at the end all positions are visited: the count is the walk's, and the promised plans are recorded
+  pub finish : NetworkFine net → (n : ℕ) → positionCount net ≤ n → {ms bs : List ℕ} {count done : ℕ} → Progress n ms bs count done
+      → (done ≡ solvedCount net) × Recorded count bs (plans net)
+  finish fine n h {ms} {bs} {count} {done} p =
+      let all = entries-all (yard net) n (omega (arith, positions-length (values net))) in
+      let r = subst (λ (es : List (Entry ℤ (List ℕ))). Reached es ms bs count done) all p in
+      (r .counted, subst (Recorded count bs) (walk-lists (graph net) (graph-sound net fine)) (r .records))

@@ -5,18 +5,22 @@ use native.Mathlib.Omega.{arith}
 use mir.Syntax.{w64}
 use mir.Val.{Fits}
 use borrow.Author.Needs.{needs}
+use Rattle.network.specs.Limits.{maxPlans}
+use Rattle.network.specs.PlanList.{headSize, planSize, planSlots}
 use Rattle.walk.proofs.list.need.Statement.{statement}
 use Rattle.walk.proofs.list.need.Tie as tie
 
-positions : (c : tie.Start) → c .args .m1 * c .args .m2 ≤ 1600
+positions : (c : tie.Start) → c .args .m1 * c .args .m2 ≤ maxPlans
 positions c = let h = c .pre .1 in omega (arith, mul-le-mul-right (c .args .m2) (c .pre .0))
 
 product-fits : (c : tie.Start) → Fits w64 (c .args .m1 * c .args .m2)
 product-fits c = omega (arith, positions c)
 
-need-fits : (c : tie.Start) → Fits w64 (c .args .m1 * c .args .m2 * (10 + (c .args .n - 1))) × Fits w64 (10 + c .args .m1 * c .args .m2 * (10 + (c .args .n - 1)))
+need-fits : (c : tie.Start)
+    → Fits w64 (c .args .m1 * c .args .m2 * planSize planSlots (c .args .n - 1))
+    × Fits w64 (headSize + c .args .m1 * c .args .m2 * planSize planSlots (c .args .n - 1))
 need-fits c =
-    let small = mul-le-mul-right (10 + (c .args .n - 1)) (positions c) in
+    let small = mul-le-mul-right (planSize planSlots (c .args .n - 1)) (positions c) in
     let n = c .fits .n in
     (omega arith, omega arith)
 

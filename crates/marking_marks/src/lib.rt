@@ -1,0 +1,2 @@
+// Marks of the walk's positions.
+pub mod mark;

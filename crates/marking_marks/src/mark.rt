@@ -1,0 +1,58 @@
+// Marks of positions: one byte for each position, by its number.
+ghost use mathlib.Core.Path.{_≡_};
+ghost use mathlib.Core.List.{[], _∷_};
+ghost use Prim.Native.Nat.{_+_, _-_, _*_, _/_, _%_, _≤_, _<_};
+ghost use lib.ListN.{length};
+ghost use Rattle.marking_marks.specs.Paint.{paint, run, through};
+ghost use Rattle.marking_marks.specs.Unmarked.{nextUnmarked};
+
+// Marks n positions from one on.
+pub fn mark_row(marks: &mut [u8], start: usize, n: usize)
+    requires { ⌜ start + n ≤ length (now marks) ⌝ }
+    ensures { λ _. ⌜ now (marks .exit) ≡ paint (run 1 n ∷ []) start (now (marks .entry)) ⌝ }
+{
+    let mut at = start;
+    let mut left = n;
+    while 0 < left {
+        marks[at] = 1;
+        at += 1;
+        left -= 1;
+    }
+}
+
+// Marks n positions in each of some rows, whose starts are a stride apart.
+pub fn mark_rows(marks: &mut [u8], start: usize, stride: usize, rows: usize, n: usize)
+    requires { ⌜ (n ≤ stride) × (stride ≤ length (now marks)) × (start + stride * rows + n ≤ length (now marks) + stride) ⌝ }
+    ensures { λ _. ⌜ now (marks .exit) ≡ paint (run stride rows ∷ run 1 n ∷ []) start (now (marks .entry)) ⌝ }
+{
+    let mut at = start;
+    let mut left = rows;
+    while 0 < left {
+        mark_row(marks, at, n);
+        at += stride;
+        left -= 1;
+    }
+}
+
+// Marks the positions from number n through the places k1 and k2, where the second ceiling has m2 values.
+pub fn mark_through(marks: &mut [u8], n: usize, m2: usize, k1: usize, k2: usize)
+    requires { ⌜ (k2 < m2) × (n / m2 ≤ k1) × (n % m2 ≤ k2) × ((k1 + 1) * m2 ≤ length (now marks)) ⌝ }
+    ensures { λ _. ⌜ now (marks .exit) ≡ paint (through m2 n k1 k2) n (now (marks .entry)) ⌝ }
+{
+    mark_rows(marks, n, m2, k1 + 1 - n / m2, k2 + 1 - n % m2);
+}
+
+// The first position from number n on that is not marked, or the end.
+pub fn next_unmarked(marks: &[u8], n: usize, end: usize) -> usize
+    requires { ⌜ (n ≤ end) × (end ≤ length (now marks)) ⌝ }
+    ensures { λ r. ⌜ (n ≤ r) × (r ≤ end) × (r ≡ nextUnmarked (now (marks .entry)) (end - n) n) ⌝ }
+{
+    let mut at = n;
+    while at < end {
+        if marks[at] == 0 {
+            return at;
+        }
+        at += 1;
+    }
+    at
+}

@@ -1,7 +1,7 @@
 -- The costs that a plan record holds.
 use mathlib.Core.Path.{_≡_, sym, ap, _∙_}
-use mathlib.Core.List.{List}
-use Prim.Native.Nat.{ℕ, _+_, _≤_, _<_}
+use mathlib.Core.List.{List, _∷_}
+use Prim.Native.Nat.{ℕ, _+_, _-_, _≤_, _<_}
 use native.Mathlib.Omega.{arith}
 use mir.Syntax.{w16}
 use mir.Val.{SFits}
@@ -11,6 +11,7 @@ use Rattle.network.specs.Bytes.{byteAt, u32At, i16At}
 use Rattle.network.specs.PlanList.{planBytes, planSize, planSlots}
 use Rattle.network.specs.declared.Costs.{Costs}
 use Rattle.encoding.specs.RoundTrip.{i16-bytes, u32-bytes}
+use Rattle.planlist_records.specs.Blocks.{blocks, blocks-turn}
 
 -- the costs that the plan record at an index holds
 unfoldable pub costsAt : List ℕ → ℕ → Costs
@@ -49,3 +50,9 @@ costs-block bs at z h =
       byte-in bs at z 8 (at + 8) (omega arith) (omega arith),
       byte-in bs at z 9 (at + 8 + 1) (omega arith) (omega arith),
     )
+
+-- a function of records, at the one at index `at` and those after it, by what it makes of the first one's costs
+pub costs-turn : (bs : List ℕ) (at left z : ℕ) → 0 < left → planSize planSlots 0 ≤ z → {A : Type 0} (f : List (List ℕ) → A) (g : Costs → A)
+    → f (take z (drop at bs) ∷ blocks z (left - 1) (drop (at + z) bs)) ≡ g (costsAt (take z (drop at bs)) 0)
+    → f (blocks z left (drop at bs)) ≡ g (costsAt bs at)
+costs-turn bs at left z more wide f g e = ap f (blocks-turn z left at bs more) ∙ e ∙ ap g (costs-block bs at z wide)

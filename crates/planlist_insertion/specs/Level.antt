@@ -16,7 +16,8 @@ use Rattle.network.specs.Calls.{costValues}
 use Rattle.network.specs.declared.Costs.{Costs}
 use Rattle.planlist_costs.specs.Held.{costsAt}
 use Rattle.planlist_costs.specs.Orders.{atMost, inOrder, at-most-before, in-order-apart}
-use Rattle.planlist_passes.specs.Passes.{freePlace, prunedLevel}
+use Rattle.planlist_place.specs.Place.{freePlace}
+use Rattle.planlist_pruning.specs.Pruned.{prunedLevel}
 use Rattle.planlist_insertion.specs.Insertion.{RecordsRise, coveredBy, leading, placeOf, prunedBy, records}
 
 -- records that are at most v, or that v is at most, have its sum

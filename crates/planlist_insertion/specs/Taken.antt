@@ -6,7 +6,7 @@ use lib.ListN.{length}
 use Rattle.network.specs.PlanList.{planBytes, planSize, planSlots}
 use Rattle.network.specs.declared.Costs.{Costs}
 use Rattle.planlist_records.specs.Records.{planRecords}
-use Rattle.planlist_passes.specs.Passes.{prunedLevel}
+use Rattle.planlist_pruning.specs.Pruned.{prunedLevel}
 use Rattle.planlist_insertion.specs.Insertion.{RecordsRise, insertRecord}
 use Rattle.planlist_insertion.specs.Level.{Level}
 

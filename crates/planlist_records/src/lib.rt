@@ -1,15 +1,13 @@
-// The records of a plan list: a head, and then a record for each plan. Their marks, the places of their fields, and how they are written.
+// The records of a plan list, a head and then one for each plan: their marks, and where their fields stand. The size of a plan record, and its bytes.
 use encoding::copy::copy_in;
 use encoding::write::write_i16;
-use encoding::write::write_u8;
-use encoding::write::write_u16;
 use encoding::write::write_u32;
 use network::Costs;
 use network::limits::COSTS_SIZE;
 ghost use mathlib.Core.Path.{_≡_};
 ghost use Prim.Native.Nat.{_+_, _≤_};
 ghost use lib.ListN.{length};
-ghost use Rattle.network.specs.PlanList.{headBytes, headSize, planBytes, planSize, planSlots};
+ghost use Rattle.network.specs.PlanList.{planBytes, planSize, planSlots};
 ghost use Rattle.encoding.specs.Overwrite.{overwrite};
 
 // The marks of a list head and of a plan record.
@@ -50,16 +48,4 @@ pub fn write_plan(out: &mut [u8], at: usize, v: Costs, links: &[u8])
     write_i16(out, at + Y1_AT, v.y1);
     write_i16(out, at + Y2_AT, v.y2);
     copy_in(out, at + COSTS_SIZE, links);
-}
-
-// Writes a list head at the front.
-pub fn write_head(out: &mut [u8], count: u16, solved: u32, t: u8, p: u8)
-    requires { ⌜ headSize ≤ length (now out) ⌝ }
-    ensures { λ _. ⌜ now (out .exit) ≡ overwrite (now (out .entry)) 0 (headBytes count solved t p) ⌝ }
-{
-    copy_in(out, 0, &HEAD_MARK);
-    write_u16(out, COUNT_AT, count);
-    write_u32(out, SOLVED_AT, solved);
-    write_u8(out, TREE_SIZE_AT, t);
-    write_u8(out, CEILINGS_AT, p);
 }

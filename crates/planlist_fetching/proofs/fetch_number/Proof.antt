@@ -16,19 +16,6 @@ use Rattle.planlist_fetching.proofs.fetch_number.Tie as tie
 intact : (c : tie.Else1) → damaged (now (c .before .before .before .args .list)) ≡ false
 intact c = sym (c .before .is-damaged .ensures) ∙ c .if1 .left
 
--- the plan is below the count
-below : (c : tie.Then2) → let a = c .before .before .before .before .before .args in a .r < headCount (now (a .list))
-below c = omega (arith, c .if2 .taken, c .before .read-u16 .ensures)
-
--- the number, by whether its mark is there
-marked : (c : tie.After-mark-at) → {b : Bool} → c .mark-at .result ≡ b
-    → let a = c .before .before .before .before .before .before .before .args in fetchNumber (now (a .list)) (a .r) ≡ cond b 0 12
-marked c e =
-    let then = c .before .before in
-    let a = then .before .before .before .before .before .args in
-    let mark = ap (λ (k : ℕ). markAt (now (a .list)) k planMark) (sym (c .before .plan-start .ensures .0)) ∙ sym (c .mark-at .ensures) ∙ e in
-    number-marked (now (a .list)) (a .r) (intact (then .before .before)) (below then) mark
-
 is-damaged-requires : tie.Need-is-damaged-requires
 is-damaged-requires c κs = search needs
 
@@ -44,10 +31,20 @@ cast-if2 : tie.Need-cast-if2
 cast-if2 c = search needs
 
 plan-start-requires : tie.Need-plan-start-requires
-plan-start-requires c κs = (intact (c .before .before), below c)
+plan-start-requires c κs = (intact (c .before .before), omega (arith, c .if2 .taken, c .before .read-u16 .ensures))
 
 mark-at-requires : tie.Need-mark-at-requires
 mark-at-requires c κs = search needs
+
+-- the number of a plan below the count, by whether its mark is there
+marked : (c : tie.After-mark-at) → {b : Bool} → c .mark-at .result ≡ b
+    → let a = c .before .before .before .before .before .before .before .args in fetchNumber (now (a .list)) (a .r) ≡ cond b 0 12
+marked c e =
+    let then = c .before .before in
+    let a = then .before .before .before .before .before .args in
+    let below : a .r < headCount (now (a .list)) = omega (arith, then .if2 .taken, then .before .read-u16 .ensures) in
+    let mark = ap (λ (k : ℕ). markAt (now (a .list)) k planMark) (sym (c .before .plan-start .ensures .0)) ∙ sym (c .mark-at .ensures) ∙ e in
+    number-marked (now (a .list)) (a .r) (intact (then .before .before)) below mark
 
 returns-2 : tie.Need-returns-2
 returns-2 c = sym (marked (c .before) (c .if3 .taken))

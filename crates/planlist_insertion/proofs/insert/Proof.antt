@@ -12,7 +12,7 @@ use Rattle.planlist_records.specs.Records.{planRecords}
 use Rattle.planlist_costs.specs.Held.{costs-encoded, costsAt}
 use Rattle.planlist_insertion.specs.Insertion.{coveredBy, insert-covered, insert-free, placeOf, prunedBy}
 use Rattle.planlist_insertion.specs.Level.{free-covered, free-place, pruned-behind}
-use Rattle.planlist_passes.specs.Passes.{prunedLevel}
+use Rattle.planlist_pruning.specs.Pruned.{prunedLevel}
 use borrow.Author.Needs.{needs}
 use Rattle.planlist_insertion.proofs.Tail.{tail-lent, tail-back}
 use Rattle.planlist_insertion.proofs.insert.Statement.{statement}

@@ -1,4 +1,4 @@
--- `planlist_passes::free_place` meets its contract. The invariant: the answer is behind the records passed so far, by that for those from `at` on.
+-- `planlist_place::free_place` meets its contract. The invariant: the answer is behind the records passed so far, by that for those from `at` on.
 use mathlib.Core.Path.{_≡_, refl, sym, ap, _∙_}
 use mathlib.Core.Bool.{Bool, cond, false}
 use Prim.Native.Nat.{suc, _+_, _*_, _-_, _≤_}
@@ -13,9 +13,9 @@ use Rattle.network.specs.declared.Costs.{Costs}
 use Rattle.planlist_records.specs.Blocks.{blocks, blocks-none, mul-step}
 use Rattle.planlist_costs.specs.Orders.{atMost, inOrder}
 use Rattle.planlist_costs.specs.Held.{costsAt}
-use Rattle.planlist_passes.specs.Passes.{freePlace, free-none, free-turn}
-use Rattle.planlist_passes.proofs.free_place.Statement.{statement}
-use Rattle.planlist_passes.proofs.free_place.Tie as tie
+use Rattle.planlist_place.specs.Place.{freePlace, free-none, free-turn}
+use Rattle.planlist_place.proofs.free_place.Statement.{statement}
+use Rattle.planlist_place.proofs.free_place.Tie as tie
 
 abbrev Inv-loop : tie.InvT-loop
 Inv-loop plans count size v at₀ left₀ at left =

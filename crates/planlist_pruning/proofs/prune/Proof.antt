@@ -1,4 +1,4 @@
--- `planlist_passes::prune` meets its contract. The invariant: what is to be kept is the records in front, `kept` of them, and what is to be kept
+-- `planlist_pruning::prune` meets its contract. The invariant: what is to be kept is the records in front, `kept` of them, and what is to be kept
 -- of those from `from` on.
 use mathlib.Core.Path.{_≡_, refl, sym, ap, ap₂, _∙_}
 use mathlib.Core.Bool.{Bool, cond, false}
@@ -17,9 +17,9 @@ use Rattle.network.specs.declared.Costs.{Costs}
 use Rattle.planlist_records.specs.Blocks.{blocks, blocks-none, mul-step, blocks-joined, blocks-moved, behind-moved}
 use Rattle.planlist_costs.specs.Orders.{atMost}
 use Rattle.planlist_costs.specs.Held.{costsAt}
-use Rattle.planlist_passes.specs.Passes.{prunedLevel, pruned-turn, pruned-none}
-use Rattle.planlist_passes.proofs.prune.Statement.{statement}
-use Rattle.planlist_passes.proofs.prune.Tie as tie
+use Rattle.planlist_pruning.specs.Pruned.{prunedLevel, pruned-turn, pruned-none}
+use Rattle.planlist_pruning.proofs.prune.Statement.{statement}
+use Rattle.planlist_pruning.proofs.prune.Tie as tie
 
 abbrev Inv-loop : tie.InvT-loop
 Inv-loop plans₀ count size v from₀ to₀ kept₀ left₀ plans from to kept left =

@@ -1,41 +1,14 @@
-// The two passes over the records of the frontier, by their sums: for the place of a new plan, and for the plans that it replaces.
+// The plans of the frontier that a new one replaces, dropped in one pass by their sums.
 use encoding::copy::move_down;
 use network::Costs;
 use planlist_costs::at_most;
 use planlist_costs::costs_at;
-use planlist_costs::in_order;
 ghost use mathlib.Core.Path.{_≡_};
 ghost use Prim.Native.Nat.{_*_, _≤_};
 ghost use lib.ListN.{length};
 ghost use Rattle.network.specs.PlanList.{planSize, planSlots};
 ghost use Rattle.planlist_records.specs.Blocks.{blocks};
-ghost use Rattle.planlist_passes.specs.Passes.{freePlace, prunedLevel};
-
-// The number of records that stand before v; one more than all, where a record with v's sum is at most v. None with another sum is.
-pub fn free_place(plans: &[u8], count: usize, size: usize, v: Costs) -> usize
-    requires { ⌜ (planSize planSlots 0 ≤ size) × (count * size ≤ length (now plans)) ⌝ }
-    ensures { λ r. ⌜ r ≡ freePlace v (blocks size count (now (plans .entry))) ⌝ }
-{
-    let mut at = 0;
-    let mut left = count;
-    while 0 < left {
-        let w = costs_at(plans, at);
-        if w.sum < v.sum {
-            at += size;
-            left -= 1;
-        } else {
-            if at_most(w, v) {
-                return count + 1;
-            }
-            if in_order(v, w) {
-                return count - left;
-            }
-            at += size;
-            left -= 1;
-        }
-    }
-    count
-}
+ghost use Rattle.planlist_pruning.specs.Pruned.{prunedLevel};
 
 // Drops the plans that v is at most, keeps the others' order, and returns their count. None with a higher sum is dropped.
 pub fn prune(plans: &mut [u8], count: usize, size: usize, v: Costs) -> usize

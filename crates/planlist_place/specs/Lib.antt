@@ -1,0 +1,2 @@
+-- the place of a plan among records
+pub mod Place

@@ -1,0 +1,2 @@
+-- the records that a plan leaves
+pub mod Pruned

@@ -25,8 +25,8 @@ use Rattle.marking_marks.specs.Unmarked.{nextUnmarked, unmarked-keeps}
 use Rattle.walk_visit.specs.Answered.{recordsIn}
 use Rattle.walk_visit.specs.Visit.{bestAt}
 use Rattle.walk_visit.specs.Visited.{Prepared, Visited, takeRecord}
-use Rattle.walk.specs.Entries.{answered, collect-more, entries-all, entries-fewer, entries-none}
-use Rattle.walk.specs.Entries.{entries-skip, entries-solve, entriesAt, no-lower, takeAnswer}
+use Rattle.walk_positions.specs.Entries.{answered, collect-more, entries-all, entries-fewer, entries-none}
+use Rattle.walk_positions.specs.Entries.{entries-skip, entries-solve, entriesAt, no-lower, takeAnswer}
 
 -- a mark
 abbrev pub bit : Bool → ℕ

@@ -1,4 +1,4 @@
--- `walk::positions::visit_all` meets its contract. The invariant: marks, records and counts are those of the entries that the walk has solved among the
+-- `walk_positions::positions::visit_all` meets its contract. The invariant: marks, records and counts are those of the entries that the walk has solved among the
 -- first n positions, and no more are solved than allowed.
 use mathlib.Core.Path.{_≡_, refl, subst⁻¹}
 use Prim.Native.Nat.{ℕ, _+_, _*_, _-_, _≤_, _<_}
@@ -10,10 +10,10 @@ use Rattle.network.specs.PlanList.{headSize, planSize, planSlots}
 use Rattle.network.specs.Walk.{positionCount}
 use Rattle.network.specs.Yard.{treeSize}
 use Rattle.walk_visit.specs.Visit.{count-is, count-limit}
-use Rattle.walk.specs.Progress.{Progress, finish, prepared, skip, skip-all, spent, start, step}
-use Rattle.walk.specs.Walked.{ended-outcome, spent-outcome}
-use Rattle.walk.proofs.positions.visit_all.Statement.{statement}
-use Rattle.walk.proofs.positions.visit_all.Tie as tie
+use Rattle.walk_positions.specs.Progress.{Progress, finish, prepared, skip, skip-all, spent, start, step}
+use Rattle.walk_positions.specs.Walked.{ended-outcome, spent-outcome}
+use Rattle.walk_positions.proofs.positions.visit_all.Statement.{statement}
+use Rattle.walk_positions.proofs.positions.visit_all.Tie as tie
 
 abbrev Inv-loop : tie.InvT-loop
 Inv-loop net order v1 v2 allowance out₀ total marks₀ n₀ plans₀ solved₀ out marks n plans solved =

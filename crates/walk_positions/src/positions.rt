@@ -8,7 +8,7 @@ ghost use lib.ListN.{length};
 ghost use Rattle.network.specs.Limits.{maxLinks};
 ghost use Rattle.network.specs.PlanList.{bufferNeed};
 ghost use Rattle.walk_visit.specs.Visit.{Ready};
-ghost use Rattle.walk.specs.Walked.{Outcome};
+ghost use Rattle.walk_positions.specs.Walked.{Outcome};
 
 // What the walk says of itself: whether it gave up, how many plans it has in the buffer, and how many positions it solved.
 pub struct Walked {

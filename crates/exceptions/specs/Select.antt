@@ -2,13 +2,14 @@
 use Prim.Native.Nat.{ℕ, _+_, _≤_, _<_}
 use mathlib.Core.Bool.{Bool, cond, true, false}
 use mathlib.Core.List.{List, [], _∷_, _++_, append-nil}
-use mathlib.Core.Path.{_≡_, refl, sym}
+use mathlib.Core.Path.{_≡_, refl, sym, _∙_}
 use native.Mathlib.Nat.{add-zero, le-refl}
 use native.Mathlib.Numerals.{add-one}
 use native.Mathlib.Omega.{arith}
-use lib.ListN.{length, getD, set, take}
-use lib.Seq.{length-take-le, take-set-le, take-suc, take-suc-set}
-use Rattle.order.specs.Lists.{count-le-length, filter, filter-append, filter-mem, length-filter, numbersFrom}
+use lib.ListN.{length, length-set, getD, set, take}
+use mir.Val.{boolByte}
+use lib.Seq.{length-take-le, take-all, take-set-le, take-suc, take-suc-set}
+use Rattle.order.specs.Lists.{count-le-length, filter, filter-append, filter-mem, getD-mem, length-filter, numbersFrom}
 use Rattle.order.specs.Order.{orderℕ, pair-first, pairs}
 use Rattle.order.specs.Perm.{pairwise-filter, pairwise-imp}
 use Rattle.order.specs.Sorted.{Sorted, sort-sorted}
@@ -21,41 +22,59 @@ use Rattle.network.specs.Limits.{maxLinks}
 use Rattle.network.specs.Yard.{endsAt, sumAt}
 use Rattle.forest.specs.declared.Forest.{Forest}
 use Rattle.kruskal_order.specs.ByCost.{Cheap, linkOrder, order-below, order-length}
-use Rattle.kruskal.specs.Tree.{Walkable}
+use Rattle.kruskal.specs.Tree.{Usable, Walkable}
 use Rattle.kruskal.specs.Base.{Holding, kept, kept-among, kept-few}
 use Rattle.kruskal.specs.declared.links.Links.{Links}
-use Rattle.exceptions.specs.Ceilings.{flagOf}
 
-pub flag-le : (b : Bool) (r : ℕ) → r ≡ flagOf b → r ≤ 1
-unfolding flagOf
-flag-le true r q = omega arith
-flag-le false r q = omega arith
+-- the link at a place of links that can be walked
+pub usable-at : {sums l : List ℕ} (k : ℕ) → Walkable sums l → k < length l → Usable sums (getD l k 0)
+usable-at {l = l} k walk h = walk .usable (getD l k 0) (getD-mem l k 0 h)
+
+pub one-at-most : (b : Bool) → boolByte b ≤ 1
+one-at-most true = omega arith
+one-at-most false = omega arith
 
 module _ (p : ℕ → Bool) where
-  -- the first n entries of an array are the links of l that pass
-  unfoldable pub Collected : List ℕ → ℕ → List ℕ → Type 0
-  Collected link n l = take n link ≡ filter p l
+  -- a loop over the links l after k of `end` turns: the first n entries of an array are those of the first k links that pass
+  pub record Collected (l link : List ℕ) (n k end : ℕ) : Type 0 where
+    pub turns : k ≤ end
+    pub all : end ≡ length l
+    pub fewer : n ≤ k
+    pub size : length link ≡ maxLinks
+    pub passed : take n link ≡ filter p (take k l)
 
-  more : (link l : List ℕ) (n x r : ℕ) → n < length link → Collected link n l → r ≡ flagOf (p x) → Collected (set link n x) (n + r) (l ++ (x ∷ []))
-  unfolding Collected flagOf
-  more link l n x r m e q = rw (q, filter-append p l (x ∷ []), ← e) (go (p x))
+  pub collect-start : (l link : List ℕ) → length link ≡ maxLinks → Collected l link 0 0 (length l)
+  collect-start l link s = record { turns = omega arith; all = refl; fewer = omega arith; size = s; passed = refl }
+
+  -- one link more
+  more : (link l : List ℕ) (n e : ℕ) → n < length link → take n link ≡ filter p l
+      → take (n + boolByte (p e)) (set link n e) ≡ filter p (l ++ (e ∷ []))
+  more link l n e m h = rw (filter-append p l (e ∷ []), ← h) (go (p e))
     where
-      go : (c : Bool) → take (n + flagOf c) (set link n x) ≡ take n link ++ cond c (x ∷ []) []
-      go true = rw add-one (take-suc-set link n x m)
-      go false = rw (add-zero, append-nil) (take-set-le n link n x (le-refl n))
+      go : (c : Bool) → take (n + boolByte c) (set link n e) ≡ take n link ++ cond c (e ∷ []) []
+      go true = rw add-one (take-suc-set link n e m)
+      go false = rw (add-zero, append-nil) (take-set-le n link n e (le-refl n))
 
-  -- a turn of a loop over a list
-  pub collect-turn : (link l : List ℕ) (n k r : ℕ) → k < length l → n < length link → Collected link n (take k l) → r ≡ flagOf (p (getD l k 0))
-      → Collected (set link n (getD l k 0)) (n + r) (take (k + 1) l)
-  collect-turn link l n k r h m e q = rw (add-one k, take-suc l k 0 h) (more link (take k l) n (getD l k 0) r m e q)
+  module _ {sums l link : List ℕ} {n k end : ℕ} (walk : Walkable sums l) (c : Collected l link n k end) where
+    pub collect-room : k < end → n < maxLinks
+    collect-room h = omega (arith, walk .few, c .all, c .fewer)
 
-  pub collect-start : (link : List ℕ) → Collected link 0 []
-  unfolding Collected
-  collect-start link = refl
+    pub collect-turn : {b : Bool} → k < end → b ≡ p (getD l k 0) → Collected l (set link n (getD l k 0)) (n + boolByte b) (k + 1) end
+    collect-turn {b} h e =
+        let room : n < length link = omega (arith, collect-room h, c .size) in
+        let there : k < length l = omega (arith, c .all) in
+        record {
+          turns = omega arith;
+          all = c .all;
+          fewer = omega (arith, one-at-most b, c .fewer);
+          size = length-set link n (getD l k 0) ∙ c .size;
+          passed = rw (e, add-one k, take-suc l k 0 there) (more link (take k l) n (getD l k 0) room (c .passed));
+        }
 
-  pub collect-end : (link l : List ℕ) (n : ℕ) → Collected link n l → length link ≡ maxLinks → n ≤ maxLinks → Holding (filter p l) (record { link = link; count = n })
-  unfolding Collected
-  collect-end link l n e s f = record { links = e; size = s; few = f }
+    pub collect-end : end ≤ k → Holding (filter p l) (record { link = link; count = n })
+    collect-end h =
+        let all : length l ≤ k = omega (arith, c .all) in
+        record { links = rw (take-all k l all) at (c .passed); size = c .size; few = omega (arith, walk .few, c .all, c .fewer, c .turns) }
 
 -- ---- links in rising order of cost, and those selected of them
 
@@ -83,7 +102,8 @@ module _ (sums : List ℕ) where
           few = omega (arith, order-length sums m);
           usable = λ e k. let b = order-below sums m e k in record { below = omega arith; cheap = cheap e b };
         };
-        sorted = pairwise-imp (λ x y k. pair-first orderℕ orderℕ (key x) (key y) k) (linkOrder sums m) (sort-sorted (pairs orderℕ orderℕ) key (numbersFrom m 0));
+        sorted = pairwise-imp (λ x y k. pair-first orderℕ orderℕ (key x) (key y) k) (linkOrder sums m)
+            (sort-sorted (pairs orderℕ orderℕ) key (numbersFrom m 0));
       })
 
   pub filter-in-order : (p : ℕ → Bool) {l : List ℕ} → InOrder sums l → InOrder sums (filter p l)

@@ -1,3 +1,2 @@
 // Which links a tree may use under ceilings: the normal ones freely, and the exceptions within each ceiling's rank.
-pub mod ceilings;
 pub mod select;

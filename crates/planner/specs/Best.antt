@@ -17,7 +17,7 @@ use Rattle.network.specs.declared.Checked.the-variants.{Refused}
 use Rattle.network.specs.declared.Network.{Network}
 use Rattle.network.specs.declared.Refusal.{Refusal}
 use Rattle.survey.specs.Survey.{Read}
-use Rattle.question.specs.Question.{answerOf}
+use Rattle.solver.specs.Question.{answerOf}
 
 -- what an answer says, and what it leaves, where the last test is whether a tree fits
 answer-says : (net : Network) (o : Option (List ℕ)) → says (answerOf net o) ≡ reply (refuseIf (isNone o) 14 0) (costValues (costsOf net (linksOf o)))

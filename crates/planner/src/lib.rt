@@ -4,7 +4,7 @@ use network::Answer;
 use network::Checked;
 use network::Refusal;
 use network::Status;
-use question::solve;
+use solver::question::solve;
 use survey::read_survey;
 use trees_costs::tree_costs;
 use trees_drawn::is_tree;

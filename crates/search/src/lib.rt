@@ -1,6 +1,101 @@
-// The search for the best tree over sets of exceptional links.
-pub mod base;
-pub mod best;
-pub mod rest;
-pub mod ties;
-pub mod trials;
+// The search for the best tree over all sets of exceptions.
+use search_base::pairs::pairs_fit;
+use search_base::rest::Rest;
+use search_base::rest::rest_of;
+use search_best::best::Best;
+use search_set::consider_one;
+use search_set::consider_pair;
+use trees_costs::sum_at;
+ghost use mathlib.Core.Path.{_≡_};
+ghost use mathlib.Core.Bool.{true};
+ghost use Rattle.kruskal.specs.Tree.{Columns, Usable};
+ghost use Rattle.exceptions_flags.specs.Ceilings.{exception};
+ghost use Rattle.exceptions_flags.specs.Two.{FlagsSize, two};
+ghost use Rattle.exceptions.specs.Select.{InOrder};
+ghost use Rattle.search_best.specs.Sets.{sets};
+ghost use Rattle.search_base.specs.Rest.{restOf};
+ghost use Rattle.search_base.specs.Exceptional.{Exceptions};
+ghost use Rattle.search.specs.Loops.{searched, withPairs};
+
+// The sets of one link and each exception from place i on. Exceptions come in rising order of cost, so that the sets behind one that loses
+// lose too.
+fn consider_pairs(
+    ends: &[u8],
+    sums: &[u32],
+    base: &[u8],
+    goal: u8,
+    v: &[u8],
+    w: &[u8],
+    r: u8,
+    s: u8,
+    rest: Rest,
+    link: u8,
+    exceptions: &[u8],
+    i: usize,
+    b: Best,
+) -> Best
+    requires { ⌜ Columns (now ends) (now sums) × InOrder (now sums) (now base) × FlagsSize (now v) (now w) × Usable (now sums) link
+        × InOrder (now sums) (now exceptions) × (rest ≡ restOf (now sums) (now base) goal 2)
+        × (exception (two r (now v) s (now w)) link ≡ true) × Exceptions (two r (now v) s (now w)) (now exceptions) ⌝ }
+    ensures { λ q. ⌜ q ≡ withPairs (now (ends .entry)) (now (sums .entry)) goal (two r (now (v .entry)) s (now (w .entry)))
+        (now (base .entry)) b link (now (exceptions .entry)) i ⌝ }
+{
+    if !pairs_fit(r, s) {
+        return b;
+    }
+    let cost = sum_at(sums, link);
+    let mut best = b;
+    let mut j = i;
+    while j < exceptions.len() {
+        let other = exceptions[j];
+        if rest.loses(cost + sum_at(sums, other), best.found, best.sum) {
+            return best;
+        }
+        best = consider_pair(ends, sums, base, goal, v, w, r, s, link, other, best);
+        j += 1;
+    }
+    best
+}
+
+// The sets of one and of two of the exceptions.
+pub fn consider_sets(
+    ends: &[u8],
+    sums: &[u32],
+    base: &[u8],
+    goal: u8,
+    v: &[u8],
+    w: &[u8],
+    r: u8,
+    s: u8,
+    exceptions: &[u8],
+    b: Best,
+) -> Best
+    requires { ⌜ Columns (now ends) (now sums) × InOrder (now sums) (now base) × FlagsSize (now v) (now w)
+        × InOrder (now sums) (now exceptions) × Exceptions (two r (now v) s (now w)) (now exceptions) ⌝ }
+    ensures { λ q. ⌜ q ≡ searched (now (ends .entry)) (now (sums .entry)) goal (two r (now (v .entry)) s (now (w .entry)))
+        (now (base .entry)) b (sets (now (exceptions .entry))) ⌝ }
+{
+    let one = rest_of(sums, base, goal, 1);
+    let two = rest_of(sums, base, goal, 2);
+    let mut best = b;
+    for i in 0..exceptions.len() {
+        let link = exceptions[i];
+        best = consider_one(ends, sums, base, goal, v, w, r, s, one, link, best);
+        best = consider_pairs(
+            ends,
+            sums,
+            base,
+            goal,
+            v,
+            w,
+            r,
+            s,
+            two,
+            link,
+            exceptions,
+            i + 1,
+            best,
+        );
+    }
+    best
+}

@@ -13,13 +13,13 @@ use Rattle.network.specs.Calls.{isNone, linksOf, treeWith}
 use Rattle.network.specs.NetworkFine.{NetworkFine}
 use Rattle.network.specs.declared.Network.{Network}
 use Rattle.kruskal_order.specs.ByCost.{linkOrder}
-use Rattle.search.specs.Flags.{rising}
-use Rattle.solver.specs.Buffer.{put-front, putAt}
-use Rattle.exceptions.specs.Two.{twoOf}
-use Rattle.search.specs.Search.{bestOf}
+use Rattle.search_best.specs.Flags.{rising}
+use Rattle.solver_buffer.specs.Buffer.{put-front, putAt}
+use Rattle.exceptions_flags.specs.Two.{twoOf}
+use Rattle.search_best.specs.Search.{bestOf}
 use Rattle.solver.specs.Found.{Shows, none-shown, tree-shown}
 use Rattle.solver.specs.Best.{best-shown}
-use Rattle.search.specs.declared.best.Best.{Best}
+use Rattle.search_best.specs.declared.best.Best.{Best}
 
 -- a tree fits
 unfoldable pub bestFound : Network → ℤ → ℤ → Bool
@@ -49,7 +49,8 @@ module _ (net : Network) (fine : NetworkFine net) (b1 b2 : ℤ) (b : Best)
   unfolding bestFound
   answer-found = shown-found (best net (bounds net b1 b2)) b shown
 
-  pub answer-tree : (tree left : List ℕ) → b .found ≡ true → treeSize net ≤ length tree → left ≡ putAt 0 (rising 0 (b .taken)) tree → left ≡ treeWith (best net (bounds net b1 b2)) tree
+  pub answer-tree : (tree left : List ℕ) → b .found ≡ true → treeSize net ≤ length tree → left ≡ putAt 0 (rising 0 (b .taken)) tree
+      → left ≡ treeWith (best net (bounds net b1 b2)) tree
   unfolding treeWith
   answer-tree tree left f h q = q ∙ shown-tree (best net (bounds net b1 b2)) b tree shown f h
 

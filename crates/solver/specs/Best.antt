@@ -30,20 +30,24 @@ use Rattle.kruskal_order.specs.ByCost.{linkOrder, order-below}
 use Rattle.kruskal.specs.Base.{kept}
 use Rattle.kruskal.specs.Grown.{kept-kruskal}
 use Rattle.solver.specs.Filter.{filter-ext, filter-sort}
-use Rattle.search.specs.Sets.{trials, trials-among, trials-complete, trials-sound}
-use Rattle.exceptions.specs.Ceilings.{exception, normal}
-use Rattle.exceptions.specs.Two.{two-admitted, two-bounds, two-few, two-normal, two-one, twoOf}
-use Rattle.search.specs.Search.{bestOf}
+use Rattle.search_best.specs.Sets.{trials, trials-among, trials-complete, trials-sound}
+use Rattle.exceptions_flags.specs.Ceilings.{exception, normal}
+use Rattle.exceptions_flags.specs.Two.{two-admitted, two-bounds, two-few, two-normal, two-one, twoOf}
+use Rattle.search_best.specs.Search.{bestOf}
 use Rattle.solver.specs.Found.{Shows, near, search-shown}
 
 -- the links have different numbers, and so different places in the order
 links-apart : (s : ℕ → ℕ) (m : ℕ) → Apart (ranked s (λ c. c)) (numbersFrom m 0)
-links-apart s m = pairwise-imp (λ x y h q. h (ap (λ (k : ℕ × ℕ). k .1) q)) (numbersFrom m 0) (rising-apart orderℕ (λ x. x) (numbersFrom m 0) (numbers-rising m 0))
+links-apart s m =
+    pairwise-imp (λ x y h q. h (ap (λ (k : ℕ × ℕ). k .1) q)) (numbersFrom m 0)
+    (rising-apart orderℕ (λ x. x) (numbersFrom m 0) (numbers-rising m 0))
 
 module _ (net : Network) (fine : NetworkFine net) (b1 b2 : ℤ) where
+  -- the bounds
   abbrev bs : List ℤ
   bs = bounds net b1 b2
 
+  -- the ceilings that are present
   abbrev cs : List (Ceiling ℤ)
   cs = under (graph net) bs
 
@@ -89,7 +93,9 @@ module _ (net : Network) (fine : NetworkFine net) (b1 b2 : ℤ) where
   unfolding exception
   exception-links =
       kept-links (exception (twoOf net b1 b2)) (lone orderℤ cs)
-      (λ e h. rw (two-normal net fine b1 b2 e h, two-admitted net fine b1 b2 (e ∷ []) (λ x m. rw (List·Memᴰ·eq-of-singleton m) h)) (by-test (exceptional orderℤ cs e) (λ t. rw t) (λ t. rw t)))
+      (λ e h.
+      let alone = two-admitted net fine b1 b2 (e ∷ []) (λ x m. rw (List·Memᴰ·eq-of-singleton m) h) in
+      rw (two-normal net fine b1 b2 e h, alone) (by-test (exceptional orderℤ cs e) (λ t. rw t) (λ t. rw t)))
 
   kept-below : (q : ℕ → Bool) (e : ℕ) → e ∈ base (graph net) (byCost (sumAt (net .sums)) (filter q (links (graph net)))) → e < net .m
   kept-below q e k = candidate q e (greedy-⊆ (endsAt (net .ends)) (kruskal-greedy (endsAt (net .ends)) identity _) e k)
@@ -114,17 +120,19 @@ module _ (net : Network) (fine : NetworkFine net) (b1 b2 : ℤ) where
       let X = filter (exceptional orderℤ cs) ts in
       let few = meets-few orderℤ (pos 0) cs ts (T .ranks ts k) f in
       let most = two-few net fine in
+      let admitted = sym (meets-admissible orderℤ (pos 0) cs ts (T .ranks ts k)) ∙ f in
       let small : length X ≤ 2 = omega (arith, ceilings-slack (graph net .cost) 0 (ranks net) bs) in
       trials-complete cheapestLone X
       (pairwise-filter (exceptional orderℤ cs) _ ts (sublist-rising orderℕ (λ x. x) (T .subsequence ts k) (numbers-rising (net .m) 0)))
-      (λ x i. keeps x (filter-mem (exceptional orderℤ cs) ts i .0) (exceptional-lone orderℤ cs ts (sym (meets-admissible orderℤ (pos 0) cs ts (T .ranks ts k)) ∙ f) x i))
+      (λ x i. keeps x (filter-mem (exceptional orderℤ cs) ts i .0) (exceptional-lone orderℤ cs ts admitted x i))
       small
 
   -- for each tree that fits, one whose exceptions are all kept will do
   enough : EnoughSets (graph net) bs (trials cheapestLone)
   enough =
       record {
-        sound = trials-sound (exceptionals (graph net) bs) cheapestLone (pairwise-filter (exceptional orderℤ cs) _ (links (graph net)) (numbers-rising (net .m) 0))
+        sound = trials-sound (exceptionals (graph net) bs) cheapestLone
+            (pairwise-filter (exceptional orderℤ cs) _ (links (graph net)) (numbers-rising (net .m) 0))
             lone-apart lone-exceptional;
         covers = λ ts k f.
             let u = exchange (graph net) (graph-sound net fine) bs (lone orderℤ cs) (lone-pattern orderℤ cs (two-one net fine b1 b2)) ts k in
@@ -137,7 +145,8 @@ module _ (net : Network) (fine : NetworkFine net) (b1 b2 : ℤ) where
       search-base (graph net) bs (byCost (sumAt (net .sums)) (normals (graph net) bs)) (trials cheapestLone)
       ∙ search-sets (graph net) (graph-sound net fine) bs (two-bounds net fine b1 b2) (trials cheapestLone) enough
 
-  pub best-shown : Shows (sumAt (net .sums)) (net .n - 1) (best net bs) (bestOf (net .ends) (net .sums) (net .n - 1) (twoOf net b1 b2) (linkOrder (net .sums) (net .m)))
+  pub best-shown : Shows (sumAt (net .sums)) (net .n - 1) (best net bs)
+      (bestOf (net .ends) (net .sums) (net .n - 1) (twoOf net b1 b2) (linkOrder (net .sums) (net .m)))
   unfolding bestOf
   best-shown =
       let found = search-shown net fine bs (twoOf net b1 b2) cheapest (kept-below (λ e. not (exceptional orderℤ cs e)))

@@ -33,10 +33,10 @@ use Rattle.network.specs.declared.Network.{Network}
 use Rattle.kruskal.specs.Tree.{bare, linked}
 use Rattle.kruskal.specs.Grown.{Holds, Near, bare-holds, grown-holds}
 use Rattle.kruskal.specs.declared.tree.Tree.{Tree}
-use Rattle.search.specs.Flags.{first, first-dictionary, marks-length, marks-rising, rising}
-use Rattle.exceptions.specs.Ceilings.{Flagged, admitted}
-use Rattle.search.specs.Search.{beats, considered, nothing, offered}
-use Rattle.search.specs.declared.best.Best.{Best}
+use Rattle.search_best.specs.Flags.{first, first-dictionary, flags-length, flags-rising, rising}
+use Rattle.exceptions_flags.specs.Ceilings.{Flagged, admitted}
+use Rattle.search_best.specs.Search.{beats, considered, nothing, offered}
+use Rattle.search_best.specs.declared.best.Best.{Best}
 
 -- ---- Kruskal's method keeps all of a list exactly where it is a forest
 
@@ -82,19 +82,26 @@ pub data Shows (s : ℕ → ℕ) (goal : ℕ) : Option (List ℕ) → Best → T
       → Shows s goal (some ts) b
 
 module _ (net : Network) (fine : NetworkFine net) where
+  -- the network's ends
   abbrev ends : List ℕ
   ends = net .ends
 
+  -- a link's sum cost
   abbrev s : ℕ → ℕ
   s = sumAt (net .sums)
 
+  -- the links of a tree
   abbrev goal : ℕ
   goal = net .n - 1
+
+  -- the better of two trees in the theory's search
+  abbrev better : Option (List ℕ) → Option (List ℕ) → Option (List ℕ)
+  better = offer (pairs orderℤ (dictionary orderℕ)) (ranked (total (graph net)) (λ ts. ts))
 
   -- one more tree us, held by u, offered where it has `goal` links: to the theory's search, and to the program's
   offer-shown : (o : Option (List ℕ)) (b : Best) (us : List ℕ) (u : Tree) → Shows s goal o b → Holds ends (net .sums) us u
       → (length us ≡ goal → Apart (λ x. x) us) → ((x : ℕ) → x ∈ us → x < maxLinks)
-      → Shows s goal (offer (pairs orderℤ (dictionary orderℕ)) (ranked (total (graph net)) (λ ts. ts)) o (cond (eqb (length us) goal) (some (ascending us)) none)) (offered goal b u)
+      → Shows s goal (better o (cond (eqb (length us) goal) (some (ascending us)) none)) (offered goal b u)
   unfolding offered beats
   offer-shown o b us u shown h apart below =
       by-test (eqb (length us) goal)
@@ -105,8 +112,8 @@ module _ (net : Network) (fine : NetworkFine net) where
       new l =
           tree-shown refl
           (h .total ∙ sym (perm.sum-perm s (sort-perm orderℕ (λ x. x) us)))
-          (ap (rising 0) (h .flags) ∙ marks-rising us (apart l) below)
-          (ap length (h .flags) ∙ marks-length us)
+          (ap (rising 0) (h .flags) ∙ flags-rising us (apart l) below)
+          (ap length (h .flags) ∙ flags-length us)
           (perm.perm-length (sort-perm orderℕ (λ x. x) us) ∙ l)
 
       -- the two comparisons
@@ -114,18 +121,17 @@ module _ (net : Network) (fine : NetworkFine net) where
           → pairLe orderℤ (dictionary orderℕ) (total (graph net) ys, ys) (total (graph net) (ascending us), ascending us)
           ≡ not (ltb (u .sum) (b .sum) || (eqb (u .sum) (b .sum) && first (u .taken) (b .taken)))
       compared ys (tree-shown f q r w g) l =
-          let mine = ap (rising 0) (h .flags) ∙ marks-rising us (apart l) below in
+          let mine = ap (rising 0) (h .flags) ∙ flags-rising us (apart l) below in
           let sizes : length (rising 0 (u .taken)) ≡ length (rising 0 (b .taken)) =
           ap length mine ∙ perm.perm-length (sort-perm orderℕ (λ x. x) us) ∙ l ∙ sym g ∙ sym (ap length r) in
           let lists : dictionaryLe orderℕ ys (ascending us) ≡ not (first (u .taken) (b .taken)) =
           subst (λ (v : List ℕ). dictionaryLe orderℕ v (ascending us) ≡ not (first (u .taken) (b .taken))) r
           (subst (λ (v : List ℕ). dictionaryLe orderℕ (rising 0 (b .taken)) v ≡ not (first (u .taken) (b .taken))) mine
-          (first-dictionary 0 (u .taken) (b .taken) (ap length (h .flags) ∙ marks-length us ∙ sym w) sizes)) in
+          (first-dictionary 0 (u .taken) (b .taken) (ap length (h .flags) ∙ flags-length us ∙ sym w) sizes)) in
           rw (lists, perm.sum-perm s (sort-perm orderℕ (λ x. x) us), ← h .total, ← q) (sum-first (u .sum) (b .sum) (first (u .taken) (b .taken)))
 
       go : (o : Option (List ℕ)) → Shows s goal o b → length us ≡ goal
-          → Shows s goal (offer (pairs orderℤ (dictionary orderℕ)) (ranked (total (graph net)) (λ ts. ts)) o (some (ascending us)))
-          (cond (beats u b) (record { found = true; sum = u .sum; taken = u .taken }) b)
+          → Shows s goal (better o (some (ascending us))) (cond (beats u b) (record { found = true; sum = u .sum; taken = u .taken }) b)
       go none (none-shown f) l = rw f (new l)
       go (some ys) (tree-shown f q r w g) l =
           let old : Shows s goal (some ys) b = tree-shown f q r w g in
@@ -144,9 +150,11 @@ module _ (net : Network) (fine : NetworkFine net) where
 
   module _ (bs : List ℤ) (fs : List Flagged) (base : List ℕ) (base-below : (e : ℕ) → e ∈ base → e < net .m)
       (agree : (X : List ℕ) → ((x : ℕ) → x ∈ X → x < net .m) → admitted fs X ≡ admissible orderℤ (under (graph net) bs) X) where
+    -- the theory's search tries one set
     abbrev try : Option (List ℕ) → List ℕ → Option (List ℕ)
     try = tryOne orderℤ (under (graph net) bs) (pairs orderℤ (dictionary orderℕ)) (ranked (total (graph net)) (λ ts. ts)) (completed (graph net) base)
 
+    -- the program's walk over links
     abbrev grow : Tree → List ℕ → Tree
     grow = foldl (linked ends (net .sums))
 
@@ -160,7 +168,8 @@ module _ (net : Network) (fine : NetworkFine net) where
     grown : (X : List ℕ) → ((x : ℕ) → x ∈ X → x < net .m) → isForest identity (map (endsAt ends) X) ≡ true
         → Holds ends (net .sums) (whole (endsAt ends) base X) (grow (grow bare X) base)
     grown X below f =
-        let a : Holds ends (net .sums) X (grow bare X) = subst (λ (ts : List ℕ). Holds ends (net .sums) ts (grow bare X)) (forest-kruskal ends identity X f) (alone X below) in
+        let a : Holds ends (net .sums) X (grow bare X) =
+        subst (λ (ts : List ℕ). Holds ends (net .sums) ts (grow bare X)) (forest-kruskal ends identity X f) (alone X below) in
         subst (λ (L : Labelling). Holds ends (net .sums) (X ++ kruskal (endsAt ends) L base) (grow (grow bare X) base)) (a .labels)
         (grown-holds ends (net .sums) X (grow bare X) base (near base base-below) a)
 
@@ -200,7 +209,8 @@ module _ (net : Network) (fine : NetworkFine net) where
     fold-search Ys [] = ap (searchSets (graph net) bs base) (sym (append-nil Ys))
     fold-search Ys (X ∷ Xs) =
         ap (λ (o : Option (List ℕ)). foldl try o Xs)
-        (sym (search-snoc orderℤ (under (graph net) bs) (pairs orderℤ (dictionary orderℕ)) (ranked (total (graph net)) (λ ts. ts)) (completed (graph net) base) Ys X))
+        (sym (search-snoc orderℤ (under (graph net) bs) (pairs orderℤ (dictionary orderℕ)) (ranked (total (graph net)) (λ ts. ts))
+        (completed (graph net) base) Ys X))
         ∙ fold-search (Ys ++ (X ∷ [])) Xs ∙ ap (searchSets (graph net) bs base) (append-snoc Ys X Xs)
 
     -- what the program keeps after the sets Xs is what the theory's search finds among them

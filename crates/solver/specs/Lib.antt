@@ -5,5 +5,5 @@ pub mod Found
 -- THE THEOREM: the best tree of document 01
 pub mod Best
 -- the links in the caller's buffer, and the answer
-pub mod Buffer
 pub mod Answer
+pub mod Question

@@ -1,3 +1,3 @@
-// The best tree under ceilings.
-pub mod buffer;
-pub mod solve;
+// The best tree of a network under ceilings: its links in the tree buffer, and the ceilings question with its answer.
+pub mod best;
+pub mod question;

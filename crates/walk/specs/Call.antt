@@ -1,11 +1,10 @@
 -- The list call on a network: number 9, then number 10, then the list.
-use mathlib.Core.Bool.{Bool, cond}
+use mathlib.Core.Bool.{Bool, cond, false, true}
 use mathlib.Core.List.{List}
 use mathlib.Core.Path.{_≡_, sym, ap, _∙_}
 use Prim.Native.Nat.{ℕ, _≤_, _<_}
 use borrow.Author.Tests.{le-ltb, lt-ltb}
 use lib.ListN.{length, replicate}
-use Rattle.order.specs.Test.{by-test}
 use Rattle.network.specs.Walk.{passes}
 use Rattle.network.specs.PlanList.{bufferNeed, filled}
 use Rattle.network.specs.Checked.{refuseIf, _orElse_}
@@ -13,28 +12,41 @@ use Rattle.network.specs.Calls.{ifFine, plansAfter, plansChecked, roomChecked, 
 use Rattle.network.specs.Yard.{treeSize}
 use Rattle.network.specs.declared.Network.{Network}
 use Rattle.network.specs.declared.Status.{Status}
-use Rattle.walk.specs.Walked.{Outcome, concluded, list-filled}
-use Rattle.walk.specs.declared.positions.Walked.{Walked}
+use Rattle.planlist_ending.specs.Finished.{finished}
+use Rattle.walk_positions.specs.Walked.{Outcome}
+use Rattle.walk_positions.specs.declared.positions.Walked.{Walked}
+use Rattle.walk.specs.Concluded.{concluded, list-filled}
 
 module _ (net : Network) (allowance : ℕ) (buffer : List ℕ) where
+  -- the reply and the buffer after it, by the test of the buffer's length
+  abbrev replyBy : Bool → Status
+  replyBy short = status (refuseIf short 9 0 orElse refuseIf (passes net allowance) 10 0)
+
+  abbrev leftBy : Bool → List ℕ
+  leftBy short = let size = length buffer in ifFine (refuseIf short 9 0) (cond (passes net allowance) (replicate size 0) (filled net size)) buffer
+
   -- the buffer is below its need
   pub short-reply : length buffer < bufferNeed net
       → (record { number = 9; place = 0 } ≡ status (plansChecked net allowance (length buffer))) × (buffer ≡ plansAfter net allowance buffer)
   unfolding plansChecked plansAfter roomChecked refuseIf _orElse_ ifFine status
-  short-reply h = let e = lt-ltb (length buffer) (bufferNeed net) h in (rw e, rw e)
+  short-reply h = let e = sym (lt-ltb (length buffer) (bufferNeed net) h) in (ap replyBy e, ap leftBy e)
 
   -- it is not, and the walk w, concluded, decides
   module _ (h : bufferNeed net ≤ length buffer) {after : List ℕ} {w : Walked} (o : Outcome net allowance after w) (same : length after ≡ length buffer) where
     walk-leaves : concluded w (treeSize net) (net .p) after ≡ cond (passes net allowance) (replicate (length buffer) 0) (filled net (length buffer))
     unfolding concluded
-    walk-leaves =
-        by-test (w .spent)
-        (λ e. rw (e, sym (o .gives-up) ∙ e) (ap (λ (k : ℕ). replicate k 0) same))
-        (λ e. rw (e, sym (o .gives-up) ∙ e) (list-filled net o e ∙ ap (filled net) same))
+    walk-leaves = ap by (o .gives-up) ∙ go (passes net allowance) (o .gives-up)
+      where
+        by : Bool → List ℕ
+        by spent = cond spent (replicate (length after) 0) (finished after (w .plans) (w .solved) (treeSize net) (net .p))
+
+        go : (b : Bool) → w .spent ≡ b → by b ≡ cond b (replicate (length buffer) 0) (filled net (length buffer))
+        go true e = ap (λ (k : ℕ). replicate k 0) same
+        go false e = list-filled net o e ∙ ap (filled net) same
 
     pub room-reply : {r : Status} {left : List ℕ} → r ≡ status (refuseIf (w .spent) 10 0) → left ≡ concluded w (treeSize net) (net .p) after
         → (r ≡ status (plansChecked net allowance (length buffer))) × (left ≡ plansAfter net allowance buffer)
     unfolding plansChecked plansAfter roomChecked refuseIf _orElse_ ifFine
     room-reply p q =
-        let e = le-ltb (length buffer) (bufferNeed net) h in
-        (rw e (p ∙ ap (λ (b : Bool). status (refuseIf b 10 0)) (o .gives-up)), rw e (q ∙ walk-leaves))
+        let e = sym (le-ltb (length buffer) (bufferNeed net) h) in
+        (p ∙ ap (λ (b : Bool). status (refuseIf b 10 0)) (o .gives-up) ∙ ap replyBy e, q ∙ walk-leaves ∙ ap leftBy e)

@@ -1,3 +1,2 @@
-// The threshold walk over the positions of the ceilings, and the list of plans that it leaves.
+// The list of plans that the threshold walk leaves.
 pub mod list;
-mod positions;

@@ -1,6 +1,4 @@
 // The list of plans.
-use crate::positions::Walked;
-use crate::positions::visit_all;
 use kruskal_order::order_links;
 use marking_values::values::ceiling_values;
 use network::Network;
@@ -10,6 +8,8 @@ use network::limits::HEAD_SIZE;
 use network::limits::MAX_LINKS;
 use planlist_ending::clear;
 use planlist_ending::finish;
+use walk_positions::positions::Walked;
+use walk_positions::positions::visit_all;
 ghost use mathlib.Core.Path.{_≡_};
 ghost use Prim.Native.Nat.{_+_, _-_, _*_, _≤_, _<_};
 ghost use lib.ListN.{length};
@@ -18,7 +18,7 @@ ghost use Rattle.network.specs.Checked.{refuseIf};
 ghost use Rattle.network.specs.Limits.{maxLinks, maxPlans};
 ghost use Rattle.network.specs.NetworkFine.{NetworkFine};
 ghost use Rattle.network.specs.PlanList.{headSize, planSize, planSlots};
-ghost use Rattle.walk.specs.Walked.{concluded};
+ghost use Rattle.walk.specs.Concluded.{concluded};
 
 // What a list buffer needs, by the numbers of values and of stations.
 fn need(m1: usize, m2: usize, n: u8) -> usize

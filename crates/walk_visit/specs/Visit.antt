@@ -23,7 +23,7 @@ use Rattle.network.specs.declared.Answer.{Answer}
 use Rattle.network.specs.declared.Network.{Network}
 use Rattle.kruskal_order.specs.ByCost.{linkOrder}
 use Rattle.planlist_insertion.specs.Stored.{absent, costs-padded}
-use Rattle.question.specs.Question.{answerOf}
+use Rattle.solver.specs.Question.{answerOf}
 use Rattle.marking_values.specs.Place.{placesOf}
 use Rattle.marking_values.specs.Slots.{ceilingValues, rank-count, value-count}
 use Rattle.marking_marks.specs.Paint.{Run, paint, run, through}

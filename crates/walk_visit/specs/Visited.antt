@@ -17,7 +17,7 @@ use Rattle.network.specs.declared.Network.{Network}
 use Rattle.planlist_insertion.specs.Insertion.{RecordsRise, insertRecord}
 use Rattle.planlist_insertion.specs.Level.{Level}
 use Rattle.planlist_costs.specs.Held.{Writable}
-use Rattle.question.specs.Question.{answer-found, answerOf, best-length, tree-front}
+use Rattle.solver.specs.Question.{answer-found, answerOf, best-length, tree-front}
 use Rattle.marking_marks.specs.Settle.{Settled}
 use Rattle.walk_visit.specs.Answered.{Taken, Takes, recordsIn, withPlan}
 use Rattle.walk_visit.specs.Visit.{bestAt}

@@ -1,47 +1,49 @@
 -- After k turns the array holds the normal ones of the first k links.
-use Prim.Native.Nat.{_-_, _≤_, _<_}
-use mathlib.Core.Path.{_≡_, refl}
+use Prim.Native.Nat.{_-_}
+use mathlib.Core.Path.{refl}
 use native.Mathlib.Omega.{arith}
 use borrow.Author.Needs.{needs}
-use lib.ListN.{length, take, getD}
-use lib.Seq.{take-all}
-use Rattle.order.specs.Lists.{getD-mem}
+use lib.ListN.{getD}
 use Rattle.kruskal.specs.Tree.{Usable}
-use Rattle.exceptions.specs.Select.{Collected, collect-end, collect-start, collect-turn, flag-le}
-use Rattle.exceptions.specs.Two.{free}
+use Rattle.exceptions_flags.specs.Two.{free}
+use Rattle.exceptions.specs.Select.{Collected, collect-end, collect-room, collect-start, collect-turn, one-at-most, usable-at}
 use Rattle.exceptions.proofs.select.normal_links.Statement.{statement}
 use Rattle.exceptions.proofs.select.normal_links.Tie as tie
 
 abbrev Inv-loop : tie.InvT-loop
-Inv-loop sums order v w link₀ n₀ k₀ k-end link n k = (k ≤ k-end) × (k-end ≡ length order) × (n ≤ k) × (length link ≡ 40) × Collected (free v w) link n (take k order)
+Inv-loop sums order v w link₀ n₀ k₀ k-end link n k = Collected (free v w) order link n k k-end
 
 abbrev μ-loop : tie.MeasureT-loop
 μ-loop sums order v w link₀ n₀ k₀ k-end link n k = k-end - k
 
+-- where the function was called
+abbrev start : tie.In-loop Inv-loop μ-loop → tie.Start Inv-loop μ-loop
+start c = c .before .before .before .before .before .before
+
 -- the link at a turn
-usable : (c : tie.In-loop Inv-loop μ-loop) → let i = c .before .before .before .before .before .before .args in Usable (i .sums .now) (getD (i .order .now) (c .before .loop .k) 0)
-usable c =
-    let i = c .before .before .before .before .before .before in
-    let h : c .before .loop .k < length (i .args .order .now) = omega arith in
-    i .pre .0 .usable _ (getD-mem _ _ 0 h)
+link-at : (c : tie.In-loop Inv-loop μ-loop) → Usable (start c .args .sums .now) (getD (start c .args .order .now) (c .before .loop .k) 0)
+link-at c = usable-at (c .before .loop .k) (start c .pre .0) (c .loop-test .taken)
 
 loop-holds : tie.Need-loop-holds Inv-loop μ-loop
-loop-holds c = (omega arith, refl, omega arith, refl, collect-start _ _)
+loop-holds c = collect-start _ _ _ refl
 
 shared-slice-read-e : tie.Need-shared-slice-read-e Inv-loop μ-loop
 shared-slice-read-e c = search needs
 
 array-write-link : tie.Need-array-write-link Inv-loop μ-loop
-array-write-link c = omega (arith, c .before .before .before .before .before .before .before .pre .0 .few)
+array-write-link c = collect-room _ (start (c .before) .pre .0) (c .before .before .loop .inv) (c .before .loop-test .taken)
 
-cast-normal : tie.Need-cast-normal Inv-loop μ-loop
-cast-normal c = let u = usable (c .before) in omega arith
+cast-is-normal : tie.Need-cast-is-normal Inv-loop μ-loop
+cast-is-normal c = omega (arith, link-at (c .before) .below)
 
-normal-requires : tie.Need-normal-requires Inv-loop μ-loop
-normal-requires c κs = (c .before .before .before .before .before .before .before .pre .1, usable (c .before) .below)
+is-normal-requires : tie.Need-is-normal-requires Inv-loop μ-loop
+is-normal-requires c κs = (start (c .before) .pre .1, link-at (c .before) .below)
+
+cast-n : tie.Need-cast-n Inv-loop μ-loop
+cast-n c = tt
 
 add-n : tie.Need-add-n Inv-loop μ-loop
-add-n c = omega (arith, flag-le _ _ (c .normal .ensures))
+add-n c = omega (arith, one-at-most (c .is-normal .result))
 
 add-k : tie.Need-add-k Inv-loop μ-loop
 add-k c = search needs
@@ -50,16 +52,12 @@ loop-less : tie.Need-loop-less Inv-loop μ-loop
 loop-less c = search needs
 
 loop-again : tie.Need-loop-again Inv-loop μ-loop
-loop-again c = let v = c .before .before .before .loop in
-    let one = flag-le _ _ (c .normal .ensures) in
-    let h : v .k < length (c .before .before .before .before .before .before .before .before .args .order .now) = omega arith in
-    let m : v .n < length (v .link) = omega (arith, c .before .before .before .before .before .before .before .before .pre .0 .few) in
-    (omega arith, refl, omega arith, search needs, collect-turn _ _ _ _ _ _ h m (v .inv .4) (c .normal .ensures))
+loop-again c =
+    let turn = c .before .before in
+    collect-turn _ (start turn .pre .0) (turn .before .loop .inv) (turn .loop-test .taken) (c .is-normal .ensures)
 
 returns : tie.Need-returns Inv-loop μ-loop
-returns c = let v = c .before .loop in
-    let h : length (c .before .before .before .before .before .before .args .order .now) ≤ v .k = omega arith in
-    rw (take-all (v .k) (c .before .before .before .before .before .before .args .order .now) h) at (collect-end _ _ _ _ (v .inv .4) (v .inv .3) (omega (arith, c .before .before .before .before .before .before .pre .0 .few)))
+returns c = collect-end _ (c .before .before .before .before .before .before .pre .0) (c .before .loop .inv) (c .loop-test .left)
 
 pub normal-links-spec : {M : Type 1} → statement M
 normal-links-spec =
@@ -70,8 +68,9 @@ normal-links-spec =
     loop-holds
     shared-slice-read-e
     array-write-link
-    cast-normal
-    normal-requires
+    cast-is-normal
+    is-normal-requires
+    cast-n
     add-n
     add-k
     loop-less

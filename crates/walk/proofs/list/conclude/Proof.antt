@@ -4,7 +4,7 @@ use mathlib.Core.Path.{_≡_}
 use borrow.Author.Needs.{needs}
 use Rattle.network.specs.Calls.{status}
 use Rattle.network.specs.Checked.{refuseIf}
-use Rattle.walk.specs.Walked.{concluded}
+use Rattle.walk.specs.Concluded.{concluded}
 use Rattle.walk.proofs.list.conclude.Statement.{statement}
 use Rattle.walk.proofs.list.conclude.Tie as tie
 

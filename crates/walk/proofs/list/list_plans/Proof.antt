@@ -11,7 +11,7 @@ use Rattle.network.specs.Limits.{maxLinks}
 use Rattle.network.specs.PlanList.{bufferNeed}
 use Rattle.walk_visit.specs.Visit.{Ready, count-limit, need-is}
 use Rattle.walk.specs.Call.{room-reply, short-reply}
-use Rattle.walk.specs.Walked.{outcome-room}
+use Rattle.walk.specs.Concluded.{outcome-room}
 use Rattle.walk.proofs.list.list_plans.Statement.{statement}
 use Rattle.walk.proofs.list.list_plans.Tie as tie
 

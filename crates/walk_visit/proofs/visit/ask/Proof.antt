@@ -9,7 +9,7 @@ use lib.IntN.{ℤ}
 use lib.ListN.{length}
 use Rattle.network.specs.Calls.{treeWith}
 use Rattle.network.specs.Yard.{best, bounds}
-use Rattle.question.specs.Question.{answerOf}
+use Rattle.solver.specs.Question.{answerOf}
 use Rattle.walk_visit.specs.Visit.{asked, places-in}
 use Rattle.walk_visit.proofs.visit.ask.Statement.{statement}
 use Rattle.walk_visit.proofs.visit.ask.Tie as tie

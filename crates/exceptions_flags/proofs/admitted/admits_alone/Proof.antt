@@ -1,0 +1,20 @@
+-- The tests are those of the definition.
+use mathlib.Core.Path.{refl}
+use borrow.Author.Needs.{needs}
+use Rattle.exceptions_flags.specs.Ceilings.{admitted}
+use Rattle.exceptions_flags.proofs.admitted.admits_alone.Statement.{statement}
+use Rattle.exceptions_flags.proofs.admitted.admits_alone.Tie as tie
+
+shared-slice-read-result : tie.Need-shared-slice-read-result
+shared-slice-read-result c = search needs
+
+shared-slice-read-result-2 : tie.Need-shared-slice-read-result-2
+shared-slice-read-result-2 c = search needs
+
+returns : tie.Need-returns
+unfolding admitted
+returns c = refl
+
+pub admits-alone-spec : {M : Type 1} → statement M
+admits-alone-spec =
+    tie.close (tie.spec shared-slice-read-result shared-slice-read-result-2 returns)

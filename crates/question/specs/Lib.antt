@@ -1,2 +1,0 @@
--- the answer by the best tree, and the tree buffer after it
-pub mod Question

@@ -1,0 +1,53 @@
+// What a tree with a set of exceptions takes of the base, and the sets that cannot lead to a better tree.
+use trees_costs::sum_of;
+ghost use mathlib.Core.Path.{_≡_};
+ghost use Prim.Native.Nat.{_+_, _-_, _<_};
+ghost use lib.ListN.{length};
+ghost use Rattle.network.specs.Limits.{maxLinks};
+ghost use Rattle.kruskal.specs.Tree.{Walkable};
+ghost use Rattle.search_base.specs.Rest.{losesTo, restOf};
+
+// Whether the base has as many links as a tree takes beside a set, and the least that so many cost.
+pub struct Rest {
+    pub enough: bool,
+    pub least: u32,
+}
+
+// How many links a tree of `goal` links has beside a set of `size` links.
+fn beside(goal: u8, size: u8) -> usize
+    ensures { λ r. ⌜ r ≡ goal - size ⌝ }
+{
+    if size < goal {
+        (goal - size) as usize
+    } else {
+        0
+    }
+}
+
+// The rest for a set of `size` links. The base comes in rising order of cost.
+pub fn rest_of(sums: &[u32], base: &[u8], goal: u8, size: u8) -> Rest
+    requires { ⌜ (length (now sums) ≡ maxLinks) × Walkable (now sums) (now base) ⌝ }
+    ensures { λ r. ⌜ r ≡ restOf (now (sums .entry)) (now (base .entry)) goal size ⌝ }
+{
+    let n = beside(goal, size);
+    if base.len() < n {
+        return Rest {
+            enough: false,
+            least: 0,
+        };
+    }
+    Rest {
+        enough: true,
+        least: sum_of(sums, &base[..n]),
+    }
+}
+
+impl Rest {
+    // Whether no tree with a set that costs `cost` is better than the best tree so far, if one was found, with its sum.
+    pub fn loses(self, cost: u32, found: bool, sum: u32) -> bool
+        requires { ⌜ cost + self .least < 4294967296 ⌝ }
+        ensures { λ r. ⌜ r ≡ losesTo self cost found sum ⌝ }
+    {
+        !self.enough | (found & (sum < cost + self.least))
+    }
+}

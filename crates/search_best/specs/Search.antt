@@ -1,0 +1,40 @@
+-- The search for the best tree as a program has it: exception sets, their completions by the base, and the better of two trees.
+use Prim.Native.Nat.{ℕ}
+use mathlib.Core.Bool.{Bool, cond, true, false, _&&_, _||_}
+use mathlib.Core.List.{List, foldl}
+use lib.Dec.{eqb, ltb}
+use lib.ListN.{length, replicate}
+use Rattle.order.specs.Lists.{filter}
+use Rattle.network.specs.Limits.{maxLinks}
+use Rattle.forest.specs.Groups.{apart}
+use Rattle.kruskal.specs.Tree.{bare, linked}
+use Rattle.kruskal.specs.Base.{kept}
+use Rattle.kruskal.specs.declared.tree.Tree.{Tree}
+use Rattle.search_best.specs.Flags.{first}
+use Rattle.search_best.specs.Sets.{trials}
+use Rattle.exceptions_flags.specs.Ceilings.{Flagged, admitted, exception, normal}
+use Rattle.search_best.specs.declared.best.Best.{Best}
+
+-- no tree was found
+unfoldable pub nothing : Best
+nothing = record { found = false; sum = 0; taken = replicate maxLinks false }
+
+-- the tree t is better than b: it has a smaller sum, or the same sum and comes first
+unfoldable pub beats : Tree → Best → Bool
+beats t b = cond (b .found) (ltb (t .sum) (b .sum) || (eqb (t .sum) (b .sum) && first (t .taken) (b .taken))) true
+
+-- t takes the place of b where it has `goal` links and is better
+unfoldable pub offered : ℕ → Best → Tree → Best
+offered goal b t = cond (eqb (t .count) goal && beats t b) (record { found = true; sum = t .sum; taken = t .taken }) b
+
+module _ (ends sums : List ℕ) (goal : ℕ) (cs : List Flagged) where
+  -- one exception set: it is admitted, each of its links joins two groups, and the base completes it
+  unfoldable pub considered : List ℕ → Best → List ℕ → Best
+  considered base b X =
+      let t = foldl (linked ends sums) bare X in
+      cond (eqb (t .count) (length X) && admitted cs X) (offered goal b (foldl (linked ends sums) t base)) b
+
+  -- The best tree, of links that come in the given order. The base is what Kruskal's method keeps of the normal links; exceptions too are tried only
+  -- where it keeps them, with nothing joined but exceptions.
+  unfoldable pub bestOf : List ℕ → Best
+  bestOf order = foldl (considered (kept ends apart (filter (normal cs) order))) nothing (trials (kept ends apart (filter (exception cs) order)))

@@ -1,0 +1,3 @@
+// The better of two trees.
+pub mod best;
+pub mod ties;

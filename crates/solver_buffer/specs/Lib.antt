@@ -1,0 +1,2 @@
+-- the links in the caller's buffer
+pub mod Buffer

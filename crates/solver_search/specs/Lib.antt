@@ -1,0 +1,2 @@
+-- the best tree, put together from what the search is given
+pub mod Assembled

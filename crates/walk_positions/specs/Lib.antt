@@ -1,0 +1,5 @@
+-- the threshold walk of a network: the entries that it solves, and what it has done when the first n positions are visited
+pub mod Entries
+pub mod Progress
+-- what it says of itself in the end
+pub mod Walked

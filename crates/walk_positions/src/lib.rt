@@ -1,0 +1,2 @@
+// The threshold walk over the positions of the ceilings.
+pub mod positions;

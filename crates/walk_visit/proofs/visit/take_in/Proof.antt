@@ -1,5 +1,9 @@
 -- `walk_visit::visit::take_in` meets its contract: a plan is inserted, and without one nothing changes.
 use borrow.Author.Needs.{needs}
+use denote.Ref.{now}
+use native.Mathlib.Omega.{arith}
+use lib.ListN.{length-drop}
+use Rattle.network.specs.PlanList.{headSize}
 use Rattle.walk_visit.specs.Answered.{none-taken, plan-taken}
 use Rattle.walk_visit.proofs.visit.take_in.Statement.{statement}
 use Rattle.walk_visit.proofs.visit.take_in.Tie as tie
@@ -17,8 +21,16 @@ returns c =
 
 insert-plan-requires : tie.Need-insert-plan-requires
 insert-plan-requires c κs =
-    let pre = c .before .before .before .before .before .before .pre in
-    (pre .room, pre .rise, pre .level (c .before .before .answer .given .0 .0) (c .before .before .answer .given .1))
+    let s = c .before .before .before .before .before .before in
+    let pre = s .pre in
+    let behind = length-drop headSize (now (s .args .out)) in (
+      omega (arith, pre .room),
+      record {
+        room = omega (arith, pre .room);
+        rise = pre .rise;
+        level = pre .level (c .before .before .answer .given .0 .0) (c .before .before .answer .given .1);
+      },
+    )
 
 same-length : tie.Need-same-length
 same-length c = search needs
@@ -29,7 +41,7 @@ returns-2 c =
     let fits = plan .known-told .given .0 .1 .1 in
     let new = c .before .before .insert-plan .ensures in
     plan-taken (plan .before .answer .given .1)
-    (record { sum-fits = fits .0 .1; y1-fits = record { sfits = fits .1 .0 .1 }; y2-fits = record { sfits = fits .1 .1 .0 .1 } }) (new .0) (new .1)
+    (record { sum-fits = fits .0 .1; y1-fits = record { sfits = fits .1 .0 .1 }; y2-fits = record { sfits = fits .1 .1 .0 .1 } }) (new .few) (new .records-are)
 
 pub take-in-spec : {M : Type 1} → statement M
 take-in-spec =

@@ -10,7 +10,7 @@ use mir.Facts.{toZ-ofZ}
 use mir.Syntax.{w16}
 use mir.Val.{ofZ, toZ}
 use lib.IntN.{ℤ, pos}
-use lib.ListN.{drop, getD, length, replicate, take}
+use lib.ListN.{drop, getD, length, length-drop, replicate, take}
 use Rattle.network.specs.Yard.{yard, best, bounds, treeSize}
 use Rattle.network.specs.PlanList.{costsOf, headSize, planBytes, planSize, planSlots}
 use Rattle.network.specs.Walk.{positions}
@@ -193,8 +193,11 @@ insert-plan-requires c κs =
     let bs = drop headSize (a .out .now) in
     let level = subst⁻¹ (λ (v : Costs). Level v (blocks (planSize planSlots (treeSize (a .net))) (a .count) bs)) (f .costs-are) (s .pre .4 .level (f .tree) (f .best-is)) in (
       omega arith,
-      subst⁻¹ (λ (k : ℕ). RecordsRise (blocks (planSize planSlots k) (a .count) bs)) size (s .pre .4 .rise),
-      subst⁻¹ (λ (k : ℕ). Level (told .before .answer .given .0 .0) (blocks (planSize planSlots k) (a .count) bs)) size level,
+      record {
+        room = omega (arith, length-drop headSize (a .out .now));
+        rise = subst⁻¹ (λ (k : ℕ). RecordsRise (blocks (planSize planSlots k) (a .count) bs)) size (s .pre .4 .rise);
+        level = subst⁻¹ (λ (k : ℕ). Level (told .before .answer .given .0 .0) (blocks (planSize planSlots k) (a .count) bs)) size level;
+      },
     )
 
 same-length-2 : tie.Need-same-length-2
@@ -216,12 +219,12 @@ returns-2 c =
           (λ x h. ap (λ (l : List ℕ). getD l x 0) (c .before .before .before .before .before .before .before .before .mark-through2 .ensures ∙ ap₂ (λ (i j : ℕ). paint (through (length (a .v2 .now)) (a .n) i j) (a .n) (a .marks .now)) (place1-is (c .before .before .before .before .before .before .before .before .before .before)) (place2-is (c .before .before .before .before .before .before .before .before .before .before)))
           ∙ some-marked (s .pre .0) (a .n) (s .pre .1) (f .tree) (f .best-is) (a .marks .now) (s .pre .2) x h);
       records = ap (λ (k : ℕ). blocks (planSize planSlots k) (c .before .before .insert-plan .result) (drop headSize (c .before .before .insert-plan .last .0))) (sym size)
-          ∙ c .before .before .insert-plan .ensures .1
+          ∙ c .before .before .insert-plan .ensures .records-are
           ∙ ap₂ (λ (v : Costs) (l : List ℕ). insertRecord (planBytes v l) (blocks (planSize planSlots (length links)) (a .count) bs)) (f .costs-are) (links-are (c .before .before .before .before .before .before .before .before .before .before .before .before .before .before))
           ∙ ap (λ (k : ℕ). insertRecord (planBytes (costsOf (a .net) (f .tree)) (f .tree)) (blocks (planSize planSlots k) (a .count) bs)) size
           ∙ ap (λ (o : Option (List ℕ)). takeRecord (a .net) o (blocks (planSize planSlots (treeSize (a .net))) (a .count) bs)) (sym (f .best-is));
       writable = λ ts e. subst Writable (f .costs-are ∙ ap (costsOf (a .net)) (Option·some-injective (f .tree) ts (sym (f .best-is) ∙ e))) (writable (c .before .before .before .before .before .before .before .before .before .before .before .before .before));
-      bounded = c .before .before .insert-plan .ensures .0;
+      bounded = c .before .before .insert-plan .ensures .few;
     }
 
 pub solve-at-spec : {M : Type 1} → statement M

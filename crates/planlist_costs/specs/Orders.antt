@@ -33,6 +33,7 @@ at-most-by v w e f = λ i. leb (v .sum) (w .sum) && (e i && (f ∙ and-true (leZ
 abbrev bySums : Costs → Costs → Bool → Bool → Bool
 bySums v w p q = p && (not q || (leZ (v .y1) (w .y1) && (not (leZ (w .y1) (v .y1)) || leZ (v .y2) (w .y2))))
 
+-- with both tests of the sums it is that order
 in-order-by : (v w : Costs) → bySums v w (leb (v .sum) (w .sum)) (leb (w .sum) (v .sum)) ≡ inOrder v w
 unfolding inOrder
 in-order-by v w =

@@ -10,7 +10,7 @@ ghost use Rattle.network.specs.PlanList.{planSize, planSlots};
 ghost use Rattle.planlist_records.specs.Blocks.{blocks};
 ghost use Rattle.planlist_place.specs.Place.{freePlace};
 
-// The number of records that stand before v; one more than all, where a record with v's sum is at most v. None with another sum is.
+// The number of records that stand before v; one more than all where, before that place, one of no lower sum is at most v.
 pub fn free_place(plans: &[u8], count: usize, size: usize, v: Costs) -> usize
     requires { ⌜ (planSize planSlots 0 ≤ size) × (count * size ≤ length (now plans)) ⌝ }
     ensures { λ r. ⌜ r ≡ freePlace v (blocks size count (now (plans .entry))) ⌝ }

@@ -10,7 +10,7 @@ ghost use Rattle.network.specs.PlanList.{planSize, planSlots};
 ghost use Rattle.planlist_records.specs.Blocks.{blocks};
 ghost use Rattle.planlist_pruning.specs.Pruned.{prunedLevel};
 
-// Drops the plans that v is at most, keeps the others' order, and returns their count. None with a higher sum is dropped.
+// Drops the plans that v is at most, up to the first with a higher sum; keeps the others in their order, and returns their count.
 pub fn prune(plans: &mut [u8], count: usize, size: usize, v: Costs) -> usize
     requires { ⌜ (planSize planSlots 0 ≤ size) × (count * size ≤ length (now plans)) ⌝ }
     ensures { λ r. ⌜ (r ≤ count) × (blocks size r (now (plans .exit)) ≡ prunedLevel v (blocks size count (now (plans .entry)))) ⌝ }

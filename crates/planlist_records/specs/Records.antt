@@ -12,7 +12,7 @@ use Rattle.planlist_records.specs.Blocks.{blocks}
 abbrev pub encode : {S : Type 0} → (S → Costs) → (S → List ℕ) → S → List ℕ
 encode costs links s = planBytes (costs s) (links s)
 
--- a record of t links has the size of one
+-- how long it is
 pub length-plan : (v : Costs) (links : List ℕ) → length (planBytes v links) ≡ planSize planSlots (length links)
 length-plan v links = omega arith
 

@@ -23,7 +23,7 @@ use Rattle.network.specs.declared.Status.{Status}
 
 -- ---- replies
 
--- A reply in this paper's terms: the number and place of a refusal and no values, or 0, 0 and the plan's sum, y1, y2.
+-- A reply in document 01's terms: the number and place of a refusal and no values, or 0, 0 and the plan's sum, y1, y2.
 pub record Reply : Type 0 where
   pub number : ℕ
   pub place : ℕ
@@ -70,6 +70,7 @@ abbrev pub linksOf : Option (List ℕ) → List ℕ
 linksOf none = []
 linksOf (some ts) = ts
 
+-- there is no tree
 abbrev pub isNone : Option (List ℕ) → Bool
 isNone none = true
 isNone (some ts) = false

@@ -1,4 +1,4 @@
--- The first refusal of several checks: what the order of the table in document 01 is said by.
+-- The first refusal of several checks, by which document 01's order of the numbers is said.
 use Prim.Native.Nat.{ℕ, zero, suc, _+_, _<_}
 use mathlib.Core.Path.{_≡_, refl, _∙_}
 use mathlib.Core.Bool.{Bool, true, false}

@@ -8,24 +8,27 @@ use Rattle.network.specs.Limits.{maxCeilings, maxPlans, maxTree}
 use Rattle.network.specs.Bytes.{byteAt, markAt, u16At}
 use Rattle.network.specs.PlanList.{headMark, headSize, planMark, planSize, planSlots}
 
--- what a list head says: the plan count, t, and p
+-- the plan count that a list head says
 abbrev pub headCount : List ℕ → ℕ
 headCount list = u16At list 2
 
+-- the t that it says
 abbrev pub headTreeSize : List ℕ → ℕ
 headTreeSize list = byteAt list 8
 
+-- the p that it says
 abbrev pub headCeilings : List ℕ → ℕ
 headCeilings list = byteAt list 9
 
--- where plan r's record starts, and where its link bytes do: at byte 20 + r × (10 + t)
+-- where plan r's record starts: at byte 10 + r × (10 + t)
 abbrev pub planStart : List ℕ → ℕ → ℕ
 planStart list r = headSize + r * planSize planSlots (headTreeSize list)
 
+-- where its link bytes start: at byte 20 + r × (10 + t)
 abbrev pub linksStart : List ℕ → ℕ → ℕ
 linksStart list r = planStart list r + planSize planSlots 0
 
--- the list is damaged, whichever plan is asked for
+-- 12, whichever plan is asked for: under 10 bytes, a wrong head mark, a count over 1,600, t over 23, p over 2, or fewer bytes than the plans take
 unfoldable pub damaged : List ℕ → Bool
 damaged list =
     ltb (length list) headSize || not (markAt list 0 headMark) || ltb maxPlans (headCount list) || ltb maxTree (headTreeSize list)

@@ -1,5 +1,5 @@
--- The numbers of document 01, each named once.
-use Prim.Native.Nat.{ℕ, _*_, _-_}
+-- The limits of document 01. Ceiling costs are of 16 bits and the allowance is of 32: their types say so.
+use Prim.Native.Nat.{ℕ, _^_, _-_}
 
 -- stations: 1 to 24
 abbrev pub maxStations : ℕ
@@ -25,9 +25,9 @@ maxSum = 1_000_000
 abbrev pub maxTree : ℕ
 maxTree = maxStations - 1
 
--- M, the number of positions, and so the plans of a list: at most 1,600
+-- M, the number of positions, and so the plans of a list: at most 1,600, a value of each ceiling for each link
 abbrev pub maxPlans : ℕ
-maxPlans = maxLinks * maxLinks
+maxPlans = maxLinks ^ maxCeilings
 
 -- what the program takes of standard input, in bytes
 abbrev pub maxInput : ℕ

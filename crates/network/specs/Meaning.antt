@@ -4,11 +4,12 @@ use mathlib.Core.Bool.{Bool, true, false, _&&_, not}
 use mathlib.Core.List.{List, map}
 use mathlib.Core.Logic.{_↔_}
 use mathlib.Core.Option.{none, some}
-use mathlib.Core.Path.{_≡_}
+use mathlib.Core.Path.{_≡_, ap}
 use Prim.Native.Nat.{ℕ, _≤_}
 use lib.Dec.{leb}
-use lib.IntN.{ℤ, pos}
-use lib.ListN.{length}
+use native.Mathlib.Omega.{arith}
+use lib.IntN.{ℤ, negsuc, pos}
+use lib.ListN.{getD, length}
 use borrow.Author.Tests.{le-leb, leb-true, not-true}
 use Rattle.order.specs.Test.{clash, fails, left, right, both}
 use Rattle.order.specs.Lists.{_∈_, first}
@@ -22,6 +23,9 @@ use Rattle.frontier.specs.Best.{best-none, best-some}
 use Rattle.planning.specs.Graph.{Sound, searchTree}
 use Rattle.planning.specs.Search.{search-best}
 use Rattle.network.specs.Yard.{Tree, best, dominates, ends, fits, graph, isTree, ranks, treeSize, treeSum, trees, yard}
+use Rattle.network.specs.Calls.{Reply, says}
+use Rattle.network.specs.declared.Answer.{Answer}
+use Rattle.network.specs.declared.Answer.the-variants.{Plan, Refused as Answer·Refused}
 use Rattle.network.specs.declared.Network.{Network}
 
 -- v dominates w: no entry of v is above that of w, and v differs from w
@@ -77,7 +81,8 @@ module _ (net : Network) (sound : Sound (graph net)) where
         fitting = b .passes;
         least = λ us t f. leb-true (treeSum net ts) (treeSum net us) (b .lowest us (trees-iff us .1 t) f);
         foremost = λ us t f l.
-            first-lowest (dictionary orderℕ) (λ xs. xs) near ts (trees net) trees-rising leftmost us (trees-iff us .1 t) (both f (le-leb (treeSum net us) (treeSum net ts) l));
+            let close = both f (le-leb (treeSum net us) (treeSum net ts) l) in
+            first-lowest (dictionary orderℕ) (λ xs. xs) near ts (trees net) trees-rising leftmost us (trees-iff us .1 t) close;
       }
     where
       -- a tree that fits at no higher sum
@@ -97,3 +102,23 @@ module _ (net : Network) (sound : Sound (graph net)) where
   -- the search over sets of exceptional links, each completed by Kruskal's method, finds the best tree
   pub search-finds : (bs : List ℤ) → length bs ≡ length (ranks net) → searchTree (graph net) bs ≡ best net bs
   search-finds bs l = search-best (graph net) sound bs l
+
+-- `says` is one-to-one: no two answers of the enum say the same
+pub says-once : (a b : Answer) → says a ≡ says b → a ≡ b
+unfolding says
+says-once (Plan v) (Plan w) e =
+    let values = ap (λ (r : Reply). r .values) e in
+    let sum : v .sum ≡ w .sum = ap (λ (l : List ℤ). natural (getD l 0 (pos 0))) values in
+    let first : v .y1 ≡ w .y1 = ap (λ (l : List ℤ). getD l 1 (pos 0)) values in
+    let second : v .y2 ≡ w .y2 = ap (λ (l : List ℤ). getD l 2 (pos 0)) values in
+    λ i. Plan (record { sum = sum i; y1 = first i; y2 = second i })
+  where
+    natural : ℤ → ℕ
+    natural (pos n) = n
+    natural (negsuc n) = 0
+says-once (Answer·Refused r) (Answer·Refused q) e =
+    let number = ap (λ (a : Reply). a .number) e in
+    let place = ap (λ (a : Reply). a .place) e in
+    λ i. Answer·Refused (record { number = number i; place = place i })
+says-once (Plan v) (Answer·Refused r) e = let z : _≡_ {A = ℕ} 3 0 = ap (λ (a : Reply). length (a .values)) e in absurd (omega arith)
+says-once (Answer·Refused r) (Plan v) e = let z : _≡_ {A = ℕ} 0 3 = ap (λ (a : Reply). length (a .values)) e in absurd (omega arith)

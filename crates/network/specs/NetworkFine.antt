@@ -1,26 +1,27 @@
 -- What holds of the network of an accepted survey, said of its arrays with no byte in it, and so of the graph that the theory speaks of.
-use Prim.Native.Nat.{ℕ, _+_, _-_, _*_, _/_, _%_, _≤_, _<_}
+use Prim.Native.Nat.{ℕ, suc, _+_, _-_, _*_, _/_, _%_, _^_, _≤_, _<_}
 use mathlib.Core.Path.{_≡_, refl, sym, ap, _∙_}
-use mathlib.Core.Bool.{_&&_, _||_, false}
+use mathlib.Core.Bool.{_&&_, false}
 use mathlib.Core.List.{List, [], _∷_}
-use native.Mathlib.Nat.{mul-le-mul-right}
+use native.Mathlib.Nat.{le-of-eq, le-trans, mul-comm, mul-le-mul, pow-le-pow-right, pow-suc, pow-zero}
 use native.Mathlib.Omega.{arith}
 use borrow.Author.Tests.{eqb-true, le-leb, leb-false, ltb-false, lt-ltb, not-false}
-use lib.Dec.{leb, ltb}
+use lib.Dec.{ltb}
 use lib.ListN.{getD, length, length-take}
 use lib.Seq.{getD-take}
 use lib.IntN.{pos}
 use Rattle.order.specs.Lists.{mem-getD}
 use Rattle.frontier.specs.Frontier.{product}
-use Rattle.planning.specs.Graph.{Sound, valuesAt, valuesFrom}
+use Rattle.planning.specs.Graph.{Graph, Sound, valuesAt, valuesFrom}
 use Rattle.planning.specs.Grid.{values-few}
-use Rattle.network.specs.Limits.{maxCeilings, maxLinks, maxPlans, maxRank, maxStations, maxSum}
+use Rattle.network.specs.Limits.{maxCeilings, maxLinks, maxPlans, maxStations, maxSum, maxTree}
 use Rattle.network.specs.Bytes.{byteAt, signed, u16At}
 use Rattle.network.specs.Column.{column, column-at, column-length}
 use Rattle.network.specs.Survey.{ceilingsIn, costIn, costsIn, endIn, endsIn, layoutOf, linkCount, linkStart, networkOf, networkWith, sumIn, sumsIn}
-use Rattle.network.specs.Refusals.{absentCost, badRank, badRanks, checkedOf, outside}
-use Rattle.network.specs.Yard.{graph, ranks}
+use Rattle.network.specs.Refusals.{absentCost, badPresent, badRank, badRanks, checkedOf}
+use Rattle.network.specs.Yard.{graph, ranks, treeSize}
 use Rattle.network.specs.Walk.{positionCount}
+use Rattle.network.specs.PlanList.{bufferNeed, maxNeed, planSize, planSlots}
 use Rattle.network.specs.Accepted.{Accepted, accepted, below-two, layout-roomy, or-false}
 use Rattle.network.specs.declared.Checked.the-variants.{Fine}
 use Rattle.network.specs.declared.Layout.{Layout}
@@ -57,13 +58,14 @@ unfolding networkWith endsIn sumsIn costsIn signed
 network-fine s l fine =
     let m = linkCount l s in
     let few : m ≤ maxLinks = fine .yard .few-links in
-    let first : (i : ℕ) → i < m → getD (column (2 * maxLinks) 0 (λ q. endIn s (linkStart l (q / 2)) (q % 2)) (2 * m)) (2 * i) 0 ≡ byteAt s (linkStart l i + 2)
-    = λ i h.
+    let ends = column (2 * maxLinks) 0 (λ q. endIn s (linkStart l (q / 2)) (q % 2)) (2 * m) in
+    let first : (i : ℕ) → i < m → getD ends (2 * i) 0 ≡ byteAt s (linkStart l i + 2) = λ i h.
     let e : 2 * i + 0 ≡ 2 * i = omega arith in
     let f : linkStart l i + 2 + 0 ≡ linkStart l i + 2 = omega arith in
     rw e at (pair-at 0 (λ i j. endIn s (linkStart l i) j) m i 0 few h (omega arith) 0) ∙ ap (byteAt s) f in
-    let second : (i : ℕ) → i < m → getD (column (2 * maxLinks) 0 (λ q. endIn s (linkStart l (q / 2)) (q % 2)) (2 * m)) (2 * i + 1) 0 ≡ byteAt s (linkStart l i + 3)
-    = λ i h. let f : linkStart l i + 2 + 1 ≡ linkStart l i + 3 = omega arith in pair-at 0 (λ i j. endIn s (linkStart l i) j) m i 1 few h (omega arith) 0 ∙ ap (byteAt s) f in
+    let second : (i : ℕ) → i < m → getD ends (2 * i + 1) 0 ≡ byteAt s (linkStart l i + 3) = λ i h.
+    let f : linkStart l i + 2 + 1 ≡ linkStart l i + 3 = omega arith in
+    pair-at 0 (λ i j. endIn s (linkStart l i) j) m i 1 few h (omega arith) 0 ∙ ap (byteAt s) f in
     record {
       some-station = fine .yard .some-station;
       few-stations = fine .yard .few-stations;
@@ -88,8 +90,8 @@ survey-fine s e = network-fine s (layoutOf s) (accepted s (layoutOf s) (layout-r
 -- the rank of a present ceiling is at least 1 and below n
 present-rank : (n p j k : ℕ) → badRank n p j k ≡ false → j < p → (0 < k) × (k ≤ n - 1)
 present-rank n p j k e h =
-    let a : ltb j p && (outside k 1 maxRank || leb n k) ≡ false = or-false _ _ e .0 in
-    let b = or-false (outside k 1 maxRank) (leb n k) (rw (lt-ltb j p h) at a) in
+    let a : ltb j p && badPresent n k ≡ false = or-false _ _ e .0 in
+    let b = or-false _ _ (rw (lt-ltb j p h) at a) in
     let c = or-false _ _ (b .0) in
     let low : 1 ≤ k = ltb-false _ _ (c .0) in
     let high : k < n = leb-false _ _ (b .1) in
@@ -114,17 +116,25 @@ graph-sound net fine =
 pub survey-sound : (s : List ℕ) → checkedOf s ≡ Fine → Sound (graph (networkOf s))
 survey-sound s e = graph-sound (networkOf s) (survey-fine s e)
 
+-- ---- limits of the walk and of the list, for any number of ceilings
+
+-- with at most b links there are at most b positions to the power of the number of ceilings
+position-power : (G : Graph) (b : ℕ) → G .m ≤ b → (i : ℕ) (ks : List ℕ) → product (valuesFrom G i ks) ≤ b ^ length ks
+position-power G b h i [] = omega (arith, pow-zero b)
+position-power G b h i (k ∷ ks) =
+    let few : length (valuesAt G i) ≤ b = omega (arith, values-few G i) in
+    let power : b ^ length (k ∷ ks) ≡ b ^ length ks * b = pow-suc b (length ks) in
+    rw power (le-trans (mul-le-mul few (position-power G b h (suc i) ks)) (le-of-eq (mul-comm b (b ^ length ks))))
+
 -- M is at most 1,600
 pub position-limit : (net : Network) → NetworkFine net → positionCount net ≤ maxPlans
-position-limit net fine = go (ranks net) (omega (arith, length-take (net .p) (net .k), fine .few-ceilings))
-  where
-    few : (i : ℕ) → length (valuesAt (graph net) i) ≤ maxLinks
-    few i = omega (arith, values-few (graph net) i, fine .few-links)
+position-limit net fine =
+    let few : length (ranks net) ≤ maxCeilings = omega (arith, length-take (net .p) (net .k), fine .few-ceilings) in
+    le-trans (position-power (graph net) maxLinks (fine .few-links) 0 (ranks net)) (pow-le-pow-right {n = maxLinks} (omega arith) few)
 
-    go : (ks : List ℕ) → length ks ≤ maxCeilings → product (valuesFrom (graph net) 0 ks) ≤ maxPlans
-    go [] h = omega arith
-    go (k ∷ []) h = omega (arith, few 0)
-    go (k ∷ j ∷ []) h =
-        let one : length (valuesAt (graph net) 1) * 1 ≡ length (valuesAt (graph net) 1) = omega arith in
-        rw one (omega (arith, few 1, mul-le-mul-right (length (valuesAt (graph net) 1)) (few 0)))
-    go (k ∷ j ∷ l ∷ ks) h = absurd (omega arith)
+-- what a list buffer needs is at most 52,810 bytes
+pub need-limit : (net : Network) → NetworkFine net → bufferNeed net ≤ maxNeed
+need-limit net fine =
+    let positions = position-limit net fine in
+    let links : planSize planSlots (treeSize net) ≤ planSize planSlots maxTree = omega (arith, fine .few-stations) in
+    omega (arith, mul-le-mul positions links)

@@ -10,10 +10,11 @@ use Rattle.network.specs.Walk.{plans, positionCount, solvedCount}
 use Rattle.network.specs.declared.Costs.{Costs}
 use Rattle.network.specs.declared.Network.{Network}
 
--- the mark of the list head, 50 48, and of a plan record, 50 4C
+-- the mark of the list head, 50 48
 abbrev pub headMark : List ℕ
 headMark = 0x50 ∷ 0x48 ∷ []
 
+-- the mark of a plan record, 50 4C
 abbrev pub planMark : List ℕ
 planMark = 0x50 ∷ 0x4C ∷ []
 
@@ -54,6 +55,7 @@ listBytes net = headBytes (length (plans net)) (solvedCount net) (treeSize net) 
 abbrev pub bufferNeed : Network → ℕ
 bufferNeed net = headSize + positionCount net * planSize planSlots (treeSize net)
 
+-- the most that it can be (`need-limit`)
 abbrev pub maxNeed : ℕ
 maxNeed = headSize + maxPlans * planSize planSlots maxTree
 

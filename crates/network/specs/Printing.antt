@@ -15,13 +15,14 @@ use Rattle.network.specs.declared.Checked.{Checked}
 use Rattle.network.specs.declared.Checked.the-variants.{Fine, Refused}
 use Rattle.network.specs.declared.Network.{Network}
 
--- the decimal digits of n in ASCII, most significant first, where `fuel` is above their number
+-- the decimal digits of n in ASCII, most significant first, where `fuel` is at least their number
 abbrev pub digits : ℕ → ℕ → List ℕ
 digits zero n = []
 digits (suc fuel) n =
     let front = digits fuel (n / 10) in
     cond (ltb n 10) [] front ++ ((48 + n % 10) ∷ [])
 
+-- a number without a sign, in decimal digits
 abbrev pub natural : ℕ → List ℕ
 natural n = digits (suc n) n
 
@@ -61,7 +62,7 @@ abbrev pub plansText : Network → List ℕ
 plansText net =
     line (plansWord ∷ natural (length (plans net)) ∷ solvedWord ∷ natural (solvedCount net) ∷ []) ++ join (map (planLine net) (plans net))
 
--- a refusal: `refused N at P`
+-- the whole output, by what the list call's check found: the plans, or `refused N at P`
 abbrev pub textOf : Checked → Network → List ℕ
 textOf Fine net = plansText net
 textOf (Refused r) net = line (refusedWord ∷ natural (r .number) ∷ atWord ∷ natural (r .place) ∷ [])

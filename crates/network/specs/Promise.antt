@@ -1,12 +1,14 @@
--- DEMAND 3 over the definitions: what the list of a yard holds, and that the list call of an accepted survey gives it.
-use mathlib.Core.Bool.{true, false}
-use mathlib.Core.List.{List, [], _∷_, List·Memᴰ·head as here, List·Memᴰ·not-nil}
+-- What the user relies on: that the list of an accepted survey is complete (demand 3), and that a plan fetched from it is the plan listed there.
+-- The list call's contract has `Promised`, those of fetching `NumberKept` and `LinksKept`.
+use mathlib.Core.Bool.{cond, true, false}
+use mathlib.Core.List.{List, [], _∷_, _++_, List·Memᴰ·head as here, List·Memᴰ·not-nil}
 use mathlib.Core.Logic.{_↔_}
-use mathlib.Core.Path.{_≡_, refl}
+use mathlib.Core.Path.{_≡_, refl, _∙_}
 use Prim.Native.Nat.{ℕ, _≤_}
 use native.Mathlib.Omega.{arith}
+use lib.Dec.{ltb}
 use lib.IntN.{ℤ}
-use lib.ListN.{length}
+use lib.ListN.{getD, length}
 use borrow.Author.Tests.{le-ltb, not-true}
 use Rattle.order.specs.Lists.{_∈_, any, any-none, none-any}
 use Rattle.order.specs.Order.{dictionary, dictionaryLe, orderℕ, orderℤ, ≡→equal}
@@ -16,17 +18,20 @@ use Rattle.frontier.specs.Walk.{positions-length, solved-length}
 use Rattle.frontier.specs.Listed.{listed-empty, listed-feasible, listed-first, listed-rising, listed-vectors}
 use Rattle.planning.specs.Graph.{Sound}
 use Rattle.planning.specs.Grid as grid
+use Rattle.network.specs.Limits.{maxPlans}
 use Rattle.network.specs.Yard.{Tree, dominates, graph, trees, vector, yard}
 use Rattle.network.specs.Walk.{plans, positionCount, solvedCount, values, walked}
 use Rattle.network.specs.Survey.{networkOf}
-use Rattle.network.specs.PlanList.{bufferNeed, filled}
+use Rattle.network.specs.PlanList.{bufferNeed, filled, listBytes, maxNeed}
 use Rattle.network.specs.Checked.{refuseIf, _orElse_}
 use Rattle.network.specs.Refusals.{checkedOf}
 use Rattle.network.specs.Calls.{ifFine, listAfter, listChecked, listStatus, plansAfter, plansChecked, roomChecked, status}
 use Rattle.network.specs.Meaning.{trees-iff, trees-rising}
-use Rattle.network.specs.NetworkFine.{survey-sound}
-use Rattle.network.specs.declared.Checked.the-variants.{Fine}
+use Rattle.network.specs.NetworkFine.{need-limit, position-limit, survey-fine, survey-sound}
+use Rattle.network.specs.declared.Checked.{Checked}
+use Rattle.network.specs.declared.Checked.the-variants.{Fine, Refused}
 use Rattle.network.specs.declared.Network.{Network}
+use Rattle.network.specs.declared.Status.{Status}
 
 -- some tree of the yard attains v
 abbrev pub Attained : Network → List ℤ → Type 0
@@ -60,7 +65,9 @@ pub record Complete (net : Network) : Type 0 where
 module _ (net : Network) (sound : Sound (graph net)) where
   undominated-iff : (v : List ℤ) → (nondominated (yard net) v ≡ true) ↔ Undominated net v
   undominated-iff v = (
-    λ e ts t. any-none (λ us. dominates (vector net us) v) (trees net) (not-true (any (λ us. dominates (vector net us) v) (trees net)) e) (trees-iff net sound ts .1 t),
+    λ e ts t.
+        let none = not-true (any (λ us. dominates (vector net us) v) (trees net)) e in
+        any-none (λ us. dominates (vector net us) v) (trees net) none (trees-iff net sound ts .1 t),
     λ h. rw (none-any (λ us. dominates (vector net us) v) (trees net) (λ us m. h us (trees-iff net sound us .0 m))),
   )
 
@@ -95,20 +102,62 @@ module _ (net : Network) (sound : Sound (graph net)) where
         count = omega (arith, solved-length (yard net), positions-length (values net));
       }
 
--- Demand 3 for one call: it succeeds, every byte of the buffer is the one that document 01 gives for the list and its solved count, and the list is
--- complete.
-pub record Listed (s : List ℕ) (allowance : ℕ) (buffer : List ℕ) : Type 0 where
-  pub succeeds : listStatus s allowance (length buffer) ≡ record { number = 0; place = 0 }
-  pub bytes : listAfter s allowance buffer ≡ filled (networkOf s) (length buffer)
+-- What a list call on survey s that replied r and left these bytes in a buffer of `size` bytes has delivered.
+pub record Delivered (s : List ℕ) (size : ℕ) (r : Status) (left : List ℕ) : Type 0 where
+  -- it succeeds
+  pub succeeds : r ≡ record { number = 0; place = 0 }
+  -- every byte is the one that document 01 gives for the list and its solved count, 0 past the last plan
+  pub bytes : left ≡ filled (networkOf s) size
+  -- the list is what the user relies on
   pub list : Complete (networkOf s)
 
--- for every accepted survey, every buffer long enough, whatever it held, and every allowance of at least M
-pub demand-3 : (s : List ℕ) (allowance : ℕ) (buffer : List ℕ) → checkedOf s ≡ Fine → bufferNeed (networkOf s) ≤ length buffer
-    → positionCount (networkOf s) ≤ allowance → Listed s allowance buffer
+-- DEMAND 3: for every accepted survey, every buffer long enough, whatever it held before, and every allowance that is at least M.
+pub record Promised (s : List ℕ) (allowance : ℕ) (buffer : List ℕ) (r : Status) (left : List ℕ) : Type 0 where
+  pub delivers : checkedOf s ≡ Fine → bufferNeed (networkOf s) ≤ length buffer → positionCount (networkOf s) ≤ allowance
+      → Delivered s (length buffer) r left
+
+-- a reply and bytes that are those of the list call's definitions keep the promise
+pub promised : (s : List ℕ) (allowance : ℕ) (buffer : List ℕ) {r : Status} {left : List ℕ} → r ≡ listStatus s allowance (length buffer)
+    → left ≡ listAfter s allowance buffer → Promised s allowance buffer r left
 unfolding listStatus listChecked roomChecked plansChecked plansAfter listAfter ifFine status refuseIf _orElse_
-demand-3 s allowance buffer fine room enough =
-    let list = complete (networkOf s) (survey-sound s fine) in
-    let few : solvedCount (networkOf s) ≤ allowance = omega (arith, list .count) in
-    let short = le-ltb (length buffer) (bufferNeed (networkOf s)) room in
-    let within = le-ltb allowance (solvedCount (networkOf s)) few in
-    record { succeeds = rw (fine, short, within); bytes = rw (fine, short, within); list = list }
+promised s allowance buffer e f =
+    record {
+      delivers = λ fine room enough.
+          let list = complete (networkOf s) (survey-sound s fine) in
+          let few : solvedCount (networkOf s) ≤ allowance = omega (arith, list .count) in
+          let short = le-ltb (length buffer) (bufferNeed (networkOf s)) room in
+          let within = le-ltb allowance (solvedCount (networkOf s)) few in
+          record { succeeds = e ∙ rw (fine, short, within); bytes = f ∙ rw (fine, short, within); list = list };
+    }
+
+-- ---- the archive
+
+-- Bytes that begin with the list of an accepted survey: a list that a list call made, with whatever follows it.
+pub record Archived (s list : List ℕ) : Type 0 where
+  pub accepted : checkedOf s ≡ Fine
+  pub rest : List ℕ
+  pub bytes : list ≡ listBytes (networkOf s) ++ rest
+
+-- what a call that fetched plan r from such bytes has replied: 0 for a plan of the list, and 13 past the last
+pub record NumberKept (list : List ℕ) (r number : ℕ) : Type 0 where
+  pub found : (s : List ℕ) → Archived s list → number ≡ cond (ltb r (length (plans (networkOf s)))) 0 13
+
+-- and the part that it gave: the links of plan r, and none past the last
+pub record LinksKept (list : List ℕ) (r : ℕ) (part : List ℕ) : Type 0 where
+  pub links : (s : List ℕ) → Archived s list → part ≡ getD (plans (networkOf s)) r []
+
+-- ---- the program
+
+-- with the most bytes that a list needs and all positions allowed, the list call declines only what a survey alone decides: never by 9 or 10
+pub program-checked : (s : List ℕ) → listChecked s maxPlans maxNeed ≡ checkedOf s
+unfolding listChecked plansChecked roomChecked refuseIf _orElse_
+program-checked s = go (checkedOf s) refl
+  where
+    go : (c : Checked) → checkedOf s ≡ c → c orElse plansChecked (networkOf s) maxPlans maxNeed ≡ c
+    go (Refused r) e = refl
+    go Fine e =
+        let fine = survey-fine s e in
+        let few = complete (networkOf s) (survey-sound s e) .count in
+        let room = le-ltb maxNeed (bufferNeed (networkOf s)) (need-limit (networkOf s) fine) in
+        let within = le-ltb maxPlans (solvedCount (networkOf s)) (omega (arith, position-limit (networkOf s) fine)) in
+        rw (room, within)

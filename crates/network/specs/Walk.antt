@@ -10,7 +10,7 @@ use Rattle.frontier.specs.Frontier as walk
 use Rattle.network.specs.Yard.{yard}
 use Rattle.network.specs.declared.Network.{Network}
 
--- for each present ceiling the different values over all links, in falling order
+-- for each present ceiling i its m_i different values over all links, in falling order: the value at place j is number j from the front
 abbrev pub values : Network → List (List ℤ)
 values net = yard net .values
 
@@ -22,8 +22,8 @@ positionCount net = walk.product (values net)
 abbrev pub positions : Network → List (List ℤ)
 positions net = walk.positions (values net)
 
--- The walk: each position that no earlier answer marked is solved. An answer marks, from its own position, every position through the found tree's
--- own costs, or, with none, every position at or beyond this one (`settles`).
+-- The walk: each position that no earlier answer marked is solved. An answer marks every position that is, in each ceiling, from this place through
+-- the place of the found tree's own cost, or, with none, every position at or beyond this one in each ceiling (`settles`).
 abbrev pub solved : Network → List (walk.Entry ℤ (List ℕ))
 solved net = walk.solved (yard net)
 

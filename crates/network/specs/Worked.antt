@@ -21,7 +21,9 @@ use Rattle.network.specs.Survey.{costsIn, endsIn, layoutOf, linkMark, ne
 use Rattle.network.specs.PlanList.{bufferNeed, headMark, join, planMark}
 use Rattle.network.specs.Checked.{firstRefusal, refuseIf, _orElse_}
 use Rattle.network.specs.Refusals.{badLength, checkedWith, linkChecked, yardChecked}
-use Rattle.network.specs.Calls.{Reply, asked, askedChecked, bestTree, drawnChecked, ifFine, judged, listAfter, listChecked, listStatus, plansAfter, plansChecked, reply, roomChecked, status, treeAfter, treeWith}
+use Rattle.network.specs.Calls.{Reply, ifFine, reply, status}
+use Rattle.network.specs.Calls.{asked, askedChecked, bestTree, drawnChecked, judged, treeAfter, treeWith}
+use Rattle.network.specs.Calls.{listAfter, listChecked, listStatus, plansAfter, plansChecked, roomChecked}
 use Rattle.network.specs.Printing.{printed}
 use Rattle.network.specs.declared.Status.{Status}
 
@@ -31,8 +33,8 @@ use Rattle.network.specs.declared.Status.{Status}
 pub data Row : Type 0 where
   -- the list call with enough allowance, into a buffer of the bytes it needs that held other bytes: the plans' links, the solved count, the list
   lists : (survey : List ℕ) (links : List (List ℕ)) (count need : ℕ) (list : List ℕ) → Row
-  -- the list call with this allowance: its reply
-  allows : (survey : List ℕ) (allowance size : ℕ) → Status → Row
+  -- the list call with this allowance into a buffer that held other bytes: its reply, and the buffer after it
+  allows : (survey : List ℕ) (allowance size : ℕ) → Status → List ℕ → Row
   -- the ceilings question into a tree buffer: the reply, and the buffer after it
   asks : (survey : List ℕ) (b1 b2 : ℤ) (buffer : List ℕ) → Reply → List ℕ → Row
   -- a drawn tree, and the reply
@@ -54,7 +56,7 @@ pub record Lists (s : List ℕ) (links : List (List ℕ)) (count need : ℕ) (li
 -- the answer of a row is the one that the definitions give
 abbrev pub Right : Row → Type 0
 Right (lists s links count need list) = Lists s links count need list
-Right (allows s allowance size r) = listStatus s allowance size ≡ r
+Right (allows s allowance size r after) = (listStatus s allowance size ≡ r) × (listAfter s allowance (replicate size 0xFF) ≡ after)
 Right (asks s b1 b2 buffer r after) = (asked s b1 b2 (length buffer) ≡ r) × (treeAfter s b1 b2 buffer ≡ after)
 Right (draws s drawn r) = judged s drawn ≡ r
 Right (ranks k vs v) = kmax orderℤ k vs (pos 0) ≡ v
@@ -109,10 +111,14 @@ outputA =
     ∷ 0x34 ∷ 0x20 ∷ 0x39 ∷ 0x20 ∷ 0x6C ∷ 0x69 ∷ 0x6E ∷ 0x6B ∷ 0x73 ∷ 0x20 ∷ 0x31 ∷ 0x20 ∷ 0x32 ∷ 0x0A
     ∷ 0x37 ∷ 0x20 ∷ 0x37 ∷ 0x20 ∷ 0x6C ∷ 0x69 ∷ 0x6E ∷ 0x6B ∷ 0x73 ∷ 0x20 ∷ 0x30 ∷ 0x20 ∷ 0x31 ∷ 0x0A ∷ []
 
--- P1 (the list of 34 bytes in the 46 that the buffer needs, and the whole output) to P12 (two rows)
+-- the list of A, 34 bytes
+abbrev listA : List ℕ
+listA = list 2 3 2 1 (two (plan 4 9 0 (two 1 2)) (plan 7 7 0 (two 0 1)))
+
+-- P1 to P12, in their order; P1 is two rows (the list in the 46 bytes that the buffer needs, and the whole output), and P12 is two
 pub table : List Row
 table =
-    lists (A 1) (two (two 1 2) (two 0 1)) 3 46 (list 2 3 2 1 (two (plan 4 9 0 (two 1 2)) (plan 7 7 0 (two 0 1))))
+    lists (A 1) (two (two 1 2) (two 0 1)) 3 46 listA
     ∷ prints (A 1) outputA
     ∷ lists (A 2) (one (two 1 2)) 1 46 (list 1 1 2 1 (one (plan 4 2 0 (two 1 2))))
     ∷ lists A₂ (two 1 2 ∷ two 0 2 ∷ two 0 1 ∷ []) 6 118 (list 3 6 2 2 (plan 4 9 6 (two 1 2) ∷ plan 5 9 3 (two 0 2) ∷ plan 7 7 6 (two 0 1) ∷ []))
@@ -124,8 +130,8 @@ table =
     ∷ asks (A 1) (pos 6) (pos 0) (two 0xFF 0xFF) (refused 14 0) (two 0xFF 0xFF)
     ∷ draws (A 1) (two 0 2) (costs 5 (pos 9) (pos 0))
     ∷ ranks 2 (pos 5 ∷ negsuc 2 ∷ pos 5 ∷ []) (pos 5)
-    ∷ allows (A 1) 3 46 (record { number = 0; place = 0 })
-    ∷ allows (A 1) 2 46 (record { number = 10; place = 0 })
+    ∷ allows (A 1) 3 46 (record { number = 0; place = 0 }) (listA ++ replicate 12 0)
+    ∷ allows (A 1) 2 46 (record { number = 10; place = 0 }) (replicate 46 0)
     ∷ []
 
 -- ---- the theorem
@@ -142,7 +148,10 @@ every P (h ▸ r) x m = ⊎-elim (λ q. subst⁻¹ P q h) (λ n. every P r x n) 
 
 -- every row of the table is right
 pub table-right : (r : Row) → r ∈ table → Right r
-unfolding table endsIn sumsIn costsIn spanningTrees choose chooseFrom tree.isTree tree.isTreeFrom tree.isForest tree.isOneComponent crosses merge numbersFrom isListed signed bitsOf column layoutOf networkWith badLength checkedWith linkChecked yardChecked firstRefusal refuseIf _orElse_ reply status ifFine judged drawnChecked asked askedChecked bestTree treeAfter treeWith roomChecked plansChecked plansAfter listChecked listStatus listAfter printed
+unfolding table endsIn sumsIn costsIn column layoutOf networkWith signed bitsOf
+    spanningTrees choose chooseFrom tree.isTree tree.isTreeFrom tree.isForest tree.isOneComponent crosses merge numbersFrom isListed
+    badLength checkedWith linkChecked yardChecked firstRefusal refuseIf _orElse_ reply status ifFine
+    judged drawnChecked asked askedChecked bestTree treeAfter treeWith roomChecked plansChecked plansAfter listChecked listStatus listAfter printed
 table-right = every Right (
     record { promised = refl; by-walk = refl; counted = refl; needed = refl; succeeds = refl; bytes = refl }
     ▸ refl
@@ -152,5 +161,5 @@ table-right = every Right (
     ▸ record { promised = refl; by-walk = refl; counted = refl; needed = refl; succeeds = refl; bytes = refl }
     ▸ record { promised = refl; by-walk = refl; counted = refl; needed = refl; succeeds = refl; bytes = refl }
     ▸ record { promised = refl; by-walk = refl; counted = refl; needed = refl; succeeds = refl; bytes = refl }
-    ▸ (refl, refl) ▸ (refl, refl) ▸ refl ▸ refl ▸ refl ▸ refl ▸ done
+    ▸ (refl, refl) ▸ (refl, refl) ▸ refl ▸ refl ▸ (refl, refl) ▸ (refl, refl) ▸ done
     )

@@ -1,5 +1,5 @@
--- Document 01, "The yard and its plans": stations, links, trees and their costs. `Tree` and `Dominates` say what a tree and dominance are;
--- the tests beside them compute (Meaning.antt: they agree).
+-- Document 01, "The yard and its plans": stations, links, trees, cost vectors, the best tree under ceilings. `Tree` says what a tree is, and the
+-- test beside it computes; Meaning.antt says that they agree, and what dominance and the best tree are.
 use mathlib.Core.Bool.{Bool}
 use mathlib.Core.List.{List, [], _∷_, map}
 use mathlib.Core.Option.{Option}

@@ -23,7 +23,7 @@ pub struct Costs {
     pub y2: i16,
 }
 
-// The number of a refusal, and its place: 0 for the yard record, the link number plus 1 for a link.
+// The number of a refusal, and its place: the link number plus 1 for a link, and 0 for all else.
 pub struct Refusal {
     pub number: u8,
     pub place: u8,

@@ -7,12 +7,13 @@ use native.Mathlib.Nat.{add-zero, suc-mul, mul-le-mul-right}
 use native.Mathlib.Omega.{arith}
 use borrow.Author.Tests.{ltb-false, ltb-true, lt-ltb, le-ltb, ne-eqb}
 use lib.Dec.{eqb, ltb}
-use lib.ListN.{drop, getD, length, length-append, length-map, replicate, take}
+use lib.ListN.{drop, getD, length, length-append, length-map, take, List·getD-eq-default}
 use lib.Seq.{drop-drop, getD-drop, take-at}
+use Rattle.order.specs.Test.{by-test}
 use Rattle.order.specs.Lists.{_∈_, getD-map, getD-mem, map-mem}
 use Rattle.network.specs.Limits.{maxCeilings, maxPlans, maxTree}
 use Rattle.network.specs.Bytes.{byteAt, markAt}
-use Rattle.network.specs.PlanList.{costsOf, filled, headBytes, headMark, headSize, join, listBytes, planMark, planSize, planSlots}
+use Rattle.network.specs.PlanList.{costsOf, headBytes, headMark, headSize, join, listBytes, planMark, planSize, planSlots}
 use Rattle.network.specs.Yard.{treeSize}
 use Rattle.network.specs.Walk.{plans, solvedCount}
 use Rattle.network.specs.Accepted.{or-false}
@@ -147,7 +148,7 @@ module _ {S : Type 0} (costs : S → Costs) (links : S → List ℕ) (solved t p
         ∙ join-at (planSize planSlots t) (map (encode costs links) plans) rest sized r (rw length-map below)
         ∙ ap (λ (b : List ℕ). b ++ later) (getD-map (encode costs links) plans r d [] below)
 
-    pub fetched : fetchNumber (listed costs links solved t p plans rest) r ≡ 0
+    fetched : fetchNumber (listed costs links solved t p plans rest) r ≡ 0
     unfolding bytes
     fetched =
         let at = headSize + r * planSize planSlots t in
@@ -156,7 +157,7 @@ module _ {S : Type 0} (costs : S → Costs) (links : S → List ℕ) (solved t p
         let second : byteAt bytes (at + 1) ≡ 0x4C = sym (getD-drop at bytes 1 0) ∙ ap (λ (l : List ℕ). byteAt l 1) record-at in
         number-marked bytes r undamaged (omega arith) {b = true} (λ i. eqb (first i) 0x50 && eqb (second i) 0x4C)
 
-    pub fetched-links : fetchLinks (listed costs links solved t p plans rest) r ≡ links (getD plans r d)
+    fetched-links : fetchLinks (listed costs links solved t p plans rest) r ≡ links (getD plans r d)
     unfolding bytes
     fetched-links =
         let at = headSize + r * planSize planSlots t in
@@ -164,26 +165,46 @@ module _ {S : Type 0} (costs : S → Costs) (links : S → List ℕ) (solved t p
         ∙ ap (take t) (sym (drop-drop 10 at bytes) ∙ ap (drop 10) record-at)
         ∙ take-at (links (getD plans r d)) later t (full (getD plans r d) (getD-mem plans r d below))
 
--- ---- the list of a yard
+  -- past the last plan
+  past : (r : ℕ) → length plans ≤ r → fetchNumber (listed costs links solved t p plans rest) r ≡ 13
+  unfolding bytes
+  past r h = let c = count in number-none bytes r undamaged (omega arith)
 
--- every plan of the list that a list call leaves is found, with its own links
-module _ (net : Network) (size : ℕ) (full : (ts : List ℕ) → ts ∈ plans net → length ts ≡ treeSize net) (few : length (plans net) ≤ maxPlans)
-    (short : treeSize net ≤ maxTree) (flat : net .p ≤ maxCeilings) (r : ℕ) (below : r < length (plans net)) where
-  -- what stands after the list
-  zeros : List ℕ
-  zeros = replicate (size - length (listBytes net)) 0
+-- ---- the list of a yard, with whatever follows it
 
-  in-parts : filled net size ≡ listed (costsOf net) (λ ts. ts) (solvedCount net) (treeSize net) (net .p) (plans net) zeros
-  unfolding zeros
+module _ (net : Network) (rest : List ℕ) (full : (ts : List ℕ) → ts ∈ plans net → length ts ≡ treeSize net) (few : length (plans net) ≤ maxPlans)
+    (short : treeSize net ≤ maxTree) (flat : net .p ≤ maxCeilings) (r : ℕ) where
+  abbrev parts : List ℕ
+  parts = listed (costsOf net) (λ ts. ts) (solvedCount net) (treeSize net) (net .p) (plans net) rest
+
+  in-parts : listBytes net ++ rest ≡ parts
   in-parts =
-      append-assoc (headBytes (length (plans net)) (solvedCount net) (treeSize net) (net .p)) (join (map (encode (costsOf net) (λ ts. ts)) (plans net))) zeros
+      append-assoc (headBytes (length (plans net)) (solvedCount net) (treeSize net) (net .p)) (join (map (encode (costsOf net) (λ ts. ts)) (plans net))) rest
 
-  pub filled-number : fetchNumber (filled net size) r ≡ 0
-  filled-number =
+  within : r < length (plans net) → (fetchNumber parts r ≡ 0) × (fetchLinks parts r ≡ getD (plans net) r [])
+  within h = (
+    fetched (costsOf net) (λ ts. ts) (solvedCount net) (treeSize net) (net .p) (plans net) rest full few short flat r h [],
+    fetched-links (costsOf net) (λ ts. ts) (solvedCount net) (treeSize net) (net .p) (plans net) rest full few short flat r h [],
+  )
+
+  beyond : length (plans net) ≤ r → fetchNumber parts r ≡ 13
+  beyond h = past (costsOf net) (λ ts. ts) (solvedCount net) (treeSize net) (net .p) (plans net) rest full few short flat r h
+
+  -- every plan of it is found, and none past the last
+  pub listed-number : fetchNumber (listBytes net ++ rest) r ≡ cond (ltb r (length (plans net))) 0 13
+  listed-number =
       ap (λ (l : List ℕ). fetchNumber l r) in-parts
-      ∙ fetched (costsOf net) (λ ts. ts) (solvedCount net) (treeSize net) (net .p) (plans net) zeros full few short flat r below []
+      ∙ by-test (ltb r (length (plans net)))
+      (λ e. rw e (within (ltb-true r (length (plans net)) e) .0))
+      (λ e. rw e (beyond (ltb-false r (length (plans net)) e)))
 
-  pub filled-links : fetchLinks (filled net size) r ≡ getD (plans net) r []
-  filled-links =
+  -- with its own links
+  pub listed-links : fetchLinks (listBytes net ++ rest) r ≡ getD (plans net) r []
+  listed-links =
       ap (λ (l : List ℕ). fetchLinks l r) in-parts
-      ∙ fetched-links (costsOf net) (λ ts. ts) (solvedCount net) (treeSize net) (net .p) (plans net) zeros full few short flat r below []
+      ∙ by-test (ltb r (length (plans net)))
+      (λ e. within (ltb-true r (length (plans net)) e) .1)
+      (λ e.
+      let h = ltb-false r (length (plans net)) e in
+      let n = beyond h in
+      links-none parts r (λ z. absurd (omega arith)) ∙ sym (List·getD-eq-default (plans net) [] h))

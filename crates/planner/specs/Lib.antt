@@ -2,5 +2,5 @@
 pub mod Judge
 pub mod Best
 pub mod Listing
--- demand 3 over the contracts
-pub mod Promise
+-- what the archive relies on
+pub mod Archive

@@ -14,10 +14,11 @@ ghost use mathlib.Core.Path.{_≡_};
 ghost use lib.ListN.{length};
 ghost use Rattle.network.specs.Calls.{asked, judged, listAfter, listStatus, says, treeAfter};
 ghost use Rattle.network.specs.Fetching.{fetchLinks, fetchNumber};
+ghost use Rattle.network.specs.Promise.{LinksKept, NumberKept, Promised};
 
 // The judge of a drawn tree: its costs, or the refusal. `drawn` holds its link numbers, one byte each.
 pub fn judge(survey: &[u8], drawn: &[u8]) -> Answer
-    ensures { λ r. ⌜ says r ≡ judged (now (survey .entry)) (now (drawn .entry)) ⌝ }
+    ensures reply { λ r. ⌜ says r ≡ judged (now (survey .entry)) (now (drawn .entry)) ⌝ }
 {
     let read = read_survey(survey);
     let checked = read.checked;
@@ -39,7 +40,8 @@ pub fn judge(survey: &[u8], drawn: &[u8]) -> Answer
 
 // The best tree under the numbers b1 and b2: its costs, with its links in the first t bytes of the tree buffer, or the refusal.
 pub fn best(survey: &[u8], b1: i16, b2: i16, tree: &mut [u8]) -> Answer
-    ensures { λ r. ⌜ (says r ≡ asked (now (survey .entry)) b1 b2 (length (now (tree .entry)))) × (now (tree .exit) ≡ treeAfter (now (survey .entry)) b1 b2 (now (tree .entry))) ⌝ }
+    ensures reply { λ r. ⌜ says r ≡ asked (now (survey .entry)) b1 b2 (length (now (tree .entry))) ⌝ }
+    ensures leaves { λ _. ⌜ now (tree .exit) ≡ treeAfter (now (survey .entry)) b1 b2 (now (tree .entry)) ⌝ }
 {
     let read = read_survey(survey);
     let checked = read.checked;
@@ -62,7 +64,9 @@ pub fn best(survey: &[u8], b1: i16, b2: i16, tree: &mut [u8]) -> Answer
 
 // The list of plans that no other plan beats, into the list buffer, solving at most `allowance` positions: number 0 and place 0, or the refusal.
 pub fn list(survey: &[u8], allowance: u32, buffer: &mut [u8]) -> Status
-    ensures { λ r. ⌜ (r ≡ listStatus (now (survey .entry)) allowance (length (now (buffer .entry)))) × (now (buffer .exit) ≡ listAfter (now (survey .entry)) allowance (now (buffer .entry))) ⌝ }
+    ensures reply { λ r. ⌜ r ≡ listStatus (now (survey .entry)) allowance (length (now (buffer .entry))) ⌝ }
+    ensures leaves { λ _. ⌜ now (buffer .exit) ≡ listAfter (now (survey .entry)) allowance (now (buffer .entry)) ⌝ }
+    ensures promised { λ r. ⌜ Promised (now (survey .entry)) allowance (now (buffer .entry)) r (now (buffer .exit)) ⌝ }
 {
     let read = read_survey(survey);
     let checked = read.checked;
@@ -78,14 +82,16 @@ pub fn list(survey: &[u8], allowance: u32, buffer: &mut [u8]) -> Status
 
 // The number of fetching plan r from a list: 0 if it is found.
 pub fn fetch_number(list: &[u8], r: u32) -> u8
-    ensures { λ n. ⌜ n ≡ fetchNumber (now (list .entry)) r ⌝ }
+    ensures reply { λ n. ⌜ n ≡ fetchNumber (now (list .entry)) r ⌝ }
+    ensures kept { λ n. ⌜ NumberKept (now (list .entry)) r n ⌝ }
 {
     fetch::fetch_number(list, r)
 }
 
 // The link bytes of plan r, a part of the list; an empty part if the number is not 0.
 pub fn fetch_links<'a>(list: &'a [u8], r: u32) -> &'a [u8]
-    ensures { λ part. ⌜ now part ≡ fetchLinks (now (list .entry)) r ⌝ }
+    ensures reply { λ part. ⌜ now part ≡ fetchLinks (now (list .entry)) r ⌝ }
+    ensures kept { λ part. ⌜ LinksKept (now (list .entry)) r (now part) ⌝ }
 {
     fetch::fetch_links(list, r)
 }

@@ -18,7 +18,7 @@ use Rattle.network.specs.Bytes.{byteAt, u32At, i16At}
 use Rattle.network.specs.PlanList.{planBytes, planSize, planSlots}
 use Rattle.network.specs.Calls.{costValues}
 use Rattle.network.specs.declared.Costs.{Costs}
-use Rattle.encoding.specs.RoundTrip.{i16-bytes, u32-bytes}
+use Rattle.encoding_numbers.specs.RoundTrip.{i16-bytes, u32-bytes}
 
 -- the costs that the plan record at an index holds
 unfoldable pub costsAt : List ℕ → ℕ → Costs

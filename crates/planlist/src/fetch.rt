@@ -2,8 +2,8 @@
 use crate::record::HEAD_MARK;
 use crate::record::PLAN_MARK;
 use crate::record::plan_size;
-use encoding::read::mark_at;
-use encoding::read::read_u16;
+use encoding_numbers::read::mark_at;
+use encoding_numbers::read::read_u16;
 ghost use mathlib.Core.Path.{_≡_};
 ghost use mathlib.Core.Bool.{false};
 ghost use Prim.Native.Nat.{_+_, _≤_, _<_};

@@ -2,7 +2,7 @@
 use crate::insertion::insert;
 use crate::record::plan_size;
 use crate::record::write_head;
-use encoding::copy::clear_from;
+use encoding_copies::clear_from;
 use network::Costs;
 ghost use mathlib.Core.Path.{_≡_};
 ghost use Prim.Native.Nat.{_+_, _*_, _≤_};

@@ -1,18 +1,18 @@
 // The records of a plan list, and the orders of the costs in them.
-use encoding::compare::le16;
-use encoding::copy::copy_in;
-use encoding::read::read_i16;
-use encoding::read::read_u32;
-use encoding::write::write_i16;
-use encoding::write::write_u8;
-use encoding::write::write_u16;
-use encoding::write::write_u32;
+use encoding_copies::copy_in;
+use encoding_numbers::compare::le16;
+use encoding_numbers::read::read_i16;
+use encoding_numbers::read::read_u32;
+use encoding_writes::write_i16;
+use encoding_writes::write_u8;
+use encoding_writes::write_u16;
+use encoding_writes::write_u32;
 use network::Costs;
 ghost use mathlib.Core.Path.{_≡_};
 ghost use Prim.Native.Nat.{_+_, _≤_, _<_};
 ghost use lib.ListN.{length};
 ghost use Rattle.network.specs.PlanList.{headBytes, headSize, planBytes, planSize, planSlots};
-ghost use Rattle.encoding.specs.Overwrite.{overwrite};
+ghost use Rattle.overwriting.specs.Overwrite.{overwrite};
 ghost use Rattle.planlist.specs.Records.{atMost, costsAt, inOrder};
 
 // The marks of a list head and of a plan record.

@@ -6,7 +6,7 @@ use native.Mathlib.Omega.{arith}
 use lib.ListN.{length}
 use denote.Ref.{now}
 use Rattle.network.specs.PlanList.{planBytes, planSize, planSlots}
-use Rattle.encoding.specs.Overwrite.{overwrite}
+use Rattle.overwriting.specs.Overwrite.{overwrite}
 use Rattle.planlist.specs.Blocks.{blocks, room-for, blocks-inserted}
 use Rattle.planlist.specs.Records.{length-plan}
 use borrow.Author.Needs.{needs}

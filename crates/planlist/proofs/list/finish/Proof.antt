@@ -7,7 +7,7 @@ use lib.ListN.{length, take, drop, replicate}
 use lib.Seq.{take-append-add}
 use denote.Ref.{now}
 use Rattle.network.specs.PlanList.{headBytes, planSize, planSlots}
-use Rattle.encoding.specs.Overwrite.{overwrite}
+use Rattle.overwriting.specs.Overwrite.{overwrite}
 use Rattle.planlist.specs.Finished.{finished-bytes}
 use borrow.Author.Needs.{needs}
 use Rattle.planlist.proofs.list.finish.Statement.{statement}

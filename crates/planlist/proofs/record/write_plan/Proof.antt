@@ -10,7 +10,7 @@ use mir.ValLaws.{toZ-ofZ}
 use denote.Ref.{now}
 use Rattle.network.specs.Bytes.{bitsOf, littleEndian}
 use Rattle.network.specs.PlanList.{planMark}
-use Rattle.encoding.specs.Overwrite.{overwrite, overwrite-chain}
+use Rattle.overwriting.specs.Overwrite.{overwrite, overwrite-chain}
 use borrow.Author.Needs.{needs}
 use Rattle.planlist.proofs.record.write_plan.Statement.{statement}
 use Rattle.planlist.proofs.record.write_plan.Tie as tie

@@ -20,7 +20,7 @@ static void print_links(const uint8_t *links, size_t count)
 
 static void print_reply(const char *what, ranqustei_reply reply)
 {
-    if (reply.number == 0)
+    if (reply.number == RANQUSTEI_OK)
         printf("%s: sum %u, ceiling cost %d\n", what, (unsigned)reply.sum, reply.y1);
     else
         printf("%s: refused %d at %d\n", what, reply.number, reply.place);
@@ -29,10 +29,10 @@ static void print_reply(const char *what, ranqustei_reply reply)
 static void list_and_fetch(void)
 {
     static uint8_t list[RANQUSTEI_LIST_BYTES];
-    ranqustei_refusal refusal = ranqustei_list(survey, sizeof survey, RANQUSTEI_POSITIONS, list, sizeof list);
-    printf("list: number %d, place %d\n", refusal.number, refusal.place);
+    ranqustei_status status = ranqustei_list(survey, sizeof survey, RANQUSTEI_POSITIONS, list, sizeof list);
+    printf("list: number %d, place %d\n", status.number, status.place);
     ranqustei_part part = ranqustei_fetch(list, sizeof list, 0);
-    for (uint32_t r = 0; part.number == 0; part = ranqustei_fetch(list, sizeof list, ++r)) {
+    for (uint32_t r = 0; part.number == RANQUSTEI_OK; part = ranqustei_fetch(list, sizeof list, ++r)) {
         printf("plan %u, links", (unsigned)r);
         print_links(list + part.start, part.count);
     }
@@ -44,6 +44,10 @@ int main(void)
     static const uint8_t drawn[] = {0, 2}, ring[] = {0, 1, 2};
     uint8_t tree[RANQUSTEI_TREE_BYTES];
 
+    if (ranqustei_version() != RANQUSTEI_VERSION) {
+        printf("the archive has version %u, the header %d\n", (unsigned)ranqustei_version(), RANQUSTEI_VERSION);
+        return 1;
+    }
     list_and_fetch();
     print_reply("best under 8", ranqustei_best(survey, sizeof survey, 8, 0, tree, sizeof tree));
     printf("its links");

@@ -1,31 +1,60 @@
 /*
  * Ranqustei: relay plans for a hive yard.
  *
- * Link with target/staticlib/libcapi.a (`rt staticlib capi`), built for x86-64 Linux.
+ * To build with it. `rt staticlib capi` makes the archive target/staticlib/libcapi.a. It is for x86-64 Linux and for no other machine, and needs
+ * memcpy and memset of the C library and nothing else. From the root of the repository:
+ *
+ *     cc -std=c99 -Ic program.c target/staticlib/libcapi.a -o program
  *
  * What every call keeps to. A call takes its bytes as a pointer and a length. Whatever the bytes and numbers are, the call ends, stays inside the
  * bytes that it was lent, allocates nothing, keeps nothing for a later call, and gives the reply that is written below; the caller need check
- * nothing first. The caller owes what C cannot check: each pointer is not null, even with a length of 0, and points to that many bytes, and bytes
- * that a call writes are not also lent to it as another argument. Calls from several threads at once do not disturb each other.
+ * nothing first. The caller owes what C cannot check: each pointer points to as many bytes as its length says, and bytes that a call writes are not
+ * also lent to it as another argument. A pointer with a length of 0 may be null: nothing is read or written through it. Calls from several threads
+ * at once do not disturb each other.
  *
- * Numbers. Every call replies with a number: 0 if it succeeded, else why it declined, as the first of these that holds, in this order for the
- * survey: 1, 2 for the yard record, 3, 4, 5, 6, then link by link from link 0, in each 2, 7, 8. The place is 0 for the yard record and for all that
- * is not one record's, and the link number plus 1 for a link.
+ * Letters. n is the number of stations, m the number of links, p the number of ceilings, and t = n - 1 the number of links of a tree. M is the
+ * number of positions: for each ceiling count the different costs that the links have for it, and multiply; without ceilings M is 1.
  *
- *    1  the survey has under 6 bytes, or the rest is no multiple of 12
- *    2  a wrong mark in the yard record or in a link record (place)
- *    3  the station count is not 1 to 24
- *    4  there are over 40 links
- *    5  there are over 2 ceilings
- *    6  a k is against its rule: 1 to 3 where its ceiling is present, never above the tree's links, at most one of two above 1, 0 where absent
- *    7  a link's end is not below the station count, or both its ends are equal (place)
- *    8  a link's sum is over 1,000,000, or its cost of an absent ceiling is not 0 (place)
- *    9  the list buffer or the tree buffer is too short
- *   10  more positions would have to be solved than the allowance says
- *   11  the drawn links are no tree: not as many as a tree has, not strictly rising, one not in the survey, or a ring
- *   12  the plan list is damaged
- *   13  the plan asked for is not below the plan count
- *   14  no tree fits the ceilings
+ * Bytes. A number of several bytes has its low byte first. Ceiling costs are two's complement; all other numbers have no sign. Marks are
+ * hexadecimal, everything else is decimal.
+ *
+ * A survey is a yard record and then m link records, 6 + 12 * m bytes in all. Link i, counted from 0, begins at byte 6 + 12 * i.
+ *
+ *     yard record, 6 bytes
+ *     offset  size  field                      range
+ *     0       2     mark                       59 44
+ *     2       1     n, the stations            1 to 24
+ *     3       1     p, the ceilings            0 to 2
+ *     4       1     k1, the rank of ceiling 1  1 to 3 and at most t; 0 if p = 0
+ *     5       1     k2, the rank of ceiling 2  1 to 3 and at most t, and 1 if k1 is above 1; 0 if p is below 2
+ *
+ *     link record, 12 bytes
+ *     offset  size  field                      range
+ *     0       2     mark                       4C 4B
+ *     2       1     one end, a station         0 to n - 1
+ *     3       1     the other end              0 to n - 1, not the first
+ *     4       4     sum cost                   0 to 1,000,000
+ *     8       2     cost of ceiling 1          -32,768 to 32,767; 0 if p = 0
+ *     10      2     cost of ceiling 2          -32,768 to 32,767; 0 if p is below 2
+ *
+ * A plan list is a list head and then the plan records, 10 + count * (10 + t) bytes in all. Plan r, counted from 0, begins at byte
+ * 10 + r * (10 + t). Plans rise by sum, then by ceiling cost 1, then by ceiling cost 2.
+ *
+ *     list head, 10 bytes
+ *     offset  size  field                      range
+ *     0       2     mark                       50 48
+ *     2       2     count, the plans           0 to M
+ *     4       4     positions solved           0 to M
+ *     8       1     t, the links of a tree     0 to 23
+ *     9       1     p, the ceilings            0 to 2
+ *
+ *     plan record, 10 + t bytes
+ *     offset  size  field                      range
+ *     0       2     mark                       50 4C
+ *     2       4     sum                        0 to 23,000,000
+ *     6       2     ceiling cost 1             -32,768 to 32,767; 0 if p = 0
+ *     8       2     ceiling cost 2             -32,768 to 32,767; 0 if p is below 2
+ *     10      t     link numbers, a byte each  0 to m - 1, each larger than the one before
  */
 #ifndef RANQUSTEI_H
 #define RANQUSTEI_H
@@ -45,14 +74,60 @@ enum {
     RANQUSTEI_POSITIONS = 1600
 };
 
-/* The reply of the list call: number 0 and place 0, or the refusal. */
+/*
+ * The number in every reply: RANQUSTEI_OK, or why the call declined. A call gives the first number of its row whose cause holds:
+ *
+ *     judge   1, 2 for the yard record, 3, 4, 5, 6; then 2, 7, 8 for link 0, then for link 1, and so on; then 11
+ *     best    as judge up to the last link; then 9, 14
+ *     list    as judge up to the last link; then 9, 10
+ *     fetch   12 for head or length; then 13; then 12 for the mark of plan r
+ *
+ * The place is the link's number plus 1 where a link record is at fault (2, 7, 8), and 0 everywhere else.
+ */
+enum {
+    /* The call succeeded. */
+    RANQUSTEI_OK = 0,
+    /* The survey has fewer than 6 bytes, or its length less 6 is no multiple of 12. */
+    RANQUSTEI_BAD_LENGTH = 1,
+    /* The yard record or a link record (place) does not begin with its mark. */
+    RANQUSTEI_BAD_MARK = 2,
+    /* There are no stations, or more than 24. */
+    RANQUSTEI_BAD_STATIONS = 3,
+    /* There are more than 40 links. */
+    RANQUSTEI_TOO_MANY_LINKS = 4,
+    /* There are more than 2 ceilings. */
+    RANQUSTEI_TOO_MANY_CEILINGS = 5,
+    /* A rank is not 1 to 3 or is above t, both ranks are above 1, or the rank of an absent ceiling is not 0. */
+    RANQUSTEI_BAD_RANK = 6,
+    /* An end of a link (place) is no station, or both its ends are the same. */
+    RANQUSTEI_BAD_ENDS = 7,
+    /* The sum cost of a link (place) is above 1,000,000, or its cost of an absent ceiling is not 0. */
+    RANQUSTEI_BAD_COSTS = 8,
+    /* The tree buffer has fewer than t bytes, or the list buffer fewer than 10 + M * (10 + t). */
+    RANQUSTEI_SHORT_BUFFER = 9,
+    /* More positions would have to be solved than the allowance says. */
+    RANQUSTEI_PAST_ALLOWANCE = 10,
+    /* The drawn links are not t, do not rise, are not all in the survey, or have a ring. */
+    RANQUSTEI_NOT_A_TREE = 11,
+    /* The plan list is damaged. */
+    RANQUSTEI_DAMAGED_LIST = 12,
+    /* The plan list has no plan r. */
+    RANQUSTEI_NO_SUCH_PLAN = 13,
+    /* No tree fits the ceilings. */
+    RANQUSTEI_NO_TREE_FITS = 14
+};
+
+/* The version of what this header declares: it changes whenever a struct, a call or the meaning of a reply changes. */
+enum { RANQUSTEI_VERSION = 1 };
+
+/* The reply of the list call: RANQUSTEI_OK and place 0, or the refusal and its place. */
 typedef struct {
     uint8_t number;
     uint8_t place;
-} ranqustei_refusal;
+} ranqustei_status;
 
 /*
- * The reply of the judge and of the ceilings question. With number 0 and place 0, the costs of a plan: its sum, and its ceiling costs, 0 where a
+ * The reply of the judge and of the ceilings question. With RANQUSTEI_OK and place 0, the costs of a plan: its sum, and its ceiling costs, 0 where a
  * ceiling is absent. With another number, the refusal and its place; the costs are then 0.
  */
 typedef struct {
@@ -63,40 +138,41 @@ typedef struct {
     int16_t y2;
 } ranqustei_reply;
 
-/* The reply of fetching. With number 0, the plan's links are `count` bytes of the list, from byte `start` on; with another number both are 0. */
+/* The reply of fetching. With RANQUSTEI_OK, the plan's links are `count` bytes of the list, from byte `start` on; with another number both are 0. */
 typedef struct {
     uint8_t number;
     size_t start;
     size_t count;
 } ranqustei_part;
 
+/* The version of the archive. Where it is not RANQUSTEI_VERSION, archive and header are of different times: make no other call. */
+uint32_t ranqustei_version(void);
+
 /*
- * The costs of a drawn tree. `drawn` holds its link numbers, rising, one byte each. Numbers 1 to 8, then 11. Nothing is written.
+ * The costs of a drawn tree. `drawn` holds its link numbers, rising, a byte each. Nothing is written.
  */
 ranqustei_reply ranqustei_judge(const uint8_t *survey, size_t survey_length, const uint8_t *drawn, size_t drawn_length);
 
 /*
  * The best tree under the numbers b1 and b2: each of its present ceiling costs is at most that ceiling's number, its sum is the least, and of
- * several such trees it is the first by link numbers. The number of an absent ceiling is ignored. Numbers 1 to 8, then 9 if `tree` is shorter than
- * a tree, which has one link fewer than there are stations, then 14.
- * On success the link numbers of the tree stand, rising, at the front of `tree`, and the bytes after them are as they were. On a refusal all of
- * `tree` is as it was.
+ * several such trees it is the first by link numbers. The number of an absent ceiling is ignored. RANQUSTEI_TREE_BYTES are always enough for `tree`.
+ * On success the link numbers of the tree stand, rising, in the first t bytes of `tree`, and the bytes after them are as they were. On a refusal all
+ * of `tree` is as it was.
  */
 ranqustei_reply ranqustei_best(const uint8_t *survey, size_t survey_length, int16_t b1, int16_t b2, uint8_t *tree, size_t tree_length);
 
 /*
- * Every plan that no other plan beats, as a plan list: by rising sum, then ceiling costs, each with the first tree that has these costs. At most
- * `allowance` positions are solved; as many as the product of the numbers of different values of each ceiling cost always suffice, and so do
- * RANQUSTEI_POSITIONS. Numbers 1 to 8, then 9 if `buffer` is shorter than 10 + M * (10 + t), where M is that product, 1 without ceilings, and t the
- * links of a tree; RANQUSTEI_LIST_BYTES always suffice. Then 10.
- * On success the plan list stands at the front of `buffer`, and the bytes after it are 0. On 10 all of `buffer` is 0. On another refusal it is as
- * it was.
+ * Every plan that no other plan beats, as a plan list, each with the first tree that has its costs. At most `allowance` positions are solved; M are
+ * always enough, and so are RANQUSTEI_POSITIONS. RANQUSTEI_LIST_BYTES are always enough for `buffer`.
+ * On success the plan list stands at the front of `buffer`, and the bytes after it are 0. On RANQUSTEI_PAST_ALLOWANCE all of `buffer` is 0. On
+ * another refusal it is as it was.
  */
-ranqustei_refusal ranqustei_list(const uint8_t *survey, size_t survey_length, uint32_t allowance, uint8_t *buffer, size_t buffer_length);
+ranqustei_status ranqustei_list(const uint8_t *survey, size_t survey_length, uint32_t allowance, uint8_t *buffer, size_t buffer_length);
 
 /*
- * Where the links of plan r, counted from 0, stand in a plan list; bytes after the list do not matter. Number 12 if the list is damaged, then 13,
- * then 12 if plan r's mark is wrong. Nothing is written.
+ * Where the links of plan r, counted from 0, stand in a plan list; bytes after the list do not matter. Nothing is written. The list is damaged if it
+ * is shorter than its head or than its count and t say, its count is above 1,600, its t above 23 or its p above 2, or if the mark of its head or of
+ * plan r is wrong; nothing else in it is looked at.
  */
 ranqustei_part ranqustei_fetch(const uint8_t *list, size_t list_length, uint32_t r);
 

@@ -16,6 +16,8 @@ use Rattle.network.specs.declared.Answer.{Answer}
 use Rattle.network.specs.declared.Answer.the-variants.{Plan, Refused}
 use Rattle.network.specs.declared.Costs.{Costs}
 use Rattle.network.specs.declared.Refusal.{Refusal}
+use Rattle.network.specs.Promise.{LinksKept, NumberKept}
+use Rattle.planner.specs.Archive.{links-kept, number-kept}
 use Rattle.planlist.specs.Fetched.{found, links-found, links-none, plan-inside, start-found, start-none}
 use Rattle.capi.specs.declared.Reply.{Reply}
 use Rattle.capi.specs.declared.Part.{Part}
@@ -47,7 +49,8 @@ pub flat-plan : (a : Answer) (v : Costs) → a ≡ Plan v → record { number = 
 unfolding flatReply says unsigned
 flat-plan a v e = rw e
 
-pub flat-refused : (a : Answer) (r : Refusal) → a ≡ Refused r → record { number = r .number; place = r .place; sum = 0; y1 = pos 0; y2 = pos 0 } ≡ flatReply (says a)
+pub flat-refused : (a : Answer) (r : Refusal) → a ≡ Refused r
+    → record { number = r .number; place = r .place; sum = 0; y1 = pos 0; y2 = pos 0 } ≡ flatReply (says a)
 unfolding flatReply says unsigned
 flat-refused a r e = rw e
 
@@ -63,7 +66,7 @@ module _ (list : List ℕ) (r : ℕ) where
       (omega arith, ap length (links-found list r e) ∙ length-take-le (headTreeSize list) (drop (linksStart list r) list) (omega arith))
 
   -- the part lies inside the list
-  pub part-inside : partOf list r .start + partOf list r .count ≤ length list
+  part-inside : partOf list r .start + partOf list r .count ≤ length list
   unfolding partOf
   part-inside =
       elim (decide (eqb (fetchNumber list r) 0)) [
@@ -72,7 +75,7 @@ module _ (list : List ℕ) (r : ℕ) where
       ]
 
   -- its bytes are the links of plan r
-  pub part-links : take (partOf list r .count) (drop (partOf list r .start) list) ≡ fetchLinks list r
+  part-links : take (partOf list r .count) (drop (partOf list r .start) list) ≡ fetchLinks list r
   unfolding partOf
   part-links =
       elim (decide (eqb (fetchNumber list r) 0)) [
@@ -83,3 +86,22 @@ module _ (list : List ℕ) (r : ℕ) where
             let n = eqb-false _ _ e in
             ap (λ (l : List ℕ). take (length l) (drop (fetchStart list r) list)) (links-none list r n) ∙ sym (links-none list r n)
       ]
+
+-- what a caller of fetching relies on: the part lies inside the list, its bytes are the links of plan r, and from a list that a list call made these
+-- are the links of the plan listed there
+pub record PartOf (list : List ℕ) (r : ℕ) (part : Part) : Type 0 where
+  pub inside : part .start + part .count ≤ length list
+  pub links : take (part .count) (drop (part .start) list) ≡ fetchLinks list r
+  pub number : NumberKept list r (part .number)
+  pub kept : LinksKept list r (take (part .count) (drop (part .start) list))
+
+pub part-of : (list : List ℕ) (r : ℕ) {part : Part} → part ≡ partOf list r → PartOf list r part
+unfolding partOf
+part-of list r e =
+    let links = ap (λ (p : Part). take (p .count) (drop (p .start) list)) e ∙ part-links list r in
+    record {
+      inside = rw e (part-inside list r);
+      links = links;
+      number = number-kept list r (ap (λ (p : Part). p .number) e);
+      kept = links-kept list r links;
+    }

@@ -5,7 +5,8 @@ use planlist::fetch::fetch_start;
 ghost use mathlib.Core.Path.{_≡_};
 ghost use lib.ListN.{length};
 ghost use Rattle.network.specs.Calls.{asked, judged, listAfter, listStatus, says, treeAfter};
-ghost use Rattle.capi.specs.Replies.{flatReply, partOf, version};
+ghost use Rattle.network.specs.Promise.{Promised};
+ghost use Rattle.capi.specs.Replies.{PartOf, flatReply, partOf, version};
 
 // The costs of a plan with number 0 and place 0, or a refusal with costs 0.
 #[repr(C)]
@@ -61,7 +62,7 @@ pub extern "C" fn ranqustei_version() -> u32
 // The judge of a drawn tree.
 #[no_mangle]
 pub extern "C" fn ranqustei_judge(survey: &[u8], drawn: &[u8]) -> Reply
-    ensures { λ r. ⌜ r ≡ flatReply (judged (now (survey .entry)) (now (drawn .entry))) ⌝ }
+    ensures reply { λ r. ⌜ r ≡ flatReply (judged (now (survey .entry)) (now (drawn .entry))) ⌝ }
 {
     flat(planner::judge(survey, drawn))
 }
@@ -69,7 +70,8 @@ pub extern "C" fn ranqustei_judge(survey: &[u8], drawn: &[u8]) -> Reply
 // The best tree under the numbers b1 and b2.
 #[no_mangle]
 pub extern "C" fn ranqustei_best(survey: &[u8], b1: i16, b2: i16, tree: &mut [u8]) -> Reply
-    ensures { λ r. ⌜ (r ≡ flatReply (asked (now (survey .entry)) b1 b2 (length (now (tree .entry))))) × (now (tree .exit) ≡ treeAfter (now (survey .entry)) b1 b2 (now (tree .entry))) ⌝ }
+    ensures reply { λ r. ⌜ r ≡ flatReply (asked (now (survey .entry)) b1 b2 (length (now (tree .entry)))) ⌝ }
+    ensures leaves { λ _. ⌜ now (tree .exit) ≡ treeAfter (now (survey .entry)) b1 b2 (now (tree .entry)) ⌝ }
 {
     flat(planner::best(survey, b1, b2, tree))
 }
@@ -77,7 +79,9 @@ pub extern "C" fn ranqustei_best(survey: &[u8], b1: i16, b2: i16, tree: &mut [u8
 // The list of plans that no other plan beats.
 #[no_mangle]
 pub extern "C" fn ranqustei_list(survey: &[u8], allowance: u32, buffer: &mut [u8]) -> Status
-    ensures { λ r. ⌜ (r ≡ listStatus (now (survey .entry)) allowance (length (now (buffer .entry)))) × (now (buffer .exit) ≡ listAfter (now (survey .entry)) allowance (now (buffer .entry))) ⌝ }
+    ensures reply { λ r. ⌜ r ≡ listStatus (now (survey .entry)) allowance (length (now (buffer .entry))) ⌝ }
+    ensures leaves { λ _. ⌜ now (buffer .exit) ≡ listAfter (now (survey .entry)) allowance (now (buffer .entry)) ⌝ }
+    ensures promised { λ r. ⌜ Promised (now (survey .entry)) allowance (now (buffer .entry)) r (now (buffer .exit)) ⌝ }
 {
     planner::list(survey, allowance, buffer)
 }
@@ -85,7 +89,8 @@ pub extern "C" fn ranqustei_list(survey: &[u8], allowance: u32, buffer: &mut [u8
 // Plan r of a list: the number, and where its link bytes are.
 #[no_mangle]
 pub extern "C" fn ranqustei_fetch(list: &[u8], r: u32) -> Part
-    ensures { λ part. ⌜ part ≡ partOf (now (list .entry)) r ⌝ }
+    ensures reply { λ part. ⌜ part ≡ partOf (now (list .entry)) r ⌝ }
+    ensures links { λ part. ⌜ PartOf (now (list .entry)) r part ⌝ }
 {
     let number = planner::fetch_number(list, r);
     let start = fetch_start(list, r);

@@ -1,5 +1,5 @@
 -- Ceilings on the k-max costs of a set of edges. A tree fits where, for each ceiling, fewer than k of its edges exceed it:
--- so only its exceptional edges decide, and they are few. For any number of ceilings and any k. Assumes nothing.
+-- so only its exceptional edges decide, and they are few. For any number of ceilings and any k.
 use mathlib.Core.Bool.{Bool, true, false}
 use mathlib.Core.List.{List, [], _∷_, map, List·Memᴰ·cases-cons, List·Memᴰ·head as here, List·Memᴰ·tail as there}
 use mathlib.Core.Logic.{_↔_, ⊎-elim}

@@ -1,5 +1,5 @@
 -- Edges that exceed the same ceilings. A tree stays one that fits where some such edges are replaced by as many others. Where at most one rank is
--- above 1, all exceptional edges of trees that fit are such edges. For any number of ceilings and any k. Assumes nothing.
+-- above 1, all exceptional edges of trees that fit are such edges. For any number of ceilings and any k.
 use mathlib.Core.Bool.{Bool, true, _&&_}
 use mathlib.Core.List.{List, [], _∷_, map, Memᴰ·map, List·Memᴰ·head as here, List·Memᴰ·tail as there}
 use mathlib.Core.Path.{_≡_, refl, sym, ap, _∙_}

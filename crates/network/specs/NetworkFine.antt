@@ -1,12 +1,12 @@
 -- What holds of the network of an accepted survey, said of its arrays with no byte in it, and so of the graph that the theory speaks of.
 use Prim.Native.Nat.{ℕ, suc, _+_, _-_, _*_, _/_, _%_, _^_, _≤_, _<_}
 use mathlib.Core.Path.{_≡_, refl, sym, ap, _∙_}
-use mathlib.Core.Bool.{_&&_, _||_, false}
+use mathlib.Core.Bool.{_&&_, false}
 use mathlib.Core.List.{List, [], _∷_}
 use native.Mathlib.Nat.{le-of-eq, le-trans, mul-comm, mul-le-mul, pow-le-pow-right, pow-suc, pow-zero}
 use native.Mathlib.Omega.{arith}
 use borrow.Author.Tests.{eqb-true, le-leb, leb-false, ltb-false, lt-ltb, not-false}
-use lib.Dec.{leb, ltb}
+use lib.Dec.{ltb}
 use lib.ListN.{getD, length, length-take}
 use lib.Seq.{getD-take}
 use lib.IntN.{pos}
@@ -14,11 +14,11 @@ use Rattle.order.specs.Lists.{mem-getD}
 use Rattle.frontier.specs.Frontier.{product}
 use Rattle.planning.specs.Graph.{Graph, Sound, valuesAt, valuesFrom}
 use Rattle.planning.specs.Grid.{values-few}
-use Rattle.network.specs.Limits.{maxCeilings, maxLinks, maxPlans, maxRank, maxStations, maxSum, maxTree}
+use Rattle.network.specs.Limits.{maxCeilings, maxLinks, maxPlans, maxStations, maxSum, maxTree}
 use Rattle.network.specs.Bytes.{byteAt, signed, u16At}
 use Rattle.network.specs.Column.{column, column-at, column-length}
 use Rattle.network.specs.Survey.{ceilingsIn, costIn, costsIn, endIn, endsIn, layoutOf, linkCount, linkStart, networkOf, networkWith, sumIn, sumsIn}
-use Rattle.network.specs.Refusals.{absentCost, badRank, badRanks, checkedOf, outside}
+use Rattle.network.specs.Refusals.{absentCost, badPresent, badRank, badRanks, checkedOf}
 use Rattle.network.specs.Yard.{graph, ranks, treeSize}
 use Rattle.network.specs.Walk.{positionCount}
 use Rattle.network.specs.PlanList.{bufferNeed, maxNeed, planSize, planSlots}
@@ -90,8 +90,8 @@ survey-fine s e = network-fine s (layoutOf s) (accepted s (layoutOf s) (layout-r
 -- the rank of a present ceiling is at least 1 and below n
 present-rank : (n p j k : ℕ) → badRank n p j k ≡ false → j < p → (0 < k) × (k ≤ n - 1)
 present-rank n p j k e h =
-    let a : ltb j p && (outside k 1 maxRank || leb n k) ≡ false = or-false _ _ e .0 in
-    let b = or-false (outside k 1 maxRank) (leb n k) (rw (lt-ltb j p h) at a) in
+    let a : ltb j p && badPresent n k ≡ false = or-false _ _ e .0 in
+    let b = or-false _ _ (rw (lt-ltb j p h) at a) in
     let c = or-false _ _ (b .0) in
     let low : 1 ≤ k = ltb-false _ _ (c .0) in
     let high : k < n = leb-false _ _ (b .1) in

@@ -19,9 +19,13 @@ outside x low high = ltb x low || ltb high x
 unfoldable pub badLength : Layout → ℕ → Bool
 badLength l len = ltb len (l .yard) || not (eqb ((len - l .yard) % l .link) 0)
 
--- 6, of the k of ceiling j, from 0: a present k is 1 to 3 and never above t, so below n; an absent k is 0
+-- 6, of a present k: it is 1 to 3 and never above t, so below n
+abbrev pub badPresent : ℕ → ℕ → Bool
+badPresent n k = outside k 1 maxRank || leb n k
+
+-- 6, of the k of ceiling j, from 0: a present one keeps its rule, an absent one is 0
 abbrev pub badRank : ℕ → ℕ → ℕ → ℕ → Bool
-badRank n p j k = (ltb j p && (outside k 1 maxRank || leb n k)) || (leb p j && not (eqb k 0))
+badRank n p j k = (ltb j p && badPresent n k) || (leb p j && not (eqb k 0))
 
 -- 6: a k against its rule, or both above 1
 abbrev pub badRanks : ℕ → ℕ → ℕ → ℕ → Bool

@@ -1,8 +1,8 @@
 -- A set of exceptional links, completed by Kruskal's method over the normal links, is the best tree with these exceptional links: what the search
--- of `kmax` asks of a completion. Assumes nothing.
+-- of `kmax` asks of a completion.
 use mathlib.Core.Bool.{Bool, true, false, _&&_, not}
 use mathlib.Core.List.{List, map, List·Memᴰ·append-cases, Memᴰ·append-left, Sublistᴰ}
-use mathlib.Core.Logic.{_↔_, ⊎-elim}
+use mathlib.Core.Logic.{⊎-elim}
 use mathlib.Core.Option.{some, Option·some-injective, Option·none-ne-some}
 use mathlib.Core.Path.{_≡_, sym, subst}
 use Prim.Native.Nat.{ℕ, _-_, _<_}
@@ -14,10 +14,11 @@ use borrow.Author.Tests.{not-true, eqb-true, eq-eqb}
 use Rattle.order.specs.Test.{by-test, clash, left, right}
 use Rattle.order.specs.Lists.{_∈_, _⊆_, filter, filter-mem, mem-filter, sublist-⊆}
 use Rattle.order.specs.Perm.{pairwise-filter, perm-split}
-use Rattle.order.specs.Order.{Less, dictionary, orderℕ, orderℤ, pairLe, pairs}
-use Rattle.order.specs.Sorted.{Sorted, ascending, mem-numbers, mem-sort, numbers-mem, numbers-rising, rising-unique, sort-mem, sort-rising, sort-sorted, sublist-rising}
+use Rattle.order.specs.Order.{Less, orderℕ, orderℤ, pairs}
+use Rattle.order.specs.Sorted.{Sorted, ascending, mem-numbers, numbers-mem, numbers-rising, rising-unique, sublist-rising}
+use Rattle.order.specs.Sorted.{mem-sort, sort-mem, sort-rising, sort-sorted}
 use Rattle.order.specs.Least.{ranked}
-use Rattle.spanning.specs.Tree.{Forest, SpanningTree, identity, isForest}
+use Rattle.spanning.specs.Tree.{SpanningTree, identity, isForest}
 use Rattle.spanning.specs.Size.{isForest-iff}
 use Rattle.spanning.specs.Rising.{RisingIn, rising-range}
 use Rattle.spanning.specs.Ties.{tieWeight}
@@ -25,7 +26,7 @@ use Rattle.spanning.specs.Best.{added, added-among, best-spans, best-tree, byCo
 use Rattle.spanning.specs.Listing.{ascending-listed, listing-iff, spanningTrees}
 use Rattle.kmax.specs.Ceilings.{exceptional}
 use Rattle.kmax.specs.Search.{Completes}
-use Rattle.planning.specs.Graph.{Graph, Sound, completed, links, normals, total, under}
+use Rattle.planning.specs.Graph.{Graph, NoWorse, Sound, completed, links, normals, sumKey, sumOrder, under}
 
 -- the links that do not pass a test, by cost
 abbrev pub others : Graph → (ℕ → Bool) → List ℕ
@@ -36,17 +37,16 @@ module _ (G : Graph) (S : Sound G) where
 
   -- the completion succeeds exactly where X and the added links are a spanning tree, and gives that in rising order
   module _ (cs X : List ℕ) (below-cs : (c : ℕ) → c ∈ cs → c < m) (below-X : (c : ℕ) → c ∈ X → c < m) where
-    spans : SpanningTree n (map ends (whole ends cs X)) ↔ (Forest identity (map ends X) × (length (whole ends cs X) ≡ n - 1))
-    spans = whole-tree ends n m (S .stations) (S .within) cs X below-cs below-X
-
     pub completed-some : (ts : List ℕ) → completed G cs X ≡ some ts → SpanningTree n (map ends (whole ends cs X)) × (ts ≡ ascending (whole ends cs X))
     unfolding completed
     completed-some ts e =
         let us : List ℕ = whole ends cs X in
         let f : Bool = isForest identity (map ends X) in
-        by-test {P = SpanningTree n (map ends us) × (ts ≡ ascending us)} (f && eqb (length us) (n - 1))
+        let full : Bool = eqb (length us) (n - 1) in
+        by-test {P = SpanningTree n (map ends us) × (ts ≡ ascending us)} (f && full)
         (λ k. (
-          spans .1 (isForest-iff identity (map ends X) .0 (left f (eqb (length us) (n - 1)) k), eqb-true (length us) (n - 1) (right f (eqb (length us) (n - 1)) k)),
+          whole-tree ends n m (S .stations) (S .within) cs X below-cs below-X .1
+              (isForest-iff identity (map ends X) .0 (left f full k), eqb-true (length us) (n - 1) (right f full k)),
           sym (Option·some-injective (ascending us) ts (rw k at e)),
         ))
         (λ k. absurd (Option·none-ne-some ts (rw k at e)))
@@ -54,7 +54,7 @@ module _ (G : Graph) (S : Sound G) where
     pub completed-tree : SpanningTree n (map ends (whole ends cs X)) → completed G cs X ≡ some (ascending (whole ends cs X))
     unfolding completed
     completed-tree t =
-        let r = spans .0 t in
+        let r = whole-tree ends n m (S .stations) (S .within) cs X below-cs below-X .0 t in
         rw (isForest-iff identity (map ends X) .1 (r .0), eq-eqb (length (whole ends cs X)) (n - 1) (r .1))
 
   link-below : (c : ℕ) → c ∈ links G → c < m
@@ -65,9 +65,10 @@ module _ (G : Graph) (S : Sound G) where
     pub other : (c : ℕ) → c ∈ others G p → (c < m) × (p c ≡ false)
     other c k =
         let l = filter (λ c. not (p c)) (links G) in
-        let r = filter-mem (λ c. not (p c)) (links G) (sort-mem (pairs orderℕ orderℕ) (ranked s (λ c. c)) l k) in
+        let r = filter-mem (λ c. not (p c)) (links G) (sort-mem (pairs orderℕ orderℕ) _ l k) in
         (link-below c (r .0), not-true (p c) (r .1))
 
+    -- they stand by cost, then number
     others-sorted : Sorted orderℕ (tieWeight s m) (others G p)
     others-sorted =
         let l = filter (λ c. not (p c)) (links G) in
@@ -92,23 +93,26 @@ module _ (G : Graph) (S : Sound G) where
       -- that is a spanning tree,
       pub replaced-spans : SpanningTree n (map ends (whole ends (others G p) (filter p ts)))
       replaced-spans =
-          best-spans ends n m (S .stations) (S .within) (others G p) (filter p ts) (λ c i. other c i .0) stay-below s others-sorted ts (filter (λ c. not (p c)) ts)
-          (listed .0) (listed .1) (perm-split p ts) among
+          best-spans ends n m (S .stations) (S .within) (others G p) (filter p ts) (λ c i. other c i .0) stay-below s others-sorted
+          ts (filter (λ c. not (p c)) ts) (listed .0) (listed .1) (perm-split p ts) among
 
       -- and no worse
-      pub replaced-better : pairLe orderℤ (dictionary orderℕ) (total G (ascending (whole ends (others G p) (filter p ts))), ascending (whole ends (others G p) (filter p ts))) (total G ts, ts) ≡ true
+      pub replaced-better : NoWorse G (ascending (whole ends (others G p) (filter p ts))) ts
       replaced-better =
-          best-tree ends n m (S .stations) (S .within) (others G p) (filter p ts) (λ c i. other c i .0) stay-below s others-sorted ts (filter (λ c. not (p c)) ts)
-          (listed .0) (listed .1) (perm-split p ts) among
+          best-tree ends n m (S .stations) (S .within) (others G p) (filter p ts) (λ c i. other c i .0) stay-below s others-sorted
+          ts (filter (λ c. not (p c)) ts) (listed .0) (listed .1) (perm-split p ts) among
 
   -- the completion of `kmax`'s search, under the bounds bs
   module _ (bs : List ℤ) where
+    -- the test of an exceptional link
     abbrev odd : ℕ → Bool
     odd = exceptional orderℤ (under G bs)
 
+    -- the normal links by cost
     abbrev candidates : List ℕ
     candidates = byCost s (normals G bs)
 
+    -- no candidate is exceptional
     candidate : (c : ℕ) → c ∈ candidates → (c < m) × (odd c ≡ false)
     candidate = other odd
 
@@ -132,12 +136,15 @@ module _ (G : Graph) (S : Sound G) where
         listed : ascending us ∈ spanningTrees ends n m
         listed = ascending-listed ends n m (S .stations) (S .within) us below (c .0)
 
+        new : added ends candidates X ⊆ candidates
+        new = added-among ends n m (S .stations) (S .within) candidates X (λ c k. candidate c k .0) (λ x k. X-odd x k .0)
+
         to : (x : ℕ) → x ∈ filter odd (ascending us) → x ∈ X
         to x k =
             let r = filter-mem odd (ascending us) k in
             ⊎-elim
             (λ i. i)
-            (λ i. clash (r .1) (candidate x (added-among ends n m (S .stations) (S .within) candidates X (λ c k. candidate c k .0) (λ x k. X-odd x k .0) x i) .1))
+            (λ i. clash (r .1) (candidate x (new x i) .1))
             (List·Memᴰ·append-cases X (sort-mem orderℕ (λ x. x) us (r .0)))
 
         from : (x : ℕ) → x ∈ X → x ∈ filter odd (ascending us)
@@ -151,13 +158,13 @@ module _ (G : Graph) (S : Sound G) where
 
     -- and no tree whose exceptional links are X is better
     optimal : (X ts : List ℕ) → ts ∈ spanningTrees ends n m → filter odd ts ≡ X
-        → (us : List ℕ) × (completed G candidates X ≡ some us) × (pairLe orderℤ (dictionary orderℕ) (total G us, us) (total G ts, ts) ≡ true)
+        → (us : List ℕ) × (completed G candidates X ≡ some us) × NoWorse G us ts
     optimal X ts k q =
-        subst (λ (Y : List ℕ). (us : List ℕ) × (completed G candidates Y ≡ some us) × (pairLe orderℤ (dictionary orderℕ) (total G us, us) (total G ts, ts) ≡ true)) q (
+        subst (λ (Y : List ℕ). (us : List ℕ) × (completed G candidates Y ≡ some us) × NoWorse G us ts) q (
           ascending (whole ends candidates (filter odd ts)),
           completed-tree candidates (filter odd ts) (λ c i. candidate c i .0) (stay-below odd ts k) (replaced-spans odd ts k),
           replaced-better odd ts k,
         )
 
-    pub completes : Completes orderℤ (under G bs) (pairs orderℤ (dictionary orderℕ)) (ranked (total G) (λ ts. ts)) (completed G candidates) (links G) (spanningTrees ends n m)
+    pub completes : Completes orderℤ (under G bs) sumOrder (sumKey G) (completed G candidates) (links G) (spanningTrees ends n m)
     completes = record { sound = sound; optimal = optimal }

@@ -1,9 +1,9 @@
 -- Links that exceed the same ceilings are exchanged: for each tree there is one that fits where that fits and is no worse, and whose links of the
 -- one pattern are all among those that Kruskal's method keeps of them. A search may leave the others out. For any one pattern and any number of
--- ceilings; the other links stay, so that patterns can be taken in turn. Assumes nothing.
+-- ceilings; the other links stay, so that patterns can be taken in turn.
 use mathlib.Core.Bool.{Bool, true, false, not}
 use mathlib.Core.List.{List, map, List·Memᴰ·append-cases}
-use mathlib.Core.Logic.{⊎-elim}
+use mathlib.Core.Logic.{_⊎_, ⊎-elim}
 use mathlib.Core.Path.{_≡_, refl, fun-ext, subst}
 use Prim.Native.Nat.{ℕ, _<_}
 use native.Mathlib.Omega.{arith}
@@ -13,7 +13,7 @@ use borrow.Author.Tests.{not-false, not-true}
 use Rattle.order.specs.Test.{clash}
 use Rattle.order.specs.Lists.{_∈_, count, count-append, filter, filter-mem}
 use Rattle.order.specs.Perm.{count-perm, perm-length, perm-split}
-use Rattle.order.specs.Order.{dictionary, orderℕ, orderℤ, pairLe}
+use Rattle.order.specs.Order.{orderℕ, orderℤ}
 use Rattle.order.specs.Sorted.{ascending, sort-mem, sort-perm}
 use Rattle.spanning.specs.Tree.{identity, mergeAll, mergeAll-keeps}
 use Rattle.spanning.specs.Kruskal.{greedy-⊆, kruskal-again, kruskal-greedy}
@@ -21,7 +21,7 @@ use Rattle.spanning.specs.Best.{added, added-among, byCost, whole, whole-below}
 use Rattle.spanning.specs.Listing.{ascending-listed, listing-length, spanningTrees}
 use Rattle.kmax.specs.Ceilings.{Ceiling, exceeds, meets, meets-alike}
 use Rattle.kmax.specs.Pattern.{OnePattern, count-alike}
-use Rattle.planning.specs.Graph.{Graph, Sound, links, total, under}
+use Rattle.planning.specs.Graph.{Graph, NoWorse, Sound, links, under}
 use Rattle.planning.specs.Complete.{other, others, replaced-better, replaced-spans, stay-below}
 use Rattle.planning.specs.Search.{base, trees-ranked}
 
@@ -32,18 +32,21 @@ module _ (G : Graph) (S : Sound G) (bs : List ℤ) where
   pub record Exchanged (p : ℕ → Bool) (ts us : List ℕ) : Type 0 where
     pub tree : us ∈ spanningTrees ends n m
     pub fits : meets orderℤ (under G bs) (pos 0) us ≡ meets orderℤ (under G bs) (pos 0) ts
-    pub better : pairLe orderℤ (dictionary orderℕ) (total G us, us) (total G ts, ts) ≡ true
+    pub better : NoWorse G us ts
     pub kept : (x : ℕ) → x ∈ us → p x ≡ true → x ∈ base G (byCost s (filter p (links G)))
     pub stays : (x : ℕ) → x ∈ us → p x ≡ false → x ∈ ts
 
   -- the links that pass the test q stay
   module _ (q : ℕ → Bool) (one : OnePattern orderℤ (under G bs) (λ c. not (q c))) (ts : List ℕ) (k : ts ∈ spanningTrees ends n m) where
+    -- the links that stay
     abbrev X : List ℕ
     X = filter q ts
 
+    -- the links that take the place of the others
     abbrev new : List ℕ
     new = added ends (others G q) X
 
+    -- the tree that they make
     abbrev us : List ℕ
     us = whole ends (others G q) X
 
@@ -62,6 +65,7 @@ module _ (G : Graph) (S : Sound G) (bs : List ℤ) where
     new-other : (x : ℕ) → x ∈ new → q x ≡ false
     new-other x i = other G S q x (added-among ends n m (S .stations) (S .within) (others G q) X (λ c j. other G S q c j .0) (stay-below G S q ts k) x i) .1
 
+    -- the links that are given up
     abbrev gone : List ℕ
     gone = filter (λ c. not (q c)) ts
 
@@ -84,14 +88,17 @@ module _ (G : Graph) (S : Sound G) (bs : List ℤ) where
         let e = count-alike f (λ x. not (q x)) (one c i) new gone (λ x j. rw (new-other x j)) (λ x j. filter-mem (λ c. not (q c)) ts j .1) same-length in
         omega (arith, count-perm f (sort-perm orderℕ (λ x. x) us), count-append f X new, count-perm f (perm-split q ts), count-append f X gone, e)
 
+    old-or-new : (x : ℕ) → x ∈ ascending us → (x ∈ X) ⊎ (x ∈ new)
+    old-or-new x i = List·Memᴰ·append-cases X (sort-mem orderℕ (λ x. x) us i)
+
     exchanged : Exchanged (λ c. not (q c)) ts (ascending us)
     exchanged =
         record {
           tree = listed;
           fits = let R = trees-ranked G S bs .ranks in meets-alike orderℤ (pos 0) (under G bs) ts (ascending us) (R ts k) (R (ascending us) listed) same-count;
           better = replaced-better G S q ts k;
-          kept = λ x i e. ⊎-elim (λ j. clash (filter-mem q ts j .1) (not-true (q x) e)) (new-kept x) (List·Memᴰ·append-cases X (sort-mem orderℕ (λ x. x) us i));
-          stays = λ x i e. ⊎-elim (λ j. filter-mem q ts j .0) (λ j. clash (not-false (q x) e) (new-other x j)) (List·Memᴰ·append-cases X (sort-mem orderℕ (λ x. x) us i));
+          kept = λ x i e. ⊎-elim (λ j. clash (filter-mem q ts j .1) (not-true (q x) e)) (new-kept x) (old-or-new x i);
+          stays = λ x i e. ⊎-elim (λ j. filter-mem q ts j .0) (λ j. clash (not-false (q x) e) (new-other x j)) (old-or-new x i);
         }
 
   -- THE THEOREM

@@ -1,15 +1,16 @@
 -- A graph of stations and links with costs, its spanning trees with their sums and k-max costs as a problem of `frontier`, and the search that
 -- finds the best tree under ceilings without going through all trees. All of it computes on closed data.
-use mathlib.Core.Bool.{cond, _&&_, not}
+use mathlib.Core.Bool.{true, cond, _&&_, not}
 use mathlib.Core.List.{List, [], _∷_, map}
 use mathlib.Core.Option.{Option, none, some}
+use mathlib.Core.Path.{_≡_}
 use Prim.Native.Nat.{ℕ, suc, _-_, _≤_, _<_}
 use lib.Dec.{eqb}
 use lib.IntN.{ℤ, pos}
 use lib.ListN.{length}
 use Rattle.order.specs.Lists.{_∈_, distinct, filter, numbersFrom}
 use Rattle.order.specs.Perm.{sum}
-use Rattle.order.specs.Order.{dictionary, equal, orderℕ, orderℤ, pairs, reverse}
+use Rattle.order.specs.Order.{TotalOrder, dictionary, equal, orderℕ, orderℤ, pairs, reverse}
 use Rattle.order.specs.Sorted.{ascending, sort}
 use Rattle.order.specs.Least.{ranked}
 use Rattle.spanning.specs.Labelling.{Edge}
@@ -38,9 +39,14 @@ pub record Sound (G : Graph) : Type 0 where
   pub within : (c : ℕ) → c < G .m → Within (G .n) (G .ends c)
   pub ranks : (k : ℕ) → k ∈ G .ks → (0 < k) × (k ≤ G .n - 1)
 
+-- trees by sum, then dictionary order
+abbrev pub sumOrder : TotalOrder (ℤ × List ℕ)
+sumOrder = pairs orderℤ (dictionary orderℕ)
+
 module _ (G : Graph) where
   open Graph G using (n, m, ends, s, cost, ks)
 
+  -- the numbers of all links
   abbrev pub links : List ℕ
   links = numbersFrom m 0
 
@@ -50,15 +56,24 @@ module _ (G : Graph) where
   abbrev pub total : List ℕ → ℤ
   total ts = pos (sum s ts)
 
+  -- what `sumOrder` compares of a tree: its sum, and its links
+  abbrev pub sumKey : List ℕ → ℤ × List ℕ
+  sumKey = ranked total (λ ts. ts)
+
+  -- us is no worse than ts: its sum is smaller, or the same and us is not later in dictionary order
+  abbrev pub NoWorse : List ℕ → List ℕ → Type 0
+  NoWorse us ts = sumOrder .le (sumKey us) (sumKey ts) ≡ true
+
   -- the ceiling costs i, i + 1, .. of a tree, of the ranks js
   abbrev pub costsFrom : ℕ → List ℕ → List ℕ → List ℤ
   costsFrom i [] ts = []
   costsFrom i (k ∷ js) ts = kmax orderℤ k (map (cost i) ts) (pos 0) ∷ costsFrom (suc i) js ts
 
-  -- the different values of ceiling i over all links, in falling order; and those of each ceiling
+  -- the different values of ceiling i over all links, in falling order
   abbrev pub valuesAt : ℕ → List ℤ
   valuesAt i = sort (reverse orderℤ) (λ v. v) (distinct (equal orderℤ) (map (cost i) links))
 
+  -- the values of the ceilings i, i + 1, .., of the ranks js
   abbrev pub valuesFrom : ℕ → List ℕ → List (List ℤ)
   valuesFrom i [] = []
   valuesFrom i (k ∷ js) = valuesAt i ∷ valuesFrom (suc i) js
@@ -75,13 +90,15 @@ module _ (G : Graph) where
 
   -- ---- the search
 
-  -- the ceilings with the bounds bs; the links that exceed one of them, the exceptional ones, and the others, the normal ones
+  -- the ceilings with the bounds bs
   abbrev pub under : List ℤ → List (Ceiling ℤ)
   under bs = ceilings cost 0 ks bs
 
+  -- the exceptional links: those that exceed one of these ceilings
   abbrev pub exceptionals : List ℤ → List ℕ
   exceptionals bs = filter (exceptional orderℤ (under bs)) links
 
+  -- the normal links: those that exceed none
   abbrev pub normals : List ℤ → List ℕ
   normals bs = filter (λ c. not (exceptional orderℤ (under bs) c)) links
 
@@ -92,9 +109,9 @@ module _ (G : Graph) where
       let tree : Option (List ℕ) = some (ascending ts) in
       cond (isForest identity (map ends X) && eqb (length ts) (n - 1)) tree none
 
-  -- the best, by sum and then dictionary order, of the completions of the admissible sets among Xs
+  -- the best of the completions of the admissible sets among Xs
   abbrev pub searchSets : List ℤ → List ℕ → List (List ℕ) → Option (List ℕ)
-  searchSets bs cs Xs = searchIn orderℤ (under bs) (pairs orderℤ (dictionary orderℕ)) (ranked total (λ ts. ts)) (completed cs) Xs
+  searchSets bs cs Xs = searchIn orderℤ (under bs) sumOrder sumKey (completed cs) Xs
 
   -- the best tree under the bounds bs: over all sets of at most Σ (k - 1) exceptional links, completed by the normal links by cost, then number
   abbrev pub searchTree : List ℤ → Option (List ℕ)

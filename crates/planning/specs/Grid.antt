@@ -1,4 +1,4 @@
--- Every ceiling cost of a tree is among the values of its ceiling, which fall strictly: what `frontier` asks of a problem. Assumes nothing.
+-- Every ceiling cost of a tree is among the values of its ceiling, which fall strictly: what `frontier` asks of a problem.
 use mathlib.Core.List.{List, [], _∷_, map, Memᴰ·map, Memᴰ·cast, List·Memᴰ·head as here, List·Memᴰ·tail as there}
 use mathlib.Core.Option.{some}
 use mathlib.Core.Path.{_≡_, refl, sym, ap, _∙_}
@@ -28,21 +28,23 @@ distinct-has {C} O l {v} m =
 module _ (G : Graph) where
   open Graph G using (n, m, ends, s, cost, ks)
 
-  -- the value of a link is among the values of its ceiling
-  pub value-has : (i c : ℕ) → c < m → cost i c ∈ valuesAt G i
-  value-has i c h =
-      mem-sort (reverse orderℤ) (λ v. v) (distinct-has orderℤ (map (cost i) (links G)) (Memᴰ·map (cost i) (mem-numbers m 0 c (omega arith) (omega arith))))
-
+  -- the values of a ceiling fall strictly
   pub values-fall : (i : ℕ) → Falling orderℤ (valuesAt G i)
   values-fall i =
       let vs : List ℤ = map (cost i) (links G) in
       sort-rising (reverse orderℤ) (λ v. v) (distinct (equal orderℤ) vs) (distinct-apart (λ v. v) (equal orderℤ) (λ x y q. ≡→equal orderℤ y x q) vs)
 
+  -- the value of a link is among the values of its ceiling
+  pub value-has : (i c : ℕ) → c < m → cost i c ∈ valuesAt G i
+  value-has i c h =
+      mem-sort (reverse orderℤ) (λ v. v) (distinct-has orderℤ (map (cost i) (links G)) (Memᴰ·map (cost i) (mem-numbers m 0 c (omega arith) (omega arith))))
+
   -- a ceiling has no more different values than there are links
   pub values-few : (i : ℕ) → length (valuesAt G i) ≤ m
   values-few i =
       let vs : List ℤ = map (cost i) (links G) in
-      omega (arith, perm-length (sort-perm (reverse orderℤ) (λ v. v) (distinct (equal orderℤ) vs)), distinct-few (equal orderℤ) vs, length-map (links G) (cost i), numbers-length m 0)
+      let sorted = perm-length (sort-perm (reverse orderℤ) (λ v. v) (distinct (equal orderℤ) vs)) in
+      omega (arith, distinct-few (equal orderℤ) vs, length-map (links G) (cost i), numbers-length m 0)
 
   pub all-fall : (i : ℕ) (js : List ℕ) → AllFalling orderℤ (valuesFrom G i js)
   all-fall i [] = all-nil

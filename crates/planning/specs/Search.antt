@@ -1,5 +1,5 @@
 -- THE THEOREM: the search over sets of exceptional links finds the best tree under the ceilings, for any number of stations, links and ceilings.
--- It may go over the links that one run of Kruskal's method keeps of the normal ones. Assumes nothing.
+-- It may go over the links that one run of Kruskal's method keeps of the normal ones.
 use mathlib.Core.Bool.{Bool, cond, _&&_}
 use mathlib.Core.List.{List, [], _∷_, map, _++_}
 use mathlib.Core.Option.{Option, none, some}
@@ -10,9 +10,9 @@ use native.Mathlib.Omega.{arith}
 use lib.Dec.{eqb}
 use lib.IntN.{ℤ, pos}
 use lib.ListN.{length}
-use Rattle.order.specs.Order.{dictionary, orderℕ, orderℤ, pairs}
+use Rattle.order.specs.Order.{dictionary, orderℕ, orderℤ}
 use Rattle.order.specs.Sorted.{ascending}
-use Rattle.order.specs.Least.{least-ext, ranked}
+use Rattle.order.specs.Least.{least-ext}
 use Rattle.spanning.specs.Tree.{identity, isForest, mergeAll-keeps}
 use Rattle.spanning.specs.Kruskal.{kruskal, kruskal-again}
 use Rattle.spanning.specs.Rising.{rising-sublist}
@@ -24,7 +24,8 @@ use Rattle.kmax.specs.KMax.{kmax}
 use Rattle.kmax.specs.Ceilings.{ceilings, ceilings-ranked, ceilings-slack, meets, slackOf}
 use Rattle.kmax.specs.Subsets.{subsets}
 use Rattle.kmax.specs.Search.{Enough, Trees, search-leftmost, searchIn, subsets-enough}
-use Rattle.planning.specs.Graph.{Graph, Sound, completed, costsFrom, exceptionals, links, normals, problem, searchSets, searchTree, total, under}
+use Rattle.planning.specs.Graph.{Graph, Sound, completed, costsFrom, exceptionals, links, normals, problem, total, under}
+use Rattle.planning.specs.Graph.{searchSets, searchTree, sumKey, sumOrder}
 use Rattle.planning.specs.Complete.{completes}
 
 module _ (G : Graph) where
@@ -67,7 +68,7 @@ module _ (G : Graph) where
   -- the sets Xs of exceptional links are enough for a search under the bounds bs
   abbrev pub EnoughSets : List ℤ → List (List ℕ) → Type 0
   EnoughSets bs Xs =
-      Enough orderℤ (pos 0) (under G bs) (pairs orderℤ (dictionary orderℕ)) (ranked (total G) (λ ts. ts)) (links G) (spanningTrees ends n m) Xs
+      Enough orderℤ (pos 0) (under G bs) sumOrder (sumKey G) (links G) (spanningTrees ends n m) Xs
 
   -- Whatever sets of exceptional links are tried, if they are enough, then the search finds the best tree: the one of least sum that fits, and of
   -- these the first in dictionary order
@@ -82,12 +83,12 @@ module _ (G : Graph) where
   -- so does the search with the base for the normal links,
   pub search-base : (bs : List ℤ) (cs : List ℕ) (Xs : List (List ℕ)) → searchSets G bs (base cs) Xs ≡ searchSets G bs cs Xs
   search-base bs cs Xs =
-      ap (λ (complete : List ℕ → Option (List ℕ)). searchIn orderℤ (under G bs) (pairs orderℤ (dictionary orderℕ)) (ranked (total G) (λ ts. ts)) complete Xs)
+      ap (λ (complete : List ℕ → Option (List ℕ)). searchIn orderℤ (under G bs) sumOrder (sumKey G) complete Xs)
       (fun-ext (completed-base cs))
 
   -- the search through all sets in the order of `subsets`,
   pub search-best : Sound G → (bs : List ℤ) → length bs ≡ length ks → searchTree G bs ≡ best (problem G) bs
   search-best S bs l =
       search-sets S bs l (subsets (slackOf ks) (exceptionals G bs))
-      (subsets-enough orderℤ (pos 0) (under G bs) (pairs orderℤ (dictionary orderℕ)) (ranked (total G) (λ ts. ts)) (links G) (spanningTrees ends n m)
+      (subsets-enough orderℤ (pos 0) (under G bs) sumOrder (sumKey G) (links G) (spanningTrees ends n m)
       (trees-ranked S bs) (slackOf ks) (ceilings-slack cost 0 ks bs))

@@ -1,4 +1,4 @@
-//! A planner for one small yard that looks up its answers among all trees.
+//! A planner for one yard that looks up its answers among all trees.
 
 use crate::planner::Planner;
 use peer::listing::Listing;
@@ -25,6 +25,20 @@ impl<'a> ByListing<'a> {
             solved: listing.solved_count(),
             listing,
         }
+    }
+
+    /// The number of trees.
+    pub fn tree_count(&self) -> usize {
+        self.listing.trees().len()
+    }
+
+    /// Whether several trees have the costs of one plan, so that the first of them has to be found.
+    pub fn has_ties(&self) -> bool {
+        let attained = |costs: Costs| {
+            let trees = self.listing.trees().iter();
+            trees.filter(|tree| tree.costs == costs).count()
+        };
+        self.plans.iter().any(|plan| attained(plan.costs) > 1)
     }
 }
 

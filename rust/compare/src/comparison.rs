@@ -1,5 +1,6 @@
 //! One call on two planners, and what differs.
 
+use crate::listed::Listed;
 use crate::planner::Planner;
 use peer::{Costs, Refusal};
 use std::fmt::{self, Debug, Display, Formatter};
@@ -22,19 +23,25 @@ pub enum Call {
 pub struct Tally {
     /// Surveys.
     pub surveys: u64,
+    /// Surveys that are legal.
+    pub legal: u64,
     /// Calls, each made on both planners, by `Call`.
     pub calls: [u64; 4],
     /// Bytes of lent buffers and returned parts.
     pub bytes: u64,
     /// How many calls replied with each number; 0 is success.
     pub numbers: [u64; 15],
+    /// What was held against a listing of all trees.
+    pub listed: Listed,
 }
 
 impl Tally {
     /// Adds another tally to this one.
     pub fn add(&mut self, other: &Tally) {
         self.surveys += other.surveys;
+        self.legal += other.legal;
         self.bytes += other.bytes;
+        self.listed.add(&other.listed);
         let calls = self.calls.iter_mut().zip(other.calls);
         let numbers = self.numbers.iter_mut().zip(other.numbers);
         for (count, more) in calls.chain(numbers) {

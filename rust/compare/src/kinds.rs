@@ -32,7 +32,7 @@ enum Damage {
 }
 
 /// All kinds, legal surveys first.
-pub const KINDS: [Kind; 14] = [
+pub const KINDS: [Kind; 20] = [
     legal(1, "small", 3000, small(Any, Free)),
     legal(2, "small, connected", 3000, small(Connected, Free)),
     legal(3, "small, opposed", 3000, small(Connected, Opposed)),
@@ -44,6 +44,12 @@ pub const KINDS: [Kind; 14] = [
     legal(9, "disconnected", 2000, large(Disconnected, Free)),
     legal(10, "40 links, different", 600, hard(40, Different)),
     legal(11, "40 links, opposed", 600, hard(40, Opposed)),
+    legal(15, "24 stations, 24 links", 100, exact(24, 24, Opposed)),
+    legal(16, "24 stations, 24 links, tied", 100, exact(24, 24, Tied)),
+    legal(17, "24 stations, 25 links", 100, exact(24, 25, Opposed)),
+    legal(18, "24 stations, 25 links, tied", 100, exact(24, 25, Tied)),
+    legal(19, "3 stations, 40 links", 100, exact(3, 40, Opposed)),
+    legal(20, "3 stations, 40 links, tied", 100, exact(3, 40, Tied)),
     kind(12, "damaged", 250_000, small(Any, Free), Random),
     kind(13, "tied, damaged", 250_000, small(Any, Tied), Random),
     kind(14, "cut or flipped", 100, small(Connected, Tied), Each),
@@ -64,6 +70,11 @@ const fn kind(number: u64, name: &'static str, seeds: u64, recipe: Recipe, damag
 }
 
 impl Kind {
+    /// Whether its surveys are legal as they are made.
+    pub fn is_legal(&self) -> bool {
+        matches!(self.damage, Whole)
+    }
+
     /// Makes the surveys of a seed, one or several.
     pub fn surveys(&self, rng: &mut Rng) -> Vec<Vec<u8>> {
         let draft = self.recipe.draft(rng);
@@ -101,4 +112,9 @@ pub const fn large(layout: Layout, values: Values) -> Recipe {
 /// Connected yards of that many links.
 pub const fn hard(links: i64, values: Values) -> Recipe {
     Recipe::new(6..=24, links..=links, Connected, values)
+}
+
+/// Connected yards of that many stations and links.
+pub const fn exact(stations: i64, links: i64, values: Values) -> Recipe {
+    Recipe::new(stations..=stations, links..=links, Connected, values)
 }

@@ -11,6 +11,7 @@ pub mod damage;
 pub mod draft;
 pub mod fetching;
 pub mod kinds;
+pub mod listed;
 pub mod planner;
 pub mod rng;
 pub mod round;

@@ -5,13 +5,11 @@
 use compare::by_listing::ByListing;
 use compare::comparison::{Comparison, Difference, Tally};
 use compare::kinds::{Kind, KINDS};
+use compare::listed::is_listed;
 use compare::planner::{Archive, Peer};
 use compare::rng::Rng;
 use peer::survey::Yard;
 use std::process::ExitCode;
-
-/// Yards of up to so many links are also held against a listing of all trees.
-const LISTED_LINKS: usize = 9;
 
 fn main() -> ExitCode {
     let seed: Option<u64> = std::env::args().find_map(|argument| argument.parse().ok());
@@ -32,7 +30,7 @@ fn main() -> ExitCode {
 fn compare_all(seed: Option<u64>) -> Result<Tally, String> {
     println!("| kind | surveys | judge | best | list | fetch | bytes compared | differences |");
     println!("|---|---|---|---|---|---|---|---|");
-    let mut total = Tally::default();
+    let mut tallies = Vec::new();
     for kind in &KINDS {
         let mut tally = Tally::default();
         let seeds = kind.first_seed..kind.first_seed + kind.seeds;
@@ -40,20 +38,54 @@ fn compare_all(seed: Option<u64>) -> Result<Tally, String> {
             compare_seed(kind, seed, &mut tally)?;
         }
         print_row(kind.name, &tally);
-        total.add(&tally);
+        tallies.push((kind, tally));
     }
+    let total = sum(tallies.iter());
     print_row("all", &total);
-    println!("\n| number replied | calls |\n|---|---|");
-    for (number, calls) in total.numbers.iter().enumerate() {
-        println!("| {number} | {calls} |");
-    }
+    print_listed(&tallies, &total);
+    print_numbers(&total);
+    let legal = sum(tallies.iter().filter(|(kind, _)| kind.is_legal()));
+    let damaged = sum(tallies.iter().filter(|(kind, _)| !kind.is_legal()));
+    println!(
+        "\n{} surveys: {} made legal and {} made damaged, of which {} are legal all the same.",
+        total.surveys, legal.surveys, damaged.surveys, damaged.legal
+    );
     Ok(total)
+}
+
+fn sum<'a>(tallies: impl Iterator<Item = &'a (&'a Kind, Tally)>) -> Tally {
+    let mut sum = Tally::default();
+    tallies.for_each(|(_, tally)| sum.add(tally));
+    sum
 }
 
 fn print_row(name: &str, tally: &Tally) {
     let [judge, best, list, fetch] = tally.calls;
     let (surveys, bytes) = (tally.surveys, tally.bytes);
     println!("| {name} | {surveys} | {judge} | {best} | {list} | {fetch} | {bytes} | 0 |");
+}
+
+/// The yards that were held against a listing of all trees too.
+fn print_listed(tallies: &[(&Kind, Tally)], total: &Tally) {
+    println!("\n| held against all trees | yards | trees | p = 0 | p = 1 | p = 2 | rank above 1 | tied plans |");
+    println!("|---|---|---|---|---|---|---|---|");
+    let rows = tallies.iter().map(|(kind, tally)| (kind.name, tally));
+    let rows = rows.filter(|(_, tally)| tally.listed.yards > 0);
+    for (name, tally) in rows.chain([("all", total)]) {
+        let listed = tally.listed;
+        let [none, one, two] = listed.ceilings;
+        println!(
+            "| {name} | {} | {} | {none} | {one} | {two} | {} | {} |",
+            listed.yards, listed.trees, listed.ranked, listed.tied
+        );
+    }
+}
+
+fn print_numbers(total: &Tally) {
+    println!("\n| number replied | calls |\n|---|---|");
+    for (number, calls) in total.numbers.iter().enumerate() {
+        println!("| {number} | {calls} |");
+    }
 }
 
 /// Compares on the surveys of a seed; a difference is reported with all it takes to repeat it.
@@ -74,7 +106,7 @@ fn compare_seed(kind: &Kind, seed: u64, tally: &mut Tally) -> Result<(), String>
     Ok(())
 }
 
-/// Compares on one survey, with the listing too if the yard is small.
+/// Compares on one survey, with a listing of all trees too if there are few enough sets to try.
 fn compare_survey(
     kind: &Kind,
     survey: &[u8],
@@ -82,14 +114,15 @@ fn compare_survey(
     tally: &mut Tally,
 ) -> Result<(), Difference> {
     kind.calls(&mut Comparison::new(&Archive, &Peer, tally), survey, rng)?;
-    let yard = Yard::read(survey).ok();
-    if let Some(yard) = yard.filter(|yard| yard.links().len() <= LISTED_LINKS) {
+    let Ok(yard) = Yard::read(survey) else {
+        return Ok(());
+    };
+    tally.legal += 1;
+    if is_listed(&yard) {
         let by_listing = ByListing::of(&yard);
-        kind.calls(
-            &mut Comparison::new(&Archive, &by_listing, tally),
-            survey,
-            rng,
-        )?;
+        tally.listed.count(&yard, &by_listing);
+        let mut comparison = Comparison::new(&Archive, &by_listing, tally);
+        kind.calls(&mut comparison, survey, rng)?;
     }
     Ok(())
 }

@@ -1,8 +1,8 @@
 //! An independent planner: the four calls of document 01 in plain Rust.
 //!
 //! It is written from the document alone and shares nothing with the proved planner, so that
-//! the two can be held against each other. `walk` answers for any yard, `listing` for small
-//! ones by listing all trees.
+//! the two can be held against each other. `walk` answers for any yard, `listing` by
+//! listing all trees for yards that have few.
 
 #![forbid(unsafe_code)]
 

@@ -1,4 +1,4 @@
-//! All trees of a small yard, and the answers that follow from them by definition.
+//! All trees of a yard, and the answers that follow from them by definition.
 
 use crate::plan::Plan;
 use crate::reply::Costs;
@@ -11,7 +11,7 @@ pub struct Listing<'a> {
 }
 
 impl<'a> Listing<'a> {
-    /// Lists all trees; meant for up to 12 links.
+    /// Lists all trees; meant for a yard with few [`sets`].
     pub fn of(yard: &'a Yard) -> Listing<'a> {
         let mut trees = Vec::new();
         for links in choices(yard.links(), yard.tree_len()) {
@@ -88,6 +88,13 @@ impl<'a> Listing<'a> {
     }
 }
 
+/// How many sets of links have the size of a tree; a listing tries each of them.
+pub fn sets(yard: &Yard) -> u64 {
+    let (links, size) = (yard.links().len() as u64, yard.tree_len() as u64);
+    // With each factor the count is that of the sets of i + 1 links.
+    (0..size).fold(1, |count, i| count * links.saturating_sub(i) / (i + 1))
+}
+
 /// Whether no entry of v is above that of w, and they differ.
 fn dominates(v: Costs, w: Costs) -> bool {
     let at_most = v.ceilings.iter().zip(&w.ceilings).all(|(a, b)| a <= b);
@@ -101,7 +108,11 @@ fn choices(links: &[Link], count: usize) -> Vec<Vec<Link>> {
     }
     let mut all = Vec::new();
     for (i, &first) in links.iter().enumerate() {
-        for rest in choices(&links[i + 1..], count - 1) {
+        let later = &links[i + 1..];
+        if later.len() < count - 1 {
+            break;
+        }
+        for rest in choices(later, count - 1) {
             all.push([vec![first], rest].concat());
         }
     }

@@ -1,62 +1,8 @@
-//! The calls of the proved archive through its C interface: the only unsafe code of this crate.
-//!
-//! The calls ask for valid slices alone. They keep no state and never fail.
+//! The calls of the proved archive on slices: the only unsafe code of this crate.
 
 use crate::refusal::{Refusal, DAMAGED};
 use crate::Costs;
-
-/// A refusal, or number 0 and place 0.
-#[repr(C)]
-struct Outcome {
-    number: u8,
-    place: u8,
-}
-
-/// A refusal, or number 0 and a plan's costs.
-#[repr(C)]
-struct Reply {
-    number: u8,
-    place: u8,
-    sum: u32,
-    y1: i16,
-    y2: i16,
-}
-
-/// A number, and if it is 0 the part of the list that holds a plan's links.
-#[repr(C)]
-struct Part {
-    number: u8,
-    start: usize,
-    count: usize,
-}
-
-extern "C" {
-    fn ranqustei_judge(
-        survey: *const u8,
-        survey_len: usize,
-        drawn: *const u8,
-        drawn_len: usize,
-    ) -> Reply;
-
-    fn ranqustei_best(
-        survey: *const u8,
-        survey_len: usize,
-        b1: i16,
-        b2: i16,
-        tree: *mut u8,
-        tree_len: usize,
-    ) -> Reply;
-
-    fn ranqustei_list(
-        survey: *const u8,
-        survey_len: usize,
-        allowance: u32,
-        buffer: *mut u8,
-        buffer_len: usize,
-    ) -> Outcome;
-
-    fn ranqustei_fetch(list: *const u8, list_len: usize, r: u32) -> Part;
-}
+use ranqustei_sys::{ranqustei_best, ranqustei_fetch, ranqustei_judge, ranqustei_list, Reply};
 
 /// Nothing for number 0, else the refusal.
 fn settle(number: u8, place: u8) -> Result<(), Refusal> {
@@ -66,15 +12,14 @@ fn settle(number: u8, place: u8) -> Result<(), Refusal> {
     }
 }
 
-impl Reply {
-    fn costs(self) -> Result<Costs, Refusal> {
-        settle(self.number, self.place)?;
-        Ok(Costs {
-            sum: self.sum,
-            y1: self.y1,
-            y2: self.y2,
-        })
-    }
+/// The costs of a plan, or the refusal.
+fn costs(reply: Reply) -> Result<Costs, Refusal> {
+    settle(reply.number, reply.place)?;
+    Ok(Costs {
+        sum: reply.sum,
+        y1: reply.y1,
+        y2: reply.y2,
+    })
 }
 
 /// Judges a drawn tree, given as its link numbers, rising: its costs.
@@ -86,7 +31,7 @@ pub fn judge(survey: &[u8], drawn: &[u8]) -> Result<Costs, Refusal> {
     // so that it does no harm if the two overlap.
     let reply =
         unsafe { ranqustei_judge(survey.as_ptr(), survey.len(), drawn.as_ptr(), drawn.len()) };
-    reply.costs()
+    costs(reply)
 }
 
 /// Finds the best tree under a bound for each ceiling: its costs. Its t link numbers go to the
@@ -109,7 +54,7 @@ pub fn best(survey: &[u8], ceilings: [i16; 2], tree: &mut [u8]) -> Result<Costs,
             tree.len(),
         )
     };
-    reply.costs()
+    costs(reply)
 }
 
 /// Writes the list of plans into `buffer`, and 0 into its bytes after the list.
@@ -120,7 +65,7 @@ pub fn best(survey: &[u8], ceilings: [i16; 2], tree: &mut [u8]) -> Result<Costs,
 pub fn list(survey: &[u8], allowance: u32, buffer: &mut [u8]) -> Result<(), Refusal> {
     // SAFETY: each pointer is that of a live slice and goes with its length. `buffer` is borrowed
     // for writing, so that it does not overlap the survey.
-    let outcome = unsafe {
+    let status = unsafe {
         ranqustei_list(
             survey.as_ptr(),
             survey.len(),
@@ -129,7 +74,7 @@ pub fn list(survey: &[u8], allowance: u32, buffer: &mut [u8]) -> Result<(), Refu
             buffer.len(),
         )
     };
-    settle(outcome.number, outcome.place)
+    settle(status.number, status.place)
 }
 
 /// Fetches the link numbers of one plan, a part of the list.

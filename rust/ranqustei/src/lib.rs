@@ -11,13 +11,13 @@
 //! ```
 //! use ranqustei::{Cause, Link, Yard};
 //!
-//! let link = |a, b, sum, cost| Link { ends: [a, b], sum, costs: vec![cost] };
-//! let yard = Yard {
-//!     stations: 3,
-//!     ranks: vec![1],
-//!     links: vec![link(0, 1, 4, 7), link(1, 2, 3, 2), link(0, 2, 1, 9)],
-//! };
-//! let survey = yard.survey()?;
+//! // Three stations, one ceiling of rank 1; each link with its ends, its sum and its ceiling cost.
+//! let links = [
+//!     Link::new([0, 1], 4, [7]),
+//!     Link::new([1, 2], 3, [2]),
+//!     Link::new([0, 2], 1, [9]),
+//! ];
+//! let survey = Yard::new(3, [1], links).survey()?;
 //!
 //! // Every plan that no other plan beats.
 //! let plans = survey.plans()?;

@@ -4,6 +4,7 @@ use std::fmt;
 
 /// A plan's costs. The cost of an absent ceiling is 0.
 #[derive(Clone, Copy, PartialEq, Eq, Debug)]
+#[non_exhaustive]
 pub struct Costs {
     /// The sum over the links.
     pub sum: u32,
@@ -17,6 +18,7 @@ pub struct Costs {
 ///
 /// It is displayed as the planner's program prints it: `7 7 links 0 1`.
 #[derive(Clone, PartialEq, Eq, Debug)]
+#[non_exhaustive]
 pub struct Plan {
     /// The costs.
     pub costs: Costs,

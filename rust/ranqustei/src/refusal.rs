@@ -5,6 +5,7 @@ use std::fmt;
 
 /// A refusal: its number, and the record that it speaks of.
 #[derive(Clone, Copy, PartialEq, Eq, Debug)]
+#[non_exhaustive]
 pub struct Refusal {
     /// The number of the cause, 1 to 14.
     pub number: u8,
@@ -20,6 +21,7 @@ pub(crate) const DAMAGED: Refusal = Refusal {
 
 /// The cause of a refusal, one case a number.
 #[derive(Clone, Copy, PartialEq, Eq, Debug)]
+#[non_exhaustive]
 pub enum Cause {
     /// 1: the survey is not a yard record and whole link records.
     Length,
@@ -128,3 +130,20 @@ impl fmt::Display for Refusal {
 }
 
 impl Error for Refusal {}
+
+#[cfg(test)]
+mod tests {
+    use super::*;
+
+    #[test]
+    fn numbers_that_the_planner_never_gives() {
+        for number in [0, 15, 255] {
+            let refusal = Refusal { number, place: 2 };
+            assert_eq!(refusal.cause(), Cause::Unknown(number));
+            assert_eq!(
+                refusal.to_string(),
+                format!("link 1 refused for an unknown cause (number {number}, place 2)")
+            );
+        }
+    }
+}

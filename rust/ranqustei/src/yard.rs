@@ -7,6 +7,7 @@ use std::fmt;
 
 /// A yard: its stations, its ceilings and its links.
 #[derive(Clone, PartialEq, Eq, Debug)]
+#[non_exhaustive]
 pub struct Yard {
     /// The number of stations; they are numbered from 0.
     pub stations: u8,
@@ -18,6 +19,7 @@ pub struct Yard {
 
 /// A link between two stations.
 #[derive(Clone, PartialEq, Eq, Debug)]
+#[non_exhaustive]
 pub struct Link {
     /// The two stations.
     pub ends: [u8; 2],
@@ -29,6 +31,7 @@ pub struct Link {
 
 /// Why a yard has no survey.
 #[derive(Clone, Copy, PartialEq, Eq, Debug)]
+#[non_exhaustive]
 pub enum YardError {
     /// There are more ceilings than a survey has room for.
     Ceilings {
@@ -72,6 +75,16 @@ impl fmt::Display for YardError {
 impl Error for YardError {}
 
 impl Yard {
+    /// A yard of so many stations, with a rank for each present ceiling, and its links. Any figures
+    /// are taken: [`Yard::survey`] checks them.
+    pub fn new(stations: u8, ranks: impl Into<Vec<u8>>, links: impl Into<Vec<Link>>) -> Yard {
+        Yard {
+            stations,
+            ranks: ranks.into(),
+            links: links.into(),
+        }
+    }
+
     /// The yard's survey, accepted by the planner.
     ///
     /// # Errors
@@ -119,26 +132,30 @@ impl Yard {
         let [_, _, stations, ceilings, k1, k2] = part(survey, 0).unwrap_or_default();
         let present = usize::from(ceilings);
         let records = survey.get(YARD_LEN..).unwrap_or_default();
-        Yard {
-            stations,
-            ranks: [k1, k2].into_iter().take(present).collect(),
-            links: records
-                .chunks_exact(LINK_LEN)
-                .map(|record| Link::read(record, present))
-                .collect(),
-        }
+        let ranks: Vec<u8> = [k1, k2].into_iter().take(present).collect();
+        let links = records
+            .chunks_exact(LINK_LEN)
+            .map(|record| Link::read(record, present));
+        Yard::new(stations, ranks, links.collect::<Vec<_>>())
     }
 }
 
 impl Link {
+    /// A link between two stations, with its sum cost and a cost for each present ceiling.
+    pub fn new(ends: [u8; 2], sum: u32, costs: impl Into<Vec<i16>>) -> Link {
+        Link {
+            ends,
+            sum,
+            costs: costs.into(),
+        }
+    }
+
     fn read(record: &[u8], ceilings: usize) -> Link {
         let [c1, c2] =
             [8, 10].map(|start| i16::from_le_bytes(part(record, start).unwrap_or_default()));
-        Link {
-            ends: part(record, 2).unwrap_or_default(),
-            sum: u32::from_le_bytes(part(record, 4).unwrap_or_default()),
-            costs: [c1, c2].into_iter().take(ceilings).collect(),
-        }
+        let sum = u32::from_le_bytes(part(record, 4).unwrap_or_default());
+        let costs: Vec<i16> = [c1, c2].into_iter().take(ceilings).collect();
+        Link::new(part(record, 2).unwrap_or_default(), sum, costs)
     }
 }
 

@@ -44,12 +44,7 @@ pub fn read(text: &[u8]) -> Result<Survey, LineError> {
         links.push(link.map_err(|message| LineError::new(line, message))?);
         link_lines.push(line);
     }
-    let yard = Yard {
-        stations,
-        ranks,
-        links,
-    };
-    yard.survey().map_err(|error| {
+    Yard::new(stations, ranks, links).survey().map_err(|error| {
         let line = faulty_link(&error).and_then(|link| link_lines.get(link));
         LineError::new(line.copied().unwrap_or(head), error)
     })
@@ -125,11 +120,10 @@ fn read_link(words: &[&str], ceilings: usize) -> Result<Link, String> {
     };
     let end = |word| figure(word, "a station is a number from 0 to 23");
     let cost = |word: &&str| figure(word, "a ceiling cost is a number from -32768 to 32767");
-    Ok(Link {
-        ends: [end(a)?, end(b)?],
-        sum: figure(sum, "a sum is a number from 0 to 1000000")?,
-        costs: costs.iter().map(cost).collect::<Result<_, _>>()?,
-    })
+    let ends = [end(a)?, end(b)?];
+    let sum = figure(sum, "a sum is a number from 0 to 1000000")?;
+    let costs: Vec<i16> = costs.iter().map(cost).collect::<Result<_, _>>()?;
+    Ok(Link::new(ends, sum, costs))
 }
 
 fn link_need(ceilings: usize) -> String {
@@ -149,6 +143,6 @@ fn faulty_link(error: &YardError) -> Option<usize> {
     match error {
         YardError::Costs { link, .. } => Some(*link),
         YardError::Refused(refusal) => refusal.link().map(usize::from),
-        YardError::Ceilings { .. } => None,
+        _ => None,
     }
 }

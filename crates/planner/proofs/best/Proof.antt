@@ -19,7 +19,8 @@ enum-told : tie.Need-enum-told
 enum-told c = search needs
 
 -- the survey is accepted
-read : (c : tie.After-enum-told) → Read (now (c .before .before .before .before .before .before .args .survey)) (c .before .before .before .read-survey .result .network)
+read : (c : tie.After-enum-told)
+    → Read (now (c .before .before .before .before .before .before .args .survey)) (c .before .before .before .read-survey .result .network)
 read c = read-accepted _ _ (c .before .before .before .read-survey .ensures) (c .enum-told .given .1)
 
 cast-if1 : tie.Need-cast-if1

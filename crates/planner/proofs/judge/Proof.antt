@@ -18,7 +18,8 @@ enum-told : tie.Need-enum-told
 enum-told c = search needs
 
 -- the survey is accepted
-read : (c : tie.After-enum-told) → Read (now (c .before .before .before .before .before .before .args .survey)) (c .before .before .before .read-survey .result .network)
+read : (c : tie.After-enum-told)
+    → Read (now (c .before .before .before .before .before .before .args .survey)) (c .before .before .before .read-survey .result .network)
 read c = read-accepted _ _ (c .before .before .before .read-survey .ensures) (c .enum-told .given .1)
 
 is-tree-requires : tie.Need-is-tree-requires

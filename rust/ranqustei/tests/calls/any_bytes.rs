@@ -89,20 +89,14 @@ fn random_yard(random: &mut Random) -> Yard {
         .map(|_| random.below(3) as u8)
         .collect();
     let ends = usize::from(stations) + 1;
-    let mut link = || Link {
-        ends: [random.below(ends) as u8, random.below(ends) as u8],
-        sum: random.below(1_000_100) as u32,
-        costs: ranks
-            .iter()
-            .map(|_| random.below(65_536) as u16 as i16)
-            .collect(),
-    };
-    let links = (0..4).map(|_| link()).collect();
-    Yard {
-        stations,
-        ranks,
-        links,
-    }
+    let links = (0..4).map(|_| {
+        let link_ends = [random.below(ends) as u8, random.below(ends) as u8];
+        let sum = random.below(1_000_100) as u32;
+        let costs = ranks.iter().map(|_| random.below(65_536) as u16 as i16);
+        Link::new(link_ends, sum, costs.collect::<Vec<_>>())
+    });
+    let links: Vec<Link> = links.collect();
+    Yard::new(stations, ranks, links)
 }
 
 #[test]

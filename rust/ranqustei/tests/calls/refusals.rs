@@ -1,11 +1,11 @@
 //! Every refusal number: its call, its place, its cause and its sentence.
 
-use crate::samples::{bytes_a, yard_a};
-use ranqustei::{best, fetch, judge, list, Cause, Refusal};
+use crate::samples::{bytes_a, told, yard_a};
+use ranqustei::{best, fetch, judge, list, Cause, Refusal, YardError};
 
 /// Holds a refusal against what document 01 and the sentences say.
 fn check(refusal: Option<Refusal>, number: u8, place: u8, cause: Cause, sentence: &str) {
-    assert_eq!(refusal, Some(Refusal { number, place }));
+    assert_eq!(refusal.map(told), Some((number, place)));
     let refusal = refusal.expect("just compared");
     assert_eq!(refusal.cause(), cause);
     assert_eq!(refusal.link(), place.checked_sub(1));
@@ -73,18 +73,15 @@ fn yard_records() {
 fn too_many_links() {
     let mut yard = yard_a(1);
     yard.links = yard.links.iter().cycle().take(41).cloned().collect();
-    let error = yard.survey().expect_err("41 links are refused");
-    assert_eq!(
-        error.to_string(),
-        "a yard has at most 40 links (number 4, place 0)"
-    );
-    assert_eq!(
-        Refusal {
-            number: 4,
-            place: 0
-        }
-        .cause(),
-        Cause::Links
+    let Err(YardError::Refused(refusal)) = yard.survey() else {
+        panic!("41 links are refused");
+    };
+    check(
+        Some(refusal),
+        4,
+        0,
+        Cause::Links,
+        "a yard has at most 40 links",
     );
 }
 
@@ -192,19 +189,4 @@ fn plan_lists() {
     stored[22] = 0;
     assert_eq!(fetch(&stored, 0), Ok(&[1, 2][..]));
     damaged(&stored, 1);
-}
-
-#[test]
-fn numbers_that_the_planner_never_gives() {
-    for number in [0, 15, 255] {
-        assert_eq!(Refusal { number, place: 0 }.cause(), Cause::Unknown(number));
-    }
-    let refusal = Refusal {
-        number: 15,
-        place: 2,
-    };
-    assert_eq!(
-        refusal.to_string(),
-        "link 1 refused for an unknown cause (number 15, place 2)"
-    );
 }

@@ -1,19 +1,13 @@
 //! Yards that several tests use.
 
-use ranqustei::{Link, Yard};
+use ranqustei::{Link, Refusal, Yard};
 
 /// A yard from its stations, its ranks and its links: two ends, a sum, ceiling costs.
 pub fn yard(stations: u8, ranks: &[u8], links: &[(u8, u8, u32, &[i16])]) -> Yard {
-    let link = |&(a, b, sum, costs): &(u8, u8, u32, &[i16])| Link {
-        ends: [a, b],
-        sum,
-        costs: costs.to_vec(),
-    };
-    Yard {
-        stations,
-        ranks: ranks.to_vec(),
-        links: links.iter().map(link).collect(),
-    }
+    let links = links
+        .iter()
+        .map(|&(a, b, sum, costs)| Link::new([a, b], sum, costs));
+    Yard::new(stations, ranks, links.collect::<Vec<_>>())
 }
 
 /// Survey A of document 01, with another rank perhaps.
@@ -36,14 +30,11 @@ pub fn bytes_a() -> Vec<u8> {
 
 /// A chain of stations, one link from each to the next.
 pub fn chain(stations: u8) -> Yard {
-    let link = |end: u8| Link {
-        ends: [end, end + 1],
-        sum: 1,
-        costs: vec![],
-    };
-    Yard {
-        stations,
-        ranks: vec![],
-        links: (0..stations - 1).map(link).collect(),
-    }
+    let links = (0..stations - 1).map(|end| Link::new([end, end + 1], 1, []));
+    Yard::new(stations, [], links.collect::<Vec<_>>())
+}
+
+/// A refusal's number and place.
+pub fn told(refusal: Refusal) -> (u8, u8) {
+    (refusal.number, refusal.place)
 }

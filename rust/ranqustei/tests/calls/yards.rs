@@ -1,7 +1,7 @@
 //! The yards of document 01 and yards at its limits, on figures.
 
-use crate::samples::{chain, yard, yard_a};
-use ranqustei::{Cause, Link, PlanList, Refusal, Yard, YardError};
+use crate::samples::{chain, told, yard, yard_a};
+use ranqustei::{Cause, Link, PlanList, Yard, YardError};
 
 /// The plans of a yard as the planner's program prints them, and the solved count.
 fn listed(yard: &Yard) -> (Vec<String>, u32) {
@@ -65,20 +65,8 @@ fn questions_to_survey_a() {
         survey.best([8, 0]).map(|plan| plan.to_string()),
         Ok("7 7 links 0 1".to_string())
     );
-    assert_eq!(
-        survey.best([6, 0]),
-        Err(Refusal {
-            number: 14,
-            place: 0
-        })
-    );
-    assert_eq!(
-        survey.best([i16::MIN, 0]),
-        Err(Refusal {
-            number: 14,
-            place: 0
-        })
-    );
+    assert_eq!(survey.best([6, 0]).map_err(told), Err((14, 0)));
+    assert_eq!(survey.best([i16::MIN, 0]).map_err(told), Err((14, 0)));
     assert_eq!(
         survey
             .judge(&[0, 2])
@@ -87,13 +75,7 @@ fn questions_to_survey_a() {
     );
     assert_eq!((survey.positions(), survey.list_need()), (3, 46));
     assert_eq!(survey.list(3), survey.plans());
-    assert_eq!(
-        survey.list(2),
-        Err(Refusal {
-            number: 10,
-            place: 0
-        })
-    );
+    assert_eq!(survey.list(2).map_err(told), Err((10, 0)));
 }
 
 #[test]
@@ -107,30 +89,12 @@ fn stored_lists() {
     );
     let longer = [plans.as_bytes(), &[1, 2, 3]].concat();
     assert_eq!(PlanList::from_bytes(longer), Ok(plans.clone()));
-    assert_eq!(
-        plans.get(2),
-        Err(Refusal {
-            number: 13,
-            place: 0
-        })
-    );
-    assert_eq!(
-        plans.get(u32::MAX),
-        Err(Refusal {
-            number: 13,
-            place: 0
-        })
-    );
+    assert_eq!(plans.get(2).map_err(told), Err((13, 0)));
+    assert_eq!(plans.get(u32::MAX).map_err(told), Err((13, 0)));
     // The mark of the second plan.
     let mut damaged = plans.as_bytes().to_vec();
     damaged[22] = 0;
-    assert_eq!(
-        PlanList::from_bytes(damaged),
-        Err(Refusal {
-            number: 12,
-            place: 0
-        })
-    );
+    assert_eq!(PlanList::from_bytes(damaged).map_err(told), Err((12, 0)));
 }
 
 #[test]
@@ -155,15 +119,10 @@ fn limits_of_a_yard() {
 
 #[test]
 fn the_longest_list_buffer() {
-    let mut yard = Yard {
-        ranks: vec![1, 1],
-        ..chain(24)
-    };
-    yard.links.extend((0..17).map(|end| Link {
-        ends: [end, end + 1],
-        sum: 2,
-        costs: vec![],
-    }));
+    let mut yard = chain(24);
+    yard.ranks = vec![1, 1];
+    let more = (0..17).map(|end| Link::new([end, end + 1], 2, []));
+    yard.links.extend(more);
     for (number, link) in (0..).zip(&mut yard.links) {
         link.costs = vec![number - 20, i16::MIN + number];
     }

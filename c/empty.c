@@ -1,0 +1,92 @@
+/* Every call with null and length 0 for each of its byte strings in turn: the replies are those of empty bytes, and what else was lent stays. */
+#include "ranqustei.h"
+
+#include <stdio.h>
+#include <string.h>
+
+/* Survey A of document 01, and the yard of one station, whose tree has no links. */
+static const uint8_t survey_a[] = {
+    0x59, 0x44, 3, 1, 1, 0,
+    0x4C, 0x4B, 0, 1, 4, 0, 0, 0, 7, 0, 0, 0,
+    0x4C, 0x4B, 1, 2, 3, 0, 0, 0, 2, 0, 0, 0,
+    0x4C, 0x4B, 0, 2, 1, 0, 0, 0, 9, 0, 0, 0,
+};
+static const uint8_t single[] = {0x59, 0x44, 1, 0, 0, 0};
+
+enum { LENT = 50, FILLER = 0xAA };
+static uint8_t lent[LENT];
+
+static int failures;
+
+static void check(const char *what, int holds)
+{
+    if (!holds) {
+        printf("empty: %s\n", what);
+        failures++;
+    }
+}
+
+/* The number, and nothing in the rest of the reply: a refusal at place 0, or the costs of the tree without links. */
+static int bare_reply(ranqustei_reply reply, int number)
+{
+    return reply.number == number && reply.place == 0 && reply.sum == 0 && reply.y1 == 0 && reply.y2 == 0;
+}
+
+static int bare_status(ranqustei_status status, int number)
+{
+    return status.number == number && status.place == 0;
+}
+
+static int bare_part(ranqustei_part part, int number)
+{
+    return part.number == number && part.start == 0 && part.count == 0;
+}
+
+static int lent_stays(void)
+{
+    for (size_t i = 0; i < LENT; i++)
+        if (lent[i] != FILLER)
+            return 0;
+    return 1;
+}
+
+static void judge(void)
+{
+    check("judge, no survey", bare_reply(ranqustei_judge(NULL, 0, lent, 2), RANQUSTEI_BAD_LENGTH));
+    check("judge, neither", bare_reply(ranqustei_judge(NULL, 0, NULL, 0), RANQUSTEI_BAD_LENGTH));
+    check("judge, no links", bare_reply(ranqustei_judge(survey_a, sizeof survey_a, NULL, 0), RANQUSTEI_NOT_A_TREE));
+    check("judge, no links for one station", bare_reply(ranqustei_judge(single, sizeof single, NULL, 0), RANQUSTEI_OK));
+}
+
+static void best(void)
+{
+    check("best, no survey", bare_reply(ranqustei_best(NULL, 0, 8, 0, lent, LENT), RANQUSTEI_BAD_LENGTH));
+    check("best, neither", bare_reply(ranqustei_best(NULL, 0, 8, 0, NULL, 0), RANQUSTEI_BAD_LENGTH));
+    check("best, no buffer", bare_reply(ranqustei_best(survey_a, sizeof survey_a, 8, 0, NULL, 0), RANQUSTEI_SHORT_BUFFER));
+    check("best, no buffer for one station", bare_reply(ranqustei_best(single, sizeof single, 8, 0, NULL, 0), RANQUSTEI_OK));
+}
+
+static void list(void)
+{
+    check("list, no survey", bare_status(ranqustei_list(NULL, 0, RANQUSTEI_POSITIONS, lent, LENT), RANQUSTEI_BAD_LENGTH));
+    check("list, neither", bare_status(ranqustei_list(NULL, 0, RANQUSTEI_POSITIONS, NULL, 0), RANQUSTEI_BAD_LENGTH));
+    check("list, no buffer", bare_status(ranqustei_list(survey_a, sizeof survey_a, RANQUSTEI_POSITIONS, NULL, 0), RANQUSTEI_SHORT_BUFFER));
+    check("list, no buffer for one station", bare_status(ranqustei_list(single, sizeof single, 0, NULL, 0), RANQUSTEI_SHORT_BUFFER));
+}
+
+static void fetch(void)
+{
+    check("fetch plan 0 of no list", bare_part(ranqustei_fetch(NULL, 0, 0), RANQUSTEI_DAMAGED_LIST));
+    check("fetch the last plan of no list", bare_part(ranqustei_fetch(NULL, 0, UINT32_MAX), RANQUSTEI_DAMAGED_LIST));
+}
+
+int main(void)
+{
+    memset(lent, FILLER, sizeof lent);
+    judge();
+    best();
+    list();
+    fetch();
+    check("what was lent stays", lent_stays());
+    return failures != 0;
+}

@@ -1,0 +1,95 @@
+//! The calls of the proved archive, as `c/ranqustei.h` declares them: `ranqustei` makes them safe.
+//!
+//! The calls keep no state and never fail. They take any bytes and any numbers.
+
+#![allow(unsafe_code)]
+
+/// The version of what is declared here; [`ranqustei_version`] is the archive's own.
+pub const VERSION: u32 = 1;
+
+/// The reply of the list call: number 0 and place 0, or the refusal and its place.
+#[repr(C)]
+#[derive(Clone, Copy, PartialEq, Eq, Debug)]
+pub struct Status {
+    /// The number.
+    pub number: u8,
+    /// The place.
+    pub place: u8,
+}
+
+/// The reply of the judge and of the ceilings question: number 0, place 0 and a plan's costs, or
+/// the refusal and its place with costs 0.
+#[repr(C)]
+#[derive(Clone, Copy, PartialEq, Eq, Debug)]
+pub struct Reply {
+    /// The number.
+    pub number: u8,
+    /// The place.
+    pub place: u8,
+    /// The plan's sum.
+    pub sum: u32,
+    /// The first ceiling cost.
+    pub y1: i16,
+    /// The second ceiling cost.
+    pub y2: i16,
+}
+
+/// The reply of fetching: number 0 and the part of the list that holds a plan's links, or the
+/// refusal with an empty part from 0 on.
+#[repr(C)]
+#[derive(Clone, Copy, PartialEq, Eq, Debug)]
+pub struct Part {
+    /// The number.
+    pub number: u8,
+    /// The byte at which the part starts.
+    pub start: usize,
+    /// The bytes of the part.
+    pub count: usize,
+}
+
+unsafe extern "C" {
+    /// The version of the archive.
+    pub safe fn ranqustei_version() -> u32;
+
+    /// The costs of a drawn tree.
+    ///
+    /// # Safety
+    /// Each pointer points to as many bytes as its length says.
+    pub unsafe fn ranqustei_judge(
+        survey: *const u8,
+        survey_length: usize,
+        drawn: *const u8,
+        drawn_length: usize,
+    ) -> Reply;
+
+    /// The best tree under two ceilings.
+    ///
+    /// # Safety
+    /// Each pointer points to as many bytes as its length says; `tree` overlaps nothing else.
+    pub unsafe fn ranqustei_best(
+        survey: *const u8,
+        survey_length: usize,
+        b1: i16,
+        b2: i16,
+        tree: *mut u8,
+        tree_length: usize,
+    ) -> Reply;
+
+    /// The list of plans.
+    ///
+    /// # Safety
+    /// Each pointer points to as many bytes as its length says; `buffer` overlaps nothing else.
+    pub unsafe fn ranqustei_list(
+        survey: *const u8,
+        survey_length: usize,
+        allowance: u32,
+        buffer: *mut u8,
+        buffer_length: usize,
+    ) -> Status;
+
+    /// Where the links of plan r stand in a plan list.
+    ///
+    /// # Safety
+    /// The pointer points to as many bytes as its length says.
+    pub unsafe fn ranqustei_fetch(list: *const u8, list_length: usize, r: u32) -> Part;
+}

@@ -1,5 +1,5 @@
 // Text and numbers to standard output, for the programs. What is written is not part of any contract.
-use encoding::write::bits;
+use encoding_writes::bits;
 
 const OUTPUT: i32 = 1;
 

@@ -1,6 +1,6 @@
 -- What holds of the bytes of a survey that is accepted.
 use Prim.Native.Nat.{ℕ, zero, suc, _+_, _-_, _*_, _/_, _%_, _≤_, _<_}
-use mathlib.Core.Path.{_≡_, refl}
+use mathlib.Core.Path.{_≡_, refl, ap}
 use mathlib.Core.Bool.{Bool, true, false, cond, _||_}
 use mathlib.Core.List.{List}
 use native.Mathlib.Nat.{div-add-mod', mul-le-mul-right, suc-mul}
@@ -9,21 +9,22 @@ use borrow.Author.Tests.{eqb-true, eqb-false, leb-false, ltb-false, not-false}
 use lib.ListN.{length}
 use Rattle.network.specs.Limits.{maxCeilings, maxLinks, maxStations, maxSum}
 use Rattle.network.specs.Bytes.{byteAt, markAt}
-use Rattle.network.specs.Survey.{ceilingsIn, layoutOf, linkCount, linkMark, linkStart, plain, stationsIn, sumIn, unknown, yardMark}
+use Rattle.network.specs.Survey.{ceilingsIn, endIn, layoutOf, linkCount, linkMark, linkSize, linkStart, plain, rankIn, stationsIn, sumIn}
+use Rattle.network.specs.Survey.{unknown, yardMark, yardSize}
 use Rattle.network.specs.Checked.{fine-both, first-fine, refuse-fine}
 use Rattle.network.specs.Refusals.{absentCost, badLength, badRanks, checkedWith, linkChecked, linkCheckedAt, yardChecked}
-use Rattle.network.specs.Yard.{ranks}
 use Rattle.network.specs.declared.Checked.the-variants.{Fine}
 use Rattle.network.specs.declared.Layout.{Layout}
 
+-- neither part of a disjunction that fails holds
 pub or-false : (a b : Bool) → a || b ≡ false → (a ≡ false) × (b ≡ false)
 or-false true b e = let z : _≡_ {A = ℕ} 0 1 = cc in absurd (omega arith)
 or-false false b e = (refl, e)
 
 -- a layout has room for the fields that all layouts share
 pub record Roomy (l : Layout) : Type 0 where
-  pub yard : 6 ≤ l .yard
-  pub link : 12 ≤ l .link
+  pub yard : yardSize ≤ l .yard
+  pub link : linkSize ≤ l .link
 
 pub layout-roomy : (s : List ℕ) → Roomy (layoutOf s)
 unfolding layoutOf
@@ -40,7 +41,7 @@ pub record Whole (s : List ℕ) (l : Layout) (m : ℕ) : Type 0 where
   pub few : m ≤ maxLinks
 
 -- link record i lies inside
-pub inside : {s : List ℕ} {l : Layout} {m : ℕ} → Whole s l m → (i : ℕ) → i < m → linkStart l i + 12 ≤ length s
+pub inside : {s : List ℕ} {l : Layout} {m : ℕ} → Whole s l m → (i : ℕ) → i < m → linkStart l i + linkSize ≤ length s
 inside {s} {l} {m} w i h = omega (arith, mul-le-mul-right (l .link) h, suc-mul i (l .link))
 
 -- the length is that of a yard record and whole link records
@@ -59,7 +60,7 @@ pub record YardFine (s : List ℕ) (l : Layout) (m : ℕ) : Type 0 where
   pub few-stations : stationsIn s ≤ maxStations
   pub few-links : m ≤ maxLinks
   pub few-ceilings : ceilingsIn s ≤ maxCeilings
-  pub ranks : badRanks (stationsIn s) (ceilingsIn s) (byteAt s 4) (byteAt s 5) ≡ false
+  pub ranks : badRanks (stationsIn s) (ceilingsIn s) (rankIn s 0) (rankIn s 1) ≡ false
 
 pub yard-fine : (s : List ℕ) (l : Layout) (m : ℕ) → yardChecked s l m ≡ Fine → YardFine s l m
 unfolding yardChecked
@@ -98,7 +99,9 @@ unfolding linkChecked
 link-fine s at n p place e =
     let to7 = fine-both _ _ e in
     let to2 = fine-both _ _ (to7 .0) in
-    let ends = or-false _ _ (refuse-fine _ _ _ (to2 .1)) in
+    let first : endIn s at 0 ≡ byteAt s (at + 2) = ap (byteAt s) (omega arith) in
+    let second : endIn s at 1 ≡ byteAt s (at + 3) = ap (byteAt s) (omega arith) in
+    let ends = or-false _ _ (rw (first, second) at (refuse-fine _ _ _ (to2 .1))) in
     let each = or-false _ _ (ends .0) in
     let costs = or-false _ _ (refuse-fine _ _ _ (to7 .1)) in
     let sum = or-false _ _ (costs .0) in

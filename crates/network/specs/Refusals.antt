@@ -1,12 +1,12 @@
 -- Document 01, "When the planner declines": numbers 1 to 8, which a survey alone decides, in their order and with their places.
-use Prim.Native.Nat.{ℕ, _+_, _-_, _*_, _%_}
+use Prim.Native.Nat.{ℕ, _+_, _-_, _%_}
 use mathlib.Core.Bool.{Bool, not, _&&_, _||_}
 use mathlib.Core.List.{List}
 use lib.ListN.{length}
 use lib.Dec.{leb, ltb, eqb}
 use Rattle.network.specs.Limits.{maxCeilings, maxLinks, maxRank, maxStations, maxSum}
-use Rattle.network.specs.Bytes.{byteAt, markAt, u16At}
-use Rattle.network.specs.Survey.{ceilingsIn, layoutOf, linkCount, linkMark, linkStart, stationsIn, sumIn}
+use Rattle.network.specs.Bytes.{markAt}
+use Rattle.network.specs.Survey.{ceilingsIn, costBitsIn, endIn, layoutOf, linkCount, linkMark, linkStart, rankIn, stationsIn, sumIn}
 use Rattle.network.specs.Checked.{refuseIf, _orElse_, firstRefusal}
 use Rattle.network.specs.declared.Checked.{Checked}
 use Rattle.network.specs.declared.Layout.{Layout}
@@ -33,11 +33,11 @@ badRanks n p k1 k2 = badRank n p 0 k1 || badRank n p 1 k2 || (ltb 1 k1 && ltb 1 
 
 -- 7, of the link record at an index: an end is not below n, or both are equal
 abbrev pub badEnds : List ℕ → ℕ → ℕ → Bool
-badEnds s at n = leb n (byteAt s (at + 2)) || leb n (byteAt s (at + 3)) || eqb (byteAt s (at + 2)) (byteAt s (at + 3))
+badEnds s at n = leb n (endIn s at 0) || leb n (endIn s at 1) || eqb (endIn s at 0) (endIn s at 1)
 
 -- 8: the cost of ceiling j, from 0, is not 0 though that ceiling is absent
 abbrev pub absentCost : List ℕ → ℕ → ℕ → ℕ → Bool
-absentCost s at p j = leb p j && not (eqb (u16At s (at + 8 + 2 * j)) 0)
+absentCost s at p j = leb p j && not (eqb (costBitsIn s at j) 0)
 
 -- 8: s is over 1,000,000, or an absent ceiling's cost is not 0
 abbrev pub badCosts : List ℕ → ℕ → ℕ → Bool
@@ -50,7 +50,7 @@ yardChecked s l m =
     orElse refuseIf (outside (stationsIn s) 1 maxStations) 3 0
     orElse refuseIf (ltb maxLinks m) 4 0
     orElse refuseIf (ltb maxCeilings (ceilingsIn s)) 5 0
-    orElse refuseIf (badRanks (stationsIn s) (ceilingsIn s) (byteAt s 4) (byteAt s 5)) 6 0
+    orElse refuseIf (badRanks (stationsIn s) (ceilingsIn s) (rankIn s 0) (rankIn s 1)) 6 0
 
 -- the link record at an index, with n stations and p ceilings: its mark, 7, 8
 unfoldable pub linkChecked : List ℕ → ℕ → ℕ → ℕ → ℕ → Checked

@@ -5,26 +5,36 @@ use Prim.Native.Nat.{ℕ, _+_, _-_, _*_, _/_, _%_}
 use lib.IntN.{ℤ, pos}
 use lib.ListN.{length}
 use Rattle.network.specs.Limits.{maxCeilings, maxLinks}
-use Rattle.network.specs.Bytes.{byteAt, i16At, markAt, u32At}
+use Rattle.network.specs.Bytes.{byteAt, markAt, signed, u16At, u32At}
 use Rattle.network.specs.Column.{column}
 use Rattle.network.specs.declared.Layout.{Layout}
 use Rattle.network.specs.declared.Network.{Network}
 
--- the mark of the yard record, 59 44, and of a link record, 4C 4B
+-- the mark of the yard record, 59 44
 abbrev pub yardMark : List ℕ
 yardMark = 0x59 ∷ 0x44 ∷ []
 
+-- the mark of a link record, 4C 4B
 abbrev pub linkMark : List ℕ
 linkMark = 0x4C ∷ 0x4B ∷ []
 
--- the record sizes that go with the yard mark, and those by which a survey of no known mark is read
+-- the bytes of a yard record
+abbrev pub yardSize : ℕ
+yardSize = 6
+
+-- the bytes of a link record
+abbrev pub linkSize : ℕ
+linkSize = 12
+
+-- the layout that goes with the yard mark
 abbrev pub plain : Layout
-plain = record { known = true; yard = 6; link = 12 }
+plain = record { known = true; yard = yardSize; link = linkSize }
 
+-- the layout by which a survey of no known mark is read
 abbrev pub unknown : Layout
-unknown = record { known = false; yard = 6; link = 12 }
+unknown = record { known = false; yard = yardSize; link = linkSize }
 
--- the first two bytes say which
+-- the layout of a survey: its first two bytes say which
 unfoldable pub layoutOf : List ℕ → Layout
 layoutOf s = cond (markAt s 0 yardMark) plain unknown
 
@@ -38,25 +48,39 @@ linkStart l i = l .yard + i * l .link
 
 -- ---- the fields of the yard record: mark, n, p, k1, k2
 
+-- n, the number of stations
 abbrev pub stationsIn : List ℕ → ℕ
 stationsIn s = byteAt s 2
 
+-- p, the number of ceilings
 abbrev pub ceilingsIn : List ℕ → ℕ
 ceilingsIn s = byteAt s 3
 
+-- the k of ceiling j, from 0
+abbrev pub rankIn : List ℕ → ℕ → ℕ
+rankIn s j = byteAt s (4 + j)
+
+-- k1 and k2
 abbrev pub ranksIn : List ℕ → List ℕ
-ranksIn s = byteAt s 4 ∷ byteAt s 5 ∷ []
+ranksIn s = rankIn s 0 ∷ rankIn s 1 ∷ []
 
 -- ---- the fields of a link record that starts at an index: mark, two stations, s, c1, c2
 
+-- its end j, from 0
 abbrev pub endIn : List ℕ → ℕ → ℕ → ℕ
 endIn s at j = byteAt s (at + 2 + j)
 
+-- s, its sum cost
 abbrev pub sumIn : List ℕ → ℕ → ℕ
 sumIn s at = u32At s (at + 4)
 
+-- the sixteen bits of its cost by ceiling j, from 0
+abbrev pub costBitsIn : List ℕ → ℕ → ℕ → ℕ
+costBitsIn s at j = u16At s (at + 8 + 2 * j)
+
+-- c1 or c2, its cost by ceiling j, from 0
 abbrev pub costIn : List ℕ → ℕ → ℕ → ℤ
-costIn s at j = i16At s (at + 8 + 2 * j)
+costIn s at j = signed (costBitsIn s at j)
 
 -- ---- the network
 

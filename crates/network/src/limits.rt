@@ -1,4 +1,4 @@
-// The limits and the sizes of records, named as in specs/Limits.antt and specs/PlanList.antt. No other crate has them as bare numbers.
+// The limits and the sizes of records, named as in specs/Limits.antt, specs/Survey.antt and specs/PlanList.antt. No other crate has them as bare numbers.
 
 // Stations of a yard, and so entries of the groups of stations.
 pub const MAX_STATIONS: usize = 24;
@@ -23,6 +23,11 @@ pub const MAX_PLANS: usize = MAX_LINKS * MAX_LINKS;
 
 // Ceiling costs that a plan record holds, absent ones included.
 pub const PLAN_SLOTS: usize = MAX_CEILINGS;
+
+// Bytes of a yard record, and of a link record.
+pub const YARD_SIZE: usize = 6;
+
+pub const LINK_SIZE: usize = 12;
 
 // Bytes of a list head, and of a plan record before its links.
 pub const HEAD_SIZE: usize = 10;

@@ -1,7 +1,7 @@
 // The costs in a plan record, and their two orders.
-use encoding::compare::le16;
-use encoding::read::read_i16;
-use encoding::read::read_u32;
+use encoding_numbers::compare::le16;
+use encoding_numbers::read::read_i16;
+use encoding_numbers::read::read_u32;
 use network::Costs;
 use planlist_records::SUM_AT;
 use planlist_records::Y1_AT;

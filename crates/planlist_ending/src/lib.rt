@@ -1,9 +1,9 @@
 // The end of a list in a lent buffer: the frontier that stands behind the place of the head is finished, or the buffer is cleared.
-use encoding::copy::clear_from;
-use encoding::copy::copy_in;
-use encoding::write::write_u8;
-use encoding::write::write_u16;
-use encoding::write::write_u32;
+use encoding_copies::clear_from;
+use encoding_copies::copy_in;
+use encoding_writes::write_u8;
+use encoding_writes::write_u16;
+use encoding_writes::write_u32;
 use network::limits::HEAD_SIZE;
 use planlist_records::CEILINGS_AT;
 use planlist_records::COUNT_AT;
@@ -16,7 +16,7 @@ ghost use Prim.Native.Nat.{_+_, _*_, _≤_};
 ghost use lib.ListN.{length, replicate};
 ghost use Rattle.network.specs.Limits.{maxPlans};
 ghost use Rattle.network.specs.PlanList.{headBytes, headSize, planSize, planSlots};
-ghost use Rattle.encoding.specs.Overwrite.{overwrite};
+ghost use Rattle.encoding_overwrite.specs.Overwrite.{overwrite};
 ghost use Rattle.planlist_ending.specs.Finished.{finished};
 
 // Writes a list head at the front.

@@ -20,7 +20,7 @@ use Rattle.network.specs.Accepted.{or-false}
 use Rattle.network.specs.Fetching.{headCeilings, headCount, damaged, fetchLinks, fetchNumber, fetchStart, linksStart, planStart, headTreeSize}
 use Rattle.network.specs.declared.Costs.{Costs}
 use Rattle.network.specs.declared.Network.{Network}
-use Rattle.encoding.specs.RoundTrip.{u16-bytes}
+use Rattle.encoding_numbers.specs.RoundTrip.{u16-bytes}
 use Rattle.planlist_records.specs.Blocks.{Sized, join-at, length-join}
 use Rattle.planlist_records.specs.Records.{encode, length-plan}
 

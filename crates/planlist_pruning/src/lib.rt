@@ -1,5 +1,5 @@
 // The plans of the frontier that a new one replaces, dropped in one pass by their sums.
-use encoding::copy::move_down;
+use encoding_copies::move_down;
 use network::Costs;
 use planlist_costs::at_most;
 use planlist_costs::costs_at;

@@ -9,7 +9,7 @@ use lib.ListN.{length, take, drop, getD, length-append, length-drop}
 use lib.Seq.{length-take-le, take-at, drop-at, take-nil, take-take, drop-drop, take-add}
 use Rattle.order.specs.Lists.{_∈_}
 use Rattle.network.specs.PlanList.{join}
-use Rattle.encoding.specs.Overwrite.{overwrite, length-overwrite, take-overwrite, drop-overwrite, written}
+use Rattle.encoding_overwrite.specs.Overwrite.{overwrite, length-overwrite, take-overwrite, drop-overwrite, written}
 
 -- the first n records of z bytes
 unfoldable pub blocks : ℕ → ℕ → List ℕ → List (List ℕ)

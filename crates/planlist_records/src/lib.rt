@@ -1,14 +1,14 @@
 // The records of a plan list, a head and then one for each plan: their marks, and where their fields stand. The size of a plan record, and its bytes.
-use encoding::copy::copy_in;
-use encoding::write::write_i16;
-use encoding::write::write_u32;
+use encoding_copies::copy_in;
+use encoding_writes::write_i16;
+use encoding_writes::write_u32;
 use network::Costs;
 use network::limits::COSTS_SIZE;
 ghost use mathlib.Core.Path.{_≡_};
 ghost use Prim.Native.Nat.{_+_, _≤_};
 ghost use lib.ListN.{length};
 ghost use Rattle.network.specs.PlanList.{planBytes, planSize, planSlots};
-ghost use Rattle.encoding.specs.Overwrite.{overwrite};
+ghost use Rattle.encoding_overwrite.specs.Overwrite.{overwrite};
 
 // The marks of a list head and of a plan record.
 pub const HEAD_MARK: [u8; 2] = *b"PH";

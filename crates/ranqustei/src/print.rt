@@ -2,8 +2,8 @@
 use console::number;
 use console::signed;
 use console::text;
-use encoding::read::read_u16;
-use encoding::read::read_u32;
+use encoding_numbers::read::read_u16;
+use encoding_numbers::read::read_u32;
 use network::Answer;
 use network::Costs;
 use network::Status;

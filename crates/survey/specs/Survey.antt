@@ -20,7 +20,7 @@ noNetwork =
     record {
       n = 0;
       p = 0;
-      k = replicate 2 0;
+      k = replicate maxCeilings 0;
       m = 0;
       ends = replicate (2 * maxLinks) 0;
       sums = replicate maxLinks 0;
@@ -37,16 +37,18 @@ surveyOf s = surveyWith (layoutOf s) s
 
 -- ---- what a caller has of it
 
+-- what the check found
 pub read-checked : (s : List ℕ) (r : Survey) → r ≡ surveyOf s → r .checked ≡ checkedOf s
 unfolding surveyOf surveyWith
 read-checked s r e = ap (λ (x : Survey). x .checked) e
 
--- the network of an accepted survey
+-- net is the network of an accepted survey
 pub record Read (s : List ℕ) (net : Network) : Type 0 where
   pub accepted : checkedOf s ≡ Fine
   pub network : net ≡ networkOf s
   pub fine : NetworkFine net
 
+-- where the check found nothing, the network is that of the survey
 pub read-accepted : (s : List ℕ) (r : Survey) → r ≡ surveyOf s → r .checked ≡ Fine → Read s (r .network)
 unfolding surveyOf surveyWith ifFine
 read-accepted s r e q =

@@ -1,24 +1,37 @@
 // Reads a survey from bytes: its first refusal of the numbers 1 to 8, or the network that it says.
-use crate::decode::decode;
-use crate::decode::no_network;
-use crate::layout::layout_of;
 use crate::rules::check_with;
 use network::Checked;
 use network::Layout;
 use network::Network;
+use network::limits::MAX_CEILINGS;
+use network::limits::MAX_LINKS;
+use survey_decode::decode;
+use survey_layout::layout::layout_of;
 ghost use mathlib.Core.Path.{_≡_};
 ghost use Rattle.network.specs.Accepted.{Roomy};
-ghost use Rattle.survey.specs.Survey.{surveyWith, surveyOf};
+ghost use Rattle.survey.specs.Survey.{noNetwork, surveyOf, surveyWith};
 
-pub mod checks;
-mod decode;
-mod layout;
 mod rules;
 
 // A survey that was read: what its check found, and its network where that is nothing.
 pub struct Survey {
     pub checked: Checked,
     pub network: Network,
+}
+
+// What stands for the network of a survey that is refused.
+fn no_network() -> Network
+    ensures { λ r. ⌜ r ≡ noNetwork ⌝ }
+{
+    Network {
+        n: 0,
+        p: 0,
+        k: [0u8; MAX_CEILINGS],
+        m: 0,
+        ends: [0u8; 2 * MAX_LINKS],
+        sums: [0u32; MAX_LINKS],
+        costs: [0i16; MAX_CEILINGS * MAX_LINKS],
+    }
 }
 
 // Reads a survey in a layout: its check, and its network where it is not refused.

@@ -1,5 +1,5 @@
 // Surveys put together record by record.
-use encoding::write::bits;
+use encoding_writes::bits;
 
 // The bytes of a survey, of which the first `len` count.
 pub struct Yard {

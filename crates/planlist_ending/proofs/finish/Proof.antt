@@ -7,7 +7,7 @@ use lib.ListN.{length, take, drop, replicate}
 use lib.Seq.{take-append-add}
 use denote.Ref.{now}
 use Rattle.network.specs.PlanList.{headBytes, headSize, planSize, planSlots}
-use Rattle.encoding.specs.Overwrite.{overwrite}
+use Rattle.encoding_overwrite.specs.Overwrite.{overwrite}
 use Rattle.planlist_ending.specs.Finished.{finished-bytes}
 use borrow.Author.Needs.{needs}
 use Rattle.planlist_ending.proofs.finish.Statement.{statement}

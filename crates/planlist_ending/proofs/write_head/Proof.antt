@@ -7,7 +7,7 @@ use lib.ListN.{length}
 use denote.Ref.{now}
 use Rattle.network.specs.Bytes.{littleEndian}
 use Rattle.network.specs.PlanList.{headMark}
-use Rattle.encoding.specs.Overwrite.{overwrite-chain}
+use Rattle.encoding_overwrite.specs.Overwrite.{overwrite-chain}
 use borrow.Author.Needs.{needs}
 use Rattle.planlist_ending.proofs.write_head.Statement.{statement}
 use Rattle.planlist_ending.proofs.write_head.Tie as tie

@@ -11,7 +11,7 @@ use mir.ValLaws.{toZ-ofZ}
 use denote.Ref.{now}
 use Rattle.network.specs.Bytes.{bitsOf, littleEndian}
 use Rattle.network.specs.PlanList.{planMark, planSize, planSlots}
-use Rattle.encoding.specs.Overwrite.{overwrite, overwrite-chain}
+use Rattle.encoding_overwrite.specs.Overwrite.{overwrite, overwrite-chain}
 use borrow.Author.Needs.{needs}
 use Rattle.planlist_records.proofs.write_plan.Statement.{statement}
 use Rattle.planlist_records.proofs.write_plan.Tie as tie

@@ -1,5 +1,4 @@
 -- `survey::read_survey` meets its contract. It is `read_with` at the layout that the first two bytes say.
--- Assumes nothing.
 use borrow.Author.Needs.{needs}
 use Rattle.survey.specs.Survey.{surveyOf}
 use Rattle.survey.proofs.read_survey.Statement.{statement}

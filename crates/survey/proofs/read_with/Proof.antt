@@ -1,13 +1,17 @@
 -- `survey::read_with` meets its contract. A survey that is not refused has the room that `decode` requires.
--- Assumes nothing.
 use borrow.Author.Needs.{needs}
 use mathlib.Core.Path.{sym, _∙_}
 use native.Mathlib.Omega.{arith}
-use Rattle.network.specs.Accepted.{accepted}
+use denote.Ref.{now}
+use Rattle.network.specs.Accepted.{Accepted, accepted}
 use Rattle.network.specs.Calls.{ifFine}
 use Rattle.survey.specs.Survey.{surveyWith}
 use Rattle.survey.proofs.read_with.Statement.{statement}
 use Rattle.survey.proofs.read_with.Tie as tie
+
+-- the survey is accepted where the check found nothing
+read : (c : tie.After-enum-told2) → Accepted (now (c .before .before .before .before .args .s)) (c .before .before .before .before .args .l)
+read c = accepted _ _ (c .before .before .before .before .pre) (sym (c .before .before .check-with .ensures) ∙ c .enum-told2 .given .1)
 
 check-with-requires : tie.Need-check-with-requires
 check-with-requires c κs = search needs
@@ -22,17 +26,13 @@ enum-told-2 : tie.Need-enum-told-2
 enum-told-2 c = search needs
 
 sub-decode : tie.Need-sub-decode
-sub-decode c =
-    let called = c .before .before in
-    omega (arith, accepted _ _ (called .before .before .pre) (sym (called .check-with .ensures) ∙ c .enum-told2 .given .1) .records)
+sub-decode c = omega (arith, read c .records)
 
 div-decode : tie.Need-div-decode
 div-decode c = search needs
 
 decode-requires : tie.Need-decode-requires
-decode-requires c κs =
-    let called = c .before .before in
-    accepted _ _ (called .before .before .pre) (sym (called .check-with .ensures) ∙ c .enum-told2 .given .1) .records
+decode-requires c κs = read c .records
 
 returns : tie.Need-returns
 unfolding ifFine surveyWith

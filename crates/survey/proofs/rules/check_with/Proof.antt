@@ -1,13 +1,19 @@
 -- `survey::rules::check_with` meets its contract. The tests in their order; what a passed test says gives the next one its room.
--- Assumes nothing.
 use borrow.Author.Needs.{needs}
-use mathlib.Core.Path.{sym, _∙_}
+use mathlib.Core.Path.{_≡_, sym, _∙_}
+use mathlib.Core.Bool.{false}
 use native.Mathlib.Omega.{arith}
+use lib.ListN.{length}
+use denote.Ref.{now}
 use Rattle.network.specs.Accepted.{whole-records, whole}
 use Rattle.network.specs.Checked.{refuseIf, _orElse_}
-use Rattle.network.specs.Refusals.{checkedWith}
+use Rattle.network.specs.Refusals.{badLength, checkedWith}
 use Rattle.survey.proofs.rules.check_with.Statement.{statement}
 use Rattle.survey.proofs.rules.check_with.Tie as tie
+
+-- the length is right where the first test is passed
+right : (c : tie.Else1) → badLength (c .before .before .before .args .l) (length (now (c .before .before .before .args .s))) ≡ false
+right c = sym (c .before .bad-length .ensures) ∙ c .if1 .left
 
 bad-length-requires : tie.Need-bad-length-requires
 bad-length-requires c κs = search needs
@@ -20,13 +26,13 @@ unfolding checkedWith refuseIf _orElse_
 returns c = c .refuse-if .ensures ∙ rw (sym (c .before .before .bad-length .ensures) ∙ c .before .if1 .taken)
 
 sub-m : tie.Need-sub-m
-sub-m c = omega (arith, whole-records _ _ (sym (c .before .bad-length .ensures) ∙ c .if1 .left))
+sub-m c = omega (arith, whole-records _ _ (right c))
 
 div-m : tie.Need-div-m
 div-m c = search needs
 
 check-yard-requires : tie.Need-check-yard-requires
-check-yard-requires c κs = omega (arith, whole-records _ _ (sym (c .before .bad-length .ensures) ∙ c .if1 .left))
+check-yard-requires c κs = omega (arith, whole-records _ _ (right c))
 
 enum-told : tie.Need-enum-told
 enum-told c = search needs
@@ -37,22 +43,21 @@ enum-told-2 c = search needs
 check-links-requires : tie.Need-check-links-requires
 check-links-requires c κs =
     let tested = c .before .before .before in
-    let start = tested .before .before .before in
-    whole _ _ (start .pre) (sym (tested .before .bad-length .ensures) ∙ tested .if1 .left) (sym (c .before .before .check-yard .ensures) ∙ c .enum-told2 .given .1)
+    let yard = sym (c .before .before .check-yard .ensures) ∙ c .enum-told2 .given .1 in
+    whole _ _ (tested .before .before .before .pre) (right tested) yard
 
 returns-2 : tie.Need-returns-2
 unfolding checkedWith refuseIf _orElse_
 returns-2 c =
     let yard = c .before .before in
-    rw (sym (yard .before .before .bad-length .ensures) ∙ yard .before .if1 .left, ← yard .check-yard .ensures, c .enum-told .given .1)
+    rw (right (yard .before), ← yard .check-yard .ensures, c .enum-told .given .1)
 
 returns-3 : tie.Need-returns-3
 unfolding checkedWith refuseIf _orElse_
 returns-3 c =
     let told = c .before in
     let yard = told .before .before in
-    rw (sym (yard .before .before .bad-length .ensures) ∙ yard .before .if1 .left, ← yard .check-yard .ensures, told .enum-told2 .given .1)
-    (c .check-links .ensures)
+    rw (right (yard .before), ← yard .check-yard .ensures, told .enum-told2 .given .1) (c .check-links .ensures)
 
 pub check-with-spec : {M : Type 1} → statement M
 check-with-spec =

@@ -1,0 +1,6 @@
+-- bytes that are written over others
+pub mod Overwrite
+-- stores in a row write a list of bytes
+pub mod Stores
+-- loops that copy, turn by turn
+pub mod Copies

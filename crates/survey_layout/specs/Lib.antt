@@ -1,0 +1,2 @@
+-- a survey too short for a mark
+pub mod Mark

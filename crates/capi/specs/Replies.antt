@@ -56,6 +56,12 @@ flat-refused a r e = rw e
 
 -- ---- the part of a list
 
+-- field by field
+pub flat-part : (list : List ℕ) (r : ℕ) {number start : ℕ} {links : List ℕ} → number ≡ fetchNumber list r → start ≡ fetchStart list r
+    → links ≡ fetchLinks list r → record { number = number; start = start; count = length links } ≡ partOf list r
+unfolding partOf
+flat-part list r e f g = λ i. record { number = e i; start = f i; count = length (g i) }
+
 module _ (list : List ℕ) (r : ℕ) where
   -- plan r is found: its t link bytes stand inside the list
   found-part : fetchNumber list r ≡ 0 → (linksStart list r + headTreeSize list ≤ length list) × (length (fetchLinks list r) ≡ headTreeSize list)

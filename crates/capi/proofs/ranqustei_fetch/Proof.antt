@@ -1,7 +1,6 @@
 -- `capi::ranqustei_fetch` meets its contract, field by field.
-use lib.ListN.{length}
 use borrow.Author.Needs.{needs}
-use Rattle.capi.specs.Replies.{part-of, partOf}
+use Rattle.capi.specs.Replies.{flat-part, part-of}
 use Rattle.capi.proofs.ranqustei_fetch.Statement.{statement}
 use Rattle.capi.proofs.ranqustei_fetch.Tie as tie
 
@@ -14,15 +13,13 @@ fetch-start-requires c κs = search needs
 fetch-links-requires : tie.Need-fetch-links-requires
 fetch-links-requires c κs = search needs
 
--- field by field
 returns : tie.Need-returns
-unfolding partOf
 returns c =
     let number = c .before .before .fetch-number .ensures .0 in
     let start = c .before .fetch-start .ensures in
     let links = c .fetch-links .ensures .0 in
-    let e = λ i. record { number = number i; start = start i; count = length (links i) } in
-    (e, part-of _ _ e)
+    let fields = flat-part _ _ number start links in
+    (fields, part-of _ _ fields)
 
 pub ranqustei-fetch-spec : {M : Type 1} → statement M
 ranqustei-fetch-spec = tie.close (tie.spec fetch-number-requires fetch-start-requires fetch-links-requires returns)

@@ -28,7 +28,7 @@ list-plans-requires c κs = read (c .before) .fine
 returns : tie.Need-returns
 returns c =
     let e = list-refused _ _ _ _ (sym (read-checked _ _ (c .before .before .before .before .read-survey .ensures)) ∙ c .before .checked .given .1) in
-    (e .0, e .1, promised _ _ _ (e .0) (e .1))
+    (e .0, (e .1, promised _ _ _ (e .0) (e .1)))
 
 same-length : tie.Need-same-length
 same-length c = search needs
@@ -37,7 +37,7 @@ returns-2 : tie.Need-returns-2
 returns-2 c =
     let left = c .before .before .list-plans .ensures in
     let e = list-accepted _ _ _ _ (read (c .before .before .before .before)) _ _ (left .0) (left .1) in
-    (e .0, e .1, promised _ _ _ (e .0) (e .1))
+    (e .0, (e .1, promised _ _ _ (e .0) (e .1)))
 
 pub list-spec : {M : Type 1} → statement M
 list-spec =

@@ -1,4 +1,4 @@
-// One line for each case: what it is, and the reply.
+// The replies as text.
 use console::number;
 use console::signed;
 use console::text;
@@ -47,9 +47,7 @@ pub fn row(word: &[u8], links: &[u8]) {
 }
 
 // The number and place of a call that only fills a buffer.
-pub fn reply(r: Status) {
-    text(b"number ");
-    number(r.number as u64);
-    text(b" place ");
-    number(r.place as u64);
+pub fn status(r: Status) {
+    item(b"number ", r.number);
+    item(b" place ", r.place);
 }

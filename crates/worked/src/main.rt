@@ -7,89 +7,69 @@
 //     set I X                 byte I is X
 //     cut L                   the survey has L bytes
 //
-// and these lines print what stands before their colon, and the reply of a call on that survey:
+// and these print what stands before their colon, and what a call replies on that survey:
 //
-//     judge LINKS             the links drawn
+//     judge LINKS             the judge, with these links drawn
 //     ask L B1 B2             the ceilings question, and the tree buffer of L bytes after it
 //     plans L ALLOWANCE       the list call, and the list buffer of L bytes after it
-//     fetch L I X             the list call with all positions allowed; then, if byte I of its list is X, the plans 0, 1, 2 and 4,294,967,295
+//     fetch L ALLOWANCE I X   the list call, and the plans 0, 1, 2 and 4,294,967,295 of its list with byte I as X
 //
-// The first letter of a word counts. Any other word makes the line a remark.
-mod bytes;
+// The first letter of the word counts. A line with any other word is a remark.
 mod calls;
-mod line;
 mod report;
 mod yard;
 
-use bytes::part;
-use calls::call;
+use console::line::Line;
+use console::part;
 use console::text;
-use line::Line;
 use std::num::wrapping_add_usize;
 use yard::Yard;
 
 const INPUT: i32 = 0;
 
-// What was read: the survey made so far, and the line that is read, from its index in the input on.
-struct Progress {
-    yard: Yard,
-    line: Line,
-    from: usize,
-}
-
-// A line that is read: a survey after it, or a call.
-fn obey(line: Line, yard: Yard) -> Yard {
+// The yard after a line.
+fn obey(yard: Yard, line: Line) -> Yard {
     let word = line.word;
-    let ns = line.numbers;
+    let numbers = line.numbers;
     match word {
-        b'y' => yard.begin(ns),
-        b'l' => yard.link(ns),
-        b's' => yard.set(ns),
-        b'c' => yard.cut(ns),
-        _ => {
-            let bytes = yard.bytes;
-            call(line, part(&bytes, 0, yard.len));
-            yard
-        }
+        b'y' => yard.begin(numbers),
+        b'l' => yard.link(numbers),
+        b's' => yard.set(numbers),
+        b'c' => yard.cut(numbers),
+        _ => yard.call(line),
     }
 }
 
-// One byte more: the end of a line, of its label, or a part of it.
-fn turn(progress: Progress, input: &[u8], at: usize, byte: u8) -> Progress {
-    let yard = progress.yard;
-    let before = progress.line;
-    let line = before.read(byte);
+// The yard after a byte: a line is done where it ends.
+fn end(yard: Yard, line: Line, byte: u8) -> Yard {
     if byte == b'\n' {
-        return Progress {
-            yard: obey(line, yard),
-            line: Line::new(),
-            from: wrapping_add_usize(at, 1),
-        };
+        return obey(yard, line);
+    }
+    yard
+}
+
+// Where the line begins after a byte at an index; a colon ends its label.
+fn label(input: &[u8], from: usize, at: usize, byte: u8) -> usize {
+    if byte == b'\n' {
+        return wrapping_add_usize(at, 1);
     }
     if byte == b':' {
-        text(part(input, progress.from, at));
+        text(part(input, from, at));
         text(b": ");
-        return Progress {
-            yard,
-            line: Line::new(),
-            from: progress.from,
-        };
     }
-    Progress {
-        yard,
-        line,
-        from: progress.from,
-    }
+    from
 }
 
 fn run(input: &[u8]) {
-    let mut progress = Progress {
-        yard: Yard::new(),
-        line: Line::new(),
-        from: 0,
-    };
+    let mut yard = Yard::new();
+    let mut line = Line::new();
+    let mut from = 0;
     for at in 0..input.len() {
-        progress = turn(progress, input, at, input[at]);
+        let byte = input[at];
+        let read = line.read(byte);
+        yard = end(yard, read, byte);
+        from = label(input, from, at, byte);
+        line = read.rest(byte);
     }
 }
 

@@ -1,5 +1,8 @@
 // Surveys put together record by record.
-use crate::line::NUMBERS;
+use crate::calls::call;
+use console::line::Line;
+use console::line::NUMBERS;
+use console::part;
 use encoding::write::write_u32;
 use std::num::wrapping_add_usize;
 
@@ -9,6 +12,11 @@ const ROOM: usize = 512;
 const YARD_MARK: u32 = 0x4459;
 
 const LINK_MARK: u32 = 0x4B4C;
+
+// How many bytes each number of a yard record takes, and of a link record.
+const YARD_SIZES: [u8; 5] = [1, 1, 1, 1, 0];
+
+const LINK_SIZES: [u8; 5] = [1, 1, 4, 2, 2];
 
 // The bytes of a survey, of which the first `len` count.
 pub struct Yard {
@@ -26,48 +34,53 @@ impl Yard {
     }
 
     // A number of so many bytes more, where there is room; what is written past it does not count.
-    fn number(self, n: u32, size: usize) -> Yard {
+    fn number(self, n: u32, size: u8) -> Yard {
         let mut bytes = self.bytes;
         let at = self.len;
         if at <= ROOM - 4 {
             write_u32(&mut bytes, at, n);
-            return Yard {
-                bytes,
-                len: wrapping_add_usize(at, size),
-            };
         }
-        Yard { bytes, len: at }
+        Yard {
+            bytes,
+            len: wrapping_add_usize(at, size as usize),
+        }
+    }
+
+    // A record more.
+    fn record(self, mark: u32, sizes: [u8; 5], numbers: [u32; NUMBERS]) -> Yard {
+        let mut yard = self.number(mark, 2);
+        for i in 0..5usize {
+            yard = yard.number(numbers[i], sizes[i]);
+        }
+        yard
     }
 
     // A yard record alone.
-    pub fn begin(self, ns: [u32; NUMBERS]) -> Yard {
-        let head = Yard::new().number(YARD_MARK, 2);
-        head.number(ns[0], 1).number(ns[1], 1).number(ns[2], 1).number(ns[3], 1)
+    pub fn begin(self, numbers: [u32; NUMBERS]) -> Yard {
+        Yard::new().record(YARD_MARK, YARD_SIZES, numbers)
     }
 
-    // One link record more.
-    pub fn link(self, ns: [u32; NUMBERS]) -> Yard {
-        let ends = self.number(LINK_MARK, 2).number(ns[0], 1).number(ns[1], 1);
-        ends.number(ns[2], 4).number(ns[3], 2).number(ns[4], 2)
+    // A link record more.
+    pub fn link(self, numbers: [u32; NUMBERS]) -> Yard {
+        self.record(LINK_MARK, LINK_SIZES, numbers)
     }
 
     // Another byte at an index.
-    pub fn set(self, ns: [u32; NUMBERS]) -> Yard {
-        let mut bytes = self.bytes;
-        let at = ns[0] as usize % ROOM;
-        bytes[at] = (ns[1] % 256) as u8;
-        Yard {
-            bytes,
-            len: self.len,
-        }
+    pub fn set(mut self, numbers: [u32; NUMBERS]) -> Yard {
+        self.bytes[numbers[0] as usize % ROOM] = (numbers[1] % 256) as u8;
+        self
     }
 
     // Another length.
-    pub fn cut(self, ns: [u32; NUMBERS]) -> Yard {
+    pub fn cut(mut self, numbers: [u32; NUMBERS]) -> Yard {
+        self.len = numbers[0] as usize;
+        self
+    }
+
+    // As it is, after a call on its survey.
+    pub fn call(self, line: Line) -> Yard {
         let bytes = self.bytes;
-        Yard {
-            bytes,
-            len: ns[0] as usize % ROOM,
-        }
+        call(part(&bytes, 0, self.len), line);
+        self
     }
 }

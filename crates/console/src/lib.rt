@@ -1,4 +1,6 @@
-// Text and numbers to standard output, for the programs. What is written is not part of any contract.
+// Text and numbers for the programs: written to standard output, and read from a line. What is written is not part of any contract.
+pub mod line;
+
 use encoding_writes::bits;
 
 const OUTPUT: i32 = 1;
@@ -31,4 +33,34 @@ pub fn signed(y: i16) {
         text(b"-");
         number(magnitude(u));
     }
+}
+
+// A word and a number.
+pub fn item(word: &[u8], n: u8) {
+    text(word);
+    number(n as u64);
+}
+
+// A word, and numbers after it.
+pub fn row(word: &[u8], numbers: &[u8]) {
+    text(word);
+    for i in 0..numbers.len() {
+        item(b" ", numbers[i]);
+    }
+}
+
+// `refused N at P`
+pub fn refusal(n: u8, place: u8) {
+    item(b"refused ", n);
+    item(b" at ", place);
+}
+
+// The bytes from one index to another, or none where they are not all there.
+pub fn part<'a>(bytes: &'a [u8], from: usize, to: usize) -> &'a [u8] {
+    if to <= bytes.len() {
+        if from <= to {
+            return &bytes[from..to];
+        }
+    }
+    &bytes[..0]
 }

@@ -1,37 +1,26 @@
-// All trees of small yards, listed by code that shares nothing with the planner's, held against the planner's calls. What is printed, counts
-// alone, is held to the file `stdout`.
-mod listing;
-mod plans;
+// All trees of small yards, as the crate `alltrees` lists them, held against the planner's calls. What is printed, counts alone, is held to the
+// file `stdout`.
+mod lists;
 mod questions;
-mod small;
 mod tally;
-mod visits;
 
-use listing::count;
-use listing::trees_of;
-use small::Yard;
-use small::length;
-use small::make;
-use small::next;
-use small::survey_of;
+use alltrees::listing::trees_of;
+use alltrees::plans::plans_of;
+use alltrees::small::Yard;
+use alltrees::small::length;
+use alltrees::small::make;
+use alltrees::small::next;
+use alltrees::small::survey_of;
+use console::part;
 use tally::Tally;
 
-// The trees of a yard, and both comparisons.
+// A yard's trees, and both comparisons.
 fn compare(survey: &[u8], yard: Yard, tally: Tally) -> Tally {
-    let sets = trees_of(yard);
-    let trees: &[u64] = &sets;
+    let trees = trees_of(yard);
+    let plans = plans_of(trees);
     let asked = questions::differences(survey, yard, trees);
-    plans::compare(survey, yard, trees, tally.yard(count(trees), asked))
-}
-
-// The survey of a yard.
-fn survey(yard: Yard, tally: Tally) -> Tally {
-    let bytes = survey_of(yard);
-    let len = length(yard);
-    if len <= 90 {
-        return compare(&bytes[..len], yard, tally);
-    }
-    tally
+    let listed = lists::differences(survey, yard, trees, plans);
+    tally.yard(plans.trees, plans.plans, asked, listed)
 }
 
 fn main() {
@@ -39,7 +28,9 @@ fn main() {
     let mut tally = Tally::new();
     for i in 0..560u32 {
         x = next(x);
-        tally = survey(make(i, x), tally);
+        let yard = make(i, x);
+        let survey = survey_of(yard);
+        tally = compare(part(&survey, 0, length(yard)), yard, tally);
     }
     tally.print();
 }

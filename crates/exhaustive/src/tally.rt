@@ -7,7 +7,6 @@ pub struct Tally {
     pub yards: u64,
     pub trees: u64,
     pub questions: u64,
-    pub lists: u64,
     pub plans: u64,
     pub differences: u64,
 }
@@ -24,26 +23,18 @@ impl Tally {
             yards: 0,
             trees: 0,
             questions: 0,
-            lists: 0,
             plans: 0,
             differences: 0,
         }
     }
 
-    // A yard with so many trees, and a question for each pair of bounds.
-    pub fn yard(mut self, trees: u16, differences: u64) -> Tally {
+    // With a yard of so many trees and plans, a question for each pair of bounds, and its list.
+    pub fn yard(mut self, trees: u16, plans: u16, asked: u64, listed: u64) -> Tally {
         self.yards = wrapping_add_u64(self.yards, 1);
         self.trees = wrapping_add_u64(self.trees, trees as u64);
         self.questions = wrapping_add_u64(self.questions, 256);
-        self.differences = wrapping_add_u64(self.differences, differences);
-        self
-    }
-
-    // A list of so many plans.
-    pub fn list(mut self, plans: u16, differences: u64) -> Tally {
-        self.lists = wrapping_add_u64(self.lists, 1);
         self.plans = wrapping_add_u64(self.plans, plans as u64);
-        self.differences = wrapping_add_u64(self.differences, differences);
+        self.differences = wrapping_add_u64(self.differences, wrapping_add_u64(asked, listed));
         self
     }
 
@@ -52,7 +43,7 @@ impl Tally {
         figure(self.yards);
         figure(self.trees);
         figure(self.questions);
-        figure(self.lists);
+        figure(self.yards);
         figure(self.plans);
         figure(self.differences);
         text(b"\n");

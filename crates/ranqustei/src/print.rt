@@ -1,5 +1,7 @@
 // What the program prints for a survey.
 use console::number;
+use console::refusal;
+use console::row;
 use console::signed;
 use console::text;
 use encoding_numbers::read::read_u16;
@@ -7,21 +9,13 @@ use encoding_numbers::read::read_u32;
 use network::Answer;
 use network::Costs;
 use network::Status;
+use network::limits::HEAD_SIZE;
 use network::limits::MAX_NEED;
 use network::limits::MAX_PLANS;
 use planner::fetch_links;
 use planner::fetch_number;
 use planner::judge;
 use planner::list;
-
-// `refused N at P`
-fn refused(r: Status) {
-    text(b"refused ");
-    number(r.number as u64);
-    text(b" at ");
-    number(r.place as u64);
-    text(b"\n");
-}
 
 // The sum and the present ceiling costs.
 fn costs(v: Costs, p: u8) {
@@ -36,20 +30,6 @@ fn costs(v: Costs, p: u8) {
     }
 }
 
-// A space and a link number.
-fn link(c: u8) {
-    text(b" ");
-    number(c as u64);
-}
-
-fn links(ts: &[u8]) {
-    text(b" links");
-    for i in 0..ts.len() {
-        link(ts[i]);
-    }
-    text(b"\n");
-}
-
 // The line of plan r.
 fn line(survey: &[u8], plans: &[u8], r: u32, p: u8) {
     if fetch_number(plans, r) == 0 {
@@ -59,7 +39,8 @@ fn line(survey: &[u8], plans: &[u8], r: u32, p: u8) {
             return;
         };
         costs(v, p);
-        links(ts);
+        row(b" links", ts);
+        text(b"\n");
     }
 }
 
@@ -74,7 +55,7 @@ fn head(count: u16, solved: u32) {
 
 // The plans of a list.
 fn lines(survey: &[u8], plans: &[u8]) {
-    if 10 <= plans.len() {
+    if HEAD_SIZE <= plans.len() {
         let count = read_u16(plans, 2);
         let p = plans[9];
         head(count, read_u32(plans, 4));
@@ -89,7 +70,8 @@ fn reply(survey: &[u8], r: Status, plans: &[u8]) {
     if r.number == 0 {
         lines(survey, plans);
     } else {
-        refused(r);
+        refusal(r.number, r.place);
+        text(b"\n");
     }
 }
 

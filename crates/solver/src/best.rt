@@ -1,7 +1,7 @@
 // The best tree's links in the lent tree buffer.
 use network::Network;
 use solver_buffer::put_links;
-use solver_search::best_in_order;
+use solver_network::best_in_order;
 ghost use mathlib.Core.Path.{_≡_};
 ghost use Prim.Native.Nat.{_≤_};
 ghost use lib.ListN.{length, take};

@@ -20,8 +20,8 @@ pub fn solve(net: Network, order: &[u8], b1: i16, b2: i16, tree: &mut [u8]) -> A
         × (now (tree .exit) ≡ treeWith (best net (bounds net b1 b2)) (now (tree .entry))) ⌝ }
 {
     if best_links(net, order, b1, b2, tree) {
-        let n = net.n;
-        let t = (n - 1) as usize;
+        let n = net.n as usize;
+        let t = n - 1;
         return Answer::Plan(tree_costs(net, &tree[..t]));
     }
     Answer::Refused(Refusal {

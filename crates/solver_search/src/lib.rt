@@ -1,23 +1,16 @@
-// The best tree of a network under bounds, as flags, with the links in order of cost.
+// The best tree of links in order of cost, under ceilings that are flags and ranks.
 use exceptions::select::exceptions;
 use exceptions::select::normal_links;
-use exceptions_flags::above::above_flags;
-use exceptions_flags::above::rank;
 use kruskal::links::base_of;
-use network::Network;
 use search::consider_sets;
 use search_base::base::base_alone;
 use search_best::best::Best;
 ghost use mathlib.Core.Path.{_≡_};
-ghost use Prim.Native.Nat.{_-_};
-ghost use lib.ListN.{take};
-ghost use Rattle.network.specs.NetworkFine.{NetworkFine};
 ghost use Rattle.forest.specs.Groups.{apart};
-ghost use Rattle.kruskal_order.specs.ByCost.{linkOrder};
 ghost use Rattle.kruskal.specs.Tree.{Columns};
 ghost use Rattle.kruskal.specs.Base.{kept};
 ghost use Rattle.exceptions.specs.Select.{InOrder};
-ghost use Rattle.exceptions_flags.specs.Two.{FlagsSize, two, twoOf};
+ghost use Rattle.exceptions_flags.specs.Two.{FlagsSize, two};
 ghost use Rattle.search_best.specs.Sets.{trials};
 ghost use Rattle.search_best.specs.Search.{bestOf, nothing};
 ghost use Rattle.search_base.specs.Exceptional.{Exceptions};
@@ -52,7 +45,7 @@ fn best_from(
 }
 
 // The best tree of links in the given order, under ceilings with the ranks r and s and the flags v and w.
-fn best_of(
+pub fn best_of(
     ends: &[u8],
     sums: &[u32],
     goal: u8,
@@ -85,23 +78,4 @@ fn best_of(
         s,
         &odd[..odd_count],
     )
-}
-
-// The best tree of a network under the bounds b1 and b2.
-pub fn best_in_order(net: Network, order: &[u8], b1: i16, b2: i16) -> Best
-    requires { ⌜ NetworkFine net × (take (net .m) (now order) ≡ linkOrder (net .sums) (net .m)) ⌝ }
-    ensures { λ q. ⌜ q ≡ bestOf (net .ends) (net .sums) (net .n - 1) (twoOf net b1 b2) (linkOrder (net .sums) (net .m)) ⌝ }
-{
-    let p = net.p;
-    let m = net.m;
-    let k = net.k;
-    let goal = net.n - 1;
-    let ends = net.ends;
-    let sums = net.sums;
-    let costs = net.costs;
-    let r = rank(0 < p, k[0]);
-    let s = rank(1 < p, k[1]);
-    let v = above_flags(&costs, 0, 0 < p, b1);
-    let w = above_flags(&costs, 1, 1 < p, b2);
-    best_of(&ends, &sums, goal, &v, &w, r, s, &order[..m])
 }

@@ -1,12 +1,80 @@
-// The yards that are run and not proved: the calls' replies on both sides of each limit, held to the file `stdout`.
-mod asking;
-mod judging;
-mod listing;
+// The yards that are run and not proved. The file `stdin` has the cases, and the file `stdout` what the calls must reply.
+//
+// A line of the input is a word and numbers. These lines make a survey:
+//
+//     yard N P K1 K2          a survey begins with this yard record
+//     link A B S C1 C2        one link record more
+//     set I X                 byte I is X
+//     cut L                   the survey has L bytes
+//
+// and these print what stands before their colon, and what a call replies on that survey:
+//
+//     judge LINKS             the judge, with these links drawn
+//     ask L B1 B2             the ceilings question, and the tree buffer of L bytes after it
+//     plans L ALLOWANCE       the list call, and the list buffer of L bytes after it
+//     fetch L ALLOWANCE I X   the list call, and the plans 0, 1, 2 and 4,294,967,295 of its list with byte I as X
+//
+// The first letter of the word counts. A line with any other word is a remark.
+mod calls;
 mod report;
 mod yard;
 
+use console::line::Line;
+use console::part;
+use console::text;
+use std::num::wrapping_add_usize;
+use yard::Yard;
+
+const INPUT: i32 = 0;
+
+// The yard after a line.
+fn obey(yard: Yard, line: Line) -> Yard {
+    let word = line.word;
+    let numbers = line.numbers;
+    match word {
+        b'y' => yard.begin(numbers),
+        b'l' => yard.link(numbers),
+        b's' => yard.set(numbers),
+        b'c' => yard.cut(numbers),
+        _ => yard.call(line),
+    }
+}
+
+// The yard after a byte: a line is done where it ends.
+fn end(yard: Yard, line: Line, byte: u8) -> Yard {
+    if byte == b'\n' {
+        return obey(yard, line);
+    }
+    yard
+}
+
+// Where the line begins after a byte at an index; a colon ends its label.
+fn label(input: &[u8], from: usize, at: usize, byte: u8) -> usize {
+    if byte == b'\n' {
+        return wrapping_add_usize(at, 1);
+    }
+    if byte == b':' {
+        text(part(input, from, at));
+        text(b": ");
+    }
+    from
+}
+
+fn run(input: &[u8]) {
+    let mut yard = Yard::new();
+    let mut line = Line::new();
+    let mut from = 0;
+    for at in 0..input.len() {
+        let byte = input[at];
+        let read = line.read(byte);
+        yard = end(yard, read, byte);
+        from = label(input, from, at, byte);
+        line = read.rest(byte);
+    }
+}
+
 fn main() {
-    judging::run();
-    asking::run();
-    listing::run();
+    let mut input = io::large_buffer();
+    let len = io::read_full(INPUT, &mut input);
+    run(&input[..len]);
 }

@@ -1,55 +1,36 @@
-// One line for each case: what it is, and the reply.
+// The replies as text.
+use console::item;
 use console::number;
+use console::refusal;
 use console::signed;
 use console::text;
 use network::Answer;
 use network::Costs;
-use network::Refusal;
 use network::Status;
 
-// `refused N at P`
-fn refusal(r: Refusal) {
-    text(b"refused ");
-    number(r.number as u64);
-    text(b" at ");
-    number(r.place as u64);
+// A space and a ceiling cost.
+fn ceiling(y: i16) {
+    text(b" ");
+    signed(y);
 }
 
 // The sum, y1 and y2.
 fn costs(v: Costs) {
     number(v.sum as u64);
-    text(b" ");
-    signed(v.y1);
-    text(b" ");
-    signed(v.y2);
+    ceiling(v.y1);
+    ceiling(v.y2);
 }
 
 // The costs, or the refusal.
 pub fn answer(a: Answer) {
     match a {
         Answer::Plan(v) => costs(v),
-        Answer::Refused(r) => refusal(r),
-    }
-}
-
-// A word and a number.
-pub fn item(word: &[u8], n: u8) {
-    text(word);
-    number(n as u64);
-}
-
-// A word, and numbers after it.
-pub fn row(word: &[u8], links: &[u8]) {
-    text(word);
-    for i in 0..links.len() {
-        item(b" ", links[i]);
+        Answer::Refused(r) => refusal(r.number, r.place),
     }
 }
 
 // The number and place of a call that only fills a buffer.
-pub fn reply(r: Status) {
-    text(b"number ");
-    number(r.number as u64);
-    text(b" place ");
-    number(r.place as u64);
+pub fn status(r: Status) {
+    item(b"number ", r.number);
+    item(b" place ", r.place);
 }

@@ -2,6 +2,16 @@ use Prim.Native.Nat.{_≤_, _-_}
 use borrow.Author.Needs.{needs}
 use Rattle.exhaustive.proofs.main.Statement.{statement}
 use Rattle.exhaustive.proofs.main.Tie as tie
+use Rattle.exhaustive.proofs.main.Reads as reads
+use Rattle.exhaustive.proofs.main.Lts as lts
+use Rattle.alltrees.proofs.small.length.Reads as length-reads
+use Rattle.alltrees.proofs.small.make.Reads as make-reads
+use Rattle.alltrees.proofs.small.next.Reads as next-reads
+use Rattle.alltrees.proofs.small.survey_of.Reads as survey-of-reads
+use Rattle.console.proofs.part.Reads as part-reads
+use Rattle.exhaustive.proofs.compare.Reads as compare-reads
+use Rattle.exhaustive.proofs.tally.Tally.new.Reads as new-reads
+use Rattle.exhaustive.proofs.tally.Tally.print.Reads as print-reads
 
 abbrev Inv-loop : tie.InvT-loop
 Inv-loop x₀ tally₀ i₀ x tally i = i ≤ 560
@@ -21,8 +31,20 @@ next-requires c κs = search needs
 make-requires : tie.Need-make-requires Inv-loop μ-loop
 make-requires c κs = search needs
 
-survey-requires : tie.Need-survey-requires Inv-loop μ-loop
-survey-requires c κs = search needs
+survey-of-requires : tie.Need-survey-of-requires Inv-loop μ-loop
+survey-of-requires c κs = search needs
+
+slice-aggregate-part : tie.Need-slice-aggregate-part Inv-loop μ-loop
+slice-aggregate-part c = search needs
+
+length-requires : tie.Need-length-requires Inv-loop μ-loop
+length-requires c κs = search needs
+
+part-requires : tie.Need-part-requires Inv-loop μ-loop
+part-requires c κs = search needs
+
+compare-requires : tie.Need-compare-requires Inv-loop μ-loop
+compare-requires c κs = search needs
 
 add-i : tie.Need-add-i Inv-loop μ-loop
 add-i c = search needs
@@ -49,7 +71,11 @@ main-spec =
     loop-holds
     next-requires
     make-requires
-    survey-requires
+    survey-of-requires
+    slice-aggregate-part
+    length-requires
+    part-requires
+    compare-requires
     add-i
     loop-less
     loop-again

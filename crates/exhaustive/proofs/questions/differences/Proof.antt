@@ -2,11 +2,6 @@ use Prim.Native.Nat.{_≤_, _-_}
 use borrow.Author.Needs.{needs}
 use Rattle.exhaustive.proofs.questions.differences.Statement.{statement}
 use Rattle.exhaustive.proofs.questions.differences.Tie as tie
-use Rattle.exhaustive.proofs.questions.differences.Reads as reads
-use Rattle.exhaustive.proofs.questions.differences.Lts as lts
-use Rattle.exhaustive.proofs.questions.differs.Reads as differs-reads
-use Rattle.exhaustive.proofs.questions.wanted.Reads as wanted-reads
-use Rattle.std.proofs.num.wrapping_add_u64.Reads as wrapping-add-u64-reads
 
 abbrev Inv-loop : tie.InvT-loop
 Inv-loop survey yard trees n₀ i₀ n i = i ≤ 256
@@ -14,43 +9,33 @@ Inv-loop survey yard trees n₀ i₀ n i = i ≤ 256
 abbrev μ-loop : tie.MeasureT-loop
 μ-loop survey yard trees n₀ i₀ n i = 256 - i
 
--- src/questions.rt:127:5
 loop-holds : tie.Need-loop-holds Inv-loop μ-loop
 loop-holds c = search needs
 
--- src/questions.rt:128:18
 cast-b1 : tie.Need-cast-b1 Inv-loop μ-loop
 cast-b1 c = search needs
 
--- src/questions.rt:129:18
 cast-b2 : tie.Need-cast-b2 Inv-loop μ-loop
 cast-b2 c = search needs
 
--- src/questions.rt:130:41
 wanted-requires : tie.Need-wanted-requires Inv-loop μ-loop
 wanted-requires c κs = search needs
 
--- src/questions.rt:130:13
 differs-requires : tie.Need-differs-requires Inv-loop μ-loop
 differs-requires c κs = search needs
 
--- src/questions.rt:131:9
 wrapping-add-u64-requires : tie.Need-wrapping-add-u64-requires Inv-loop μ-loop
 wrapping-add-u64-requires c κs = search needs
 
--- src/questions.rt:127:9
 add-i : tie.Need-add-i Inv-loop μ-loop
 add-i c = search needs
 
--- src/questions.rt:127:5
 loop-less : tie.Need-loop-less Inv-loop μ-loop
 loop-less c = search needs
 
--- src/questions.rt:127:5
 loop-again : tie.Need-loop-again Inv-loop μ-loop
 loop-again c = search needs
 
--- src/questions.rt:125:1
 returns : tie.Need-returns Inv-loop μ-loop
 returns c = search needs
 

@@ -2,8 +2,6 @@ use Prim.Native.Nat.{_≤_, _-_}
 use borrow.Author.Needs.{needs}
 use Rattle.ranqustei.proofs.print.lines.Statement.{statement}
 use Rattle.ranqustei.proofs.print.lines.Tie as tie
-use Rattle.encoding_numbers.proofs.read.read_u16.Reads as read-u16-reads
-use Rattle.encoding_numbers.proofs.read.read_u32.Reads as read-u32-reads
 
 abbrev Inv-loop : tie.InvT-loop
 Inv-loop survey plans count p r₀ r = r ≤ count

@@ -15,11 +15,11 @@ start c = c .before .before .before .before
 best-links-requires : tie.Need-best-links-requires
 best-links-requires c κs = search needs
 
+cast-n : tie.Need-cast-n
+cast-n c = search needs
+
 sub-t : tie.Need-sub-t
 sub-t c = search needs
-
-cast-t : tie.Need-cast-t
-cast-t c = search needs
 
 slice-reshare-prefix-tree-costs : tie.Need-slice-reshare-prefix-tree-costs
 slice-reshare-prefix-tree-costs c = search needs
@@ -29,20 +29,20 @@ slice-aggregate-tree-costs c = sym (length-take-le _ _ (omega arith))
 
 tree-costs-requires : tie.Need-tree-costs-requires
 tree-costs-requires c κs =
-    let asked = c .before .before .before .before in
+    let asked = c .before .before .before .before .before in
     let i = start asked in
     let left = rw (toZ-ofZ (i .fits .b1), toZ-ofZ (i .fits .b2)) at (asked .best-links .ensures) in
-    (i .pre .0, front-links _ _ _ (i .pre .0) _ _ (sym (left .0) ∙ c .before .if1 .taken) (left .1))
+    (i .pre .0, front-links _ _ _ (i .pre .0) _ _ (sym (left .0) ∙ c .before .before .if1 .taken) (left .1))
 
 same-length : tie.Need-same-length
 same-length c = search needs
 
 returns : tie.Need-returns
 returns c =
-    let asked = c .before .before .before .before .before in
+    let asked = c .before .before .before .before .before .before in
     let i = start asked in
     let left = rw (toZ-ofZ (i .fits .b1), toZ-ofZ (i .fits .b2)) at (asked .best-links .ensures) in
-    let found = sym (left .0) ∙ c .before .before .if1 .taken in
+    let found = sym (left .0) ∙ c .before .before .before .if1 .taken in
     (front-answer _ _ _ (i .pre .0) _ _ found (left .1) _ (c .tree-costs .ensures), left .1)
 
 same-length-2 : tie.Need-same-length-2
@@ -60,8 +60,8 @@ solve-spec =
     tie.close
     (tie.spec
     best-links-requires
+    cast-n
     sub-t
-    cast-t
     slice-reshare-prefix-tree-costs
     slice-aggregate-tree-costs
     tree-costs-requires

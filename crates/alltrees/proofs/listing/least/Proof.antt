@@ -1,0 +1,49 @@
+use Prim.Native.Nat.{_≤_, _-_}
+use borrow.Author.Needs.{needs}
+use Rattle.alltrees.proofs.listing.least.Statement.{statement}
+use Rattle.alltrees.proofs.listing.least.Tie as tie
+
+abbrev Inv-loop : tie.InvT-loop
+Inv-loop from c1 c2 bits trees best₀ i₀ best i = i ≤ 128
+
+abbrev μ-loop : tie.MeasureT-loop
+μ-loop from c1 c2 bits trees best₀ i₀ best i = 128 - i
+
+loop-holds : tie.Need-loop-holds Inv-loop μ-loop
+loop-holds c = search needs
+
+mul-lesser : tie.Need-mul-lesser Inv-loop μ-loop
+mul-lesser c = search needs
+
+array-read-lesser : tie.Need-array-read-lesser Inv-loop μ-loop
+array-read-lesser c = search needs
+
+lesser-requires : tie.Need-lesser-requires Inv-loop μ-loop
+lesser-requires c κs = search needs
+
+add-i : tie.Need-add-i Inv-loop μ-loop
+add-i c = search needs
+
+loop-less : tie.Need-loop-less Inv-loop μ-loop
+loop-less c = search needs
+
+loop-again : tie.Need-loop-again Inv-loop μ-loop
+loop-again c = search needs
+
+returns : tie.Need-returns Inv-loop μ-loop
+returns c = search needs
+
+pub least-spec : {M : Type 1} → statement M
+least-spec =
+    tie.close
+    (tie.spec
+    Inv-loop
+    μ-loop
+    loop-holds
+    mul-lesser
+    array-read-lesser
+    lesser-requires
+    add-i
+    loop-less
+    loop-again
+    returns)

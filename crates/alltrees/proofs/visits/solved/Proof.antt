@@ -1,0 +1,45 @@
+use Prim.Native.Nat.{_≤_, _-_}
+use borrow.Author.Needs.{needs}
+use Rattle.alltrees.proofs.visits.solved.Statement.{statement}
+use Rattle.alltrees.proofs.visits.solved.Tie as tie
+
+abbrev Inv-loop : tie.InvT-loop
+Inv-loop yard trees walk₀ i₀ walk i = i ≤ 64
+
+abbrev μ-loop : tie.MeasureT-loop
+μ-loop yard trees walk₀ i₀ walk i = 64 - i
+
+loop-holds : tie.Need-loop-holds Inv-loop μ-loop
+loop-holds c = search needs
+
+sub-visit : tie.Need-sub-visit Inv-loop μ-loop
+sub-visit c = search needs
+
+visit-requires : tie.Need-visit-requires Inv-loop μ-loop
+visit-requires c κs = search needs
+
+add-i : tie.Need-add-i Inv-loop μ-loop
+add-i c = search needs
+
+loop-less : tie.Need-loop-less Inv-loop μ-loop
+loop-less c = search needs
+
+loop-again : tie.Need-loop-again Inv-loop μ-loop
+loop-again c = search needs
+
+returns : tie.Need-returns Inv-loop μ-loop
+returns c = search needs
+
+pub solved-spec : {M : Type 1} → statement M
+solved-spec =
+    tie.close
+    (tie.spec
+    Inv-loop
+    μ-loop
+    loop-holds
+    sub-visit
+    visit-requires
+    add-i
+    loop-less
+    loop-again
+    returns)

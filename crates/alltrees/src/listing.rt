@@ -1,0 +1,157 @@
+// All trees of a yard with their costs, first trees first. A set of links has bit 6 - e for link e, so that of two sets of one size the greater
+// is first in dictionary order. A tree is a word that holds, from the low end, 127 less its set, y2 and y1 as codes, and the sum.
+use crate::small::Yard;
+use crate::small::ZERO;
+use crate::small::byte;
+use crate::small::pair;
+use std::num::wrapping_add_u8;
+use std::num::wrapping_add_u64;
+use std::num::wrapping_sub_u8;
+use std::num::wrapping_sub_u64;
+
+// How many sets of seven links there are.
+pub const SETS: usize = 128;
+
+// No tree: above every tree, with no links and the least codes.
+pub const NONE: u64 = 0x100000000000007F;
+
+pub fn set_of(tree: u64) -> u8 {
+    127 - (tree % 128) as u8
+}
+
+pub fn y2(tree: u64) -> u8 {
+    (tree / 256 % 16) as u8
+}
+
+pub fn y1(tree: u64) -> u8 {
+    (tree / 4096 % 16) as u8
+}
+
+pub fn sum_of(tree: u64) -> u32 {
+    (tree / 65536 % 256 * 65537) as u32
+}
+
+// How many members a set has.
+fn size(set: u8) -> u32 {
+    u8::count_ones(set)
+}
+
+// Link j of a set, counted from 0, or what stands past the last: as many links as there are up to which the set has at most j.
+pub fn link_at(set: u8, j: usize, past: u8) -> u8 {
+    let mut link = 0;
+    for e in 0..7u8 {
+        link = wrapping_add_u8(link, (size(set >> (6 - e)) as usize <= j) as u8);
+    }
+    if link < 7 { link } else { past }
+}
+
+// The stations reached, with both of link e where the set has it and one is reached.
+fn reach(yard: Yard, set: u8, reached: u8, e: u8) -> u8 {
+    let ends = pair(yard, e);
+    let both = 1 << (ends % 8) | 1 << (ends / 256 % 8);
+    if (set >> (6 - e % 7) & 1 == 1) & (reached & both != 0) {
+        return reached | both;
+    }
+    reached
+}
+
+// The stations reached from station 0, in five turns through the links.
+fn reached(yard: Yard, set: u8) -> u8 {
+    let mut r = 1;
+    for i in 0..35u8 {
+        r = reach(yard, set, r, i % 7);
+    }
+    r
+}
+
+// Whether a set is a tree: no link past the last, fewer links than stations, and all stations reached.
+fn is_tree(yard: Yard, set: u8) -> bool {
+    let n = byte(yard.kind, 0) as u32;
+    let stations = size(reached(yard, set));
+    (set & 127 >> (yard.m % 8) == 0) & (size(set) < n) & (stations == n)
+}
+
+// The links of a set in a column: byte e has all bits where the set has link e.
+fn column(set: u8) -> u64 {
+    let tops = set as u64 * 0x0080402010080402 & 0x0080808080808080;
+    wrapping_sub_u64(tops << 1, tops >> 7)
+}
+
+// How many links of a set have a code at or above one.
+pub fn at_or_above(costs: u64, set: u8, code: u8) -> u32 {
+    let over = wrapping_add_u64(costs, wrapping_sub_u8(8, code) as u64 * 0x0101010101010101);
+    u64::count_ones(over & 0x0808080808080808 & column(set))
+}
+
+// A code raised by so much, if at least k links are at or above it then.
+fn raised(costs: u64, set: u8, k: u8, code: u8, more: u8) -> u8 {
+    if k as u32 <= at_or_above(costs, set, code | more) {
+        return code | more;
+    }
+    code
+}
+
+// The code of the k-th largest cost: the greatest that at least k links are at or above. The rank 0 of an absent ceiling gives the code of the
+// cost 0.
+fn kth(costs: u64, set: u8, k: u8) -> u8 {
+    if k == 0 {
+        return ZERO;
+    }
+    raised(
+        costs,
+        set,
+        k,
+        raised(costs, set, k, raised(costs, set, k, 0, 4), 2),
+        1,
+    )
+}
+
+// The costs of a set as a tree's word has them. The bytes of a column are summed by the remainder of 255.
+fn costs(yard: Yard, set: u8) -> u64 {
+    let s = (yard.sums & column(set)) % 255;
+    let c1 = kth(yard.costs1, set, byte(yard.kind, 2)) as u64;
+    let c2 = kth(yard.costs2, set, byte(yard.kind, 3)) as u64;
+    256 * c2 + 4096 * c1 + 65536 * s
+}
+
+// The tree at an index of the list, or none.
+fn tree(yard: Yard, i: usize) -> u64 {
+    let low = i as u64 % 128;
+    let set = set_of(low);
+    if is_tree(yard, set) {
+        return costs(yard, set) | low;
+    }
+    NONE
+}
+
+// The trees of a yard, each in its set's place, the greatest set first.
+pub fn trees_of(yard: Yard) -> [u64; SETS] {
+    let mut list = [NONE; SETS];
+    for i in 0..SETS {
+        list[i] = tree(yard, i);
+    }
+    list
+}
+
+// The lesser of two trees without their last bits, the second if it fits under two codes and is not below a given one.
+fn lesser(least: u64, tree: u64, from: u64, c1: u8, c2: u8, bits: u8) -> u64 {
+    let fits = (from <= tree) & (y1(tree) <= c1) & (y2(tree) <= c2);
+    if fits & (tree >> (bits % 64) < least >> (bits % 64)) {
+        return tree;
+    }
+    least
+}
+
+// Of the trees from a given one on that fit under two codes the least without its last bits, the first of several, or none.
+pub fn least(trees: [u64; SETS], from: u64, c1: u8, c2: u8, bits: u8) -> u64 {
+    let mut best = NONE;
+    for i in 0..SETS {
+        best = lesser(best, trees[i], from, c1, c2, bits);
+    }
+    best
+}
+
+// The best tree under two codes: the first of the least sum.
+pub fn best_of(trees: [u64; SETS], c1: u8, c2: u8) -> u64 {
+    least(trees, 0, c1, c2, 16)
+}

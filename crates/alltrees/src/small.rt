@@ -1,0 +1,186 @@
+// Small yards, made of numbers drawn, and their surveys. A record is written as words, whose bytes are the record's, low byte first. Eight
+// ceiling costs occur; in all but the survey a cost is its code, 0 to 7 in rising order.
+
+// n, p, k1 and k2 of every kind of yard of up to five stations, and then how many pairs of stations it has, or 1.
+const KINDS: [u64; 28] = [
+    0x0100000001,
+    0x0200000002,
+    0x0200010102,
+    0x0201010202,
+    0x0600000003,
+    0x0600010103,
+    0x0600020103,
+    0x0601010203,
+    0x0601020203,
+    0x0602010203,
+    0x0C00000004,
+    0x0C00010104,
+    0x0C00020104,
+    0x0C00030104,
+    0x0C01010204,
+    0x0C01020204,
+    0x0C01030204,
+    0x0C02010204,
+    0x0C03010204,
+    0x1400000005,
+    0x1400010105,
+    0x1400020105,
+    0x1400030105,
+    0x1401010205,
+    0x1401020205,
+    0x1401030205,
+    0x1402010205,
+    0x1403010205,
+];
+
+// The stations of a link: the first n * (n - 1) pairs are those of n stations.
+const PAIRS: [u16; 20] = [
+    0x0100,
+    0x0001,
+    0x0200,
+    0x0002,
+    0x0201,
+    0x0102,
+    0x0300,
+    0x0003,
+    0x0301,
+    0x0103,
+    0x0302,
+    0x0203,
+    0x0400,
+    0x0004,
+    0x0401,
+    0x0104,
+    0x0402,
+    0x0204,
+    0x0403,
+    0x0304,
+];
+
+// The cost of a code: -32,768, -256, -1, 0, 1, 255, 256 and 32,767.
+const COSTS: [u16; 8] = [
+    0x8000,
+    0xFF00,
+    0xFFFF,
+    0x0000,
+    0x0001,
+    0x00FF,
+    0x0100,
+    0x7FFF,
+];
+
+// The code of the cost 0, and that for every link.
+pub const ZERO: u8 = 3;
+
+const ZEROS: u64 = 0x0303030303030303;
+
+// A yard of a kind with m links. Byte e of a column belongs to link e: a number that gives one of so many pairs of stations, its sum cost in
+// steps of 65,537, and the codes of its ceiling costs.
+pub struct Yard {
+    pub kind: u64,
+    pub m: u8,
+    pub pairs: u64,
+    pub sums: u64,
+    pub costs1: u64,
+    pub costs2: u64,
+}
+
+// The number after x in a sequence that looks drawn.
+pub fn next(x: u64) -> u64 {
+    let y = x ^ (x << 13);
+    let z = y ^ (y >> 7);
+    z ^ (z << 17)
+}
+
+// Byte i of a word.
+pub fn byte(word: u64, i: u8) -> u8 {
+    ((word >> (8 * (i % 8))) % 256) as u8
+}
+
+// How many links: up to 7, and 7 most often; none where there is one station.
+fn links(x: u64, n: u8) -> u8 {
+    let m = x % 16;
+    if n == 1 {
+        return 0;
+    }
+    if m < 7 { m as u8 } else { 7 }
+}
+
+// Codes for all links where the ceiling is present.
+fn codes(x: u64, present: bool) -> u64 {
+    if present {
+        return x & 0x0707070707070707;
+    }
+    ZEROS
+}
+
+// The yard of a number, every kind in its turn.
+pub fn make(i: u32, x: u64) -> Yard {
+    let kind = KINDS[(i % 28) as usize];
+    let p = byte(kind, 1);
+    let pairs = next(x);
+    let sums = next(pairs);
+    let costs = next(sums);
+    Yard {
+        kind,
+        m: links(x, byte(kind, 0)),
+        pairs,
+        sums: sums & 0x0303030303030303,
+        costs1: codes(costs, p > 0),
+        costs2: codes(next(costs), p > 1),
+    }
+}
+
+// The two stations of link e.
+pub fn pair(yard: Yard, e: u8) -> u16 {
+    let choices = byte(yard.kind, 4);
+    if choices == 0 {
+        return 0;
+    }
+    PAIRS[(byte(yard.pairs, e) % choices % 20) as usize]
+}
+
+pub fn cost(code: u8) -> u16 {
+    COSTS[(code % 8) as usize]
+}
+
+// The mark, stations and sum cost of a link.
+fn link_record(yard: Yard, e: u8) -> u64 {
+    let ends = pair(yard, e) as u64;
+    let s = byte(yard.sums, e) as u64;
+    0x4B4C + 65536 * ends + 4294967296 * 65537 * s
+}
+
+// The ceiling costs of a link.
+fn link_costs(yard: Yard, e: u8) -> u64 {
+    let c1 = cost(byte(yard.costs1, e)) as u64;
+    let c2 = cost(byte(yard.costs2, e)) as u64;
+    c1 + 65536 * c2
+}
+
+// The byte of the survey at an index.
+fn survey_byte(yard: Yard, i: usize) -> u8 {
+    if i < 6 {
+        return byte(0x4459 + 65536 * (yard.kind % 4294967296), i as u8);
+    }
+    let e = ((i - 6) / 12 % 8) as u8;
+    let at = ((i - 6) % 12) as u8;
+    if at < 8 {
+        return byte(link_record(yard, e), at);
+    }
+    byte(link_costs(yard, e), at)
+}
+
+// The survey of a yard, with room for seven links.
+pub fn survey_of(yard: Yard) -> [u8; 90] {
+    let mut survey = [0u8; 90];
+    for i in 0..90usize {
+        survey[i] = survey_byte(yard, i);
+    }
+    survey
+}
+
+// How many bytes the survey has.
+pub fn length(yard: Yard) -> usize {
+    6 + 12 * (yard.m as usize)
+}

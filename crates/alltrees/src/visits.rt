@@ -1,0 +1,68 @@
+// The walk of document 01 with a mark for each position, for its solved count. A position is a pair of codes, visited by falling codes;
+// those whose costs no link has are passed over.
+use crate::listing::SETS;
+use crate::listing::at_or_above;
+use crate::listing::best_of;
+use crate::listing::y1;
+use crate::listing::y2;
+use crate::small::Yard;
+use crate::small::ZERO;
+use crate::small::byte;
+use std::num::wrapping_add_u32;
+
+// The positions marked, bit 8 * c1 + c2 for codes c1 and c2, and how many were solved.
+pub struct Walk {
+    pub marks: u64,
+    pub solved: u32,
+}
+
+// Every position.
+const EVERY: u64 = 0xFFFFFFFFFFFFFFFF;
+
+// Whether one of the first m links has a code; an absent ceiling has the one code of the cost 0.
+fn occurs(costs: u64, m: u8, present: bool, code: u8) -> bool {
+    let all = 127 ^ 127 >> (m % 8);
+    if present {
+        return at_or_above(costs, all, code % 8) != at_or_above(costs, all, code % 8 + 1);
+    }
+    code == ZERO
+}
+
+// Whether a position is there and not marked.
+fn is_open(yard: Yard, marks: u64, q: u8) -> bool {
+    let p = byte(yard.kind, 1);
+    let there = occurs(yard.costs1, yard.m, p > 0, q / 8)
+        & occurs(yard.costs2, yard.m, p > 1, q % 8);
+    there & (marks >> (q % 64) & 1 == 0)
+}
+
+// The marks of the positions between two, both included.
+fn between(low1: u8, high1: u8, low2: u8, high2: u8) -> u64 {
+    let row = (255 >> (7 - high2 % 8) & 255 << (low2 % 8)) % 256;
+    let rows = EVERY >> (8 * (7 - high1 % 8)) & EVERY << (8 * (low1 % 8));
+    row * 0x0101010101010101 & rows
+}
+
+// The walk after a position. Found, a tree marks through its own codes; none found marks through the least.
+fn visit(walk: Walk, yard: Yard, trees: [u64; SETS], q: u8) -> Walk {
+    if is_open(yard, walk.marks, q) {
+        let tree = best_of(trees, q / 8, q % 8);
+        return Walk {
+            marks: walk.marks | between(y1(tree), q / 8, y2(tree), q % 8),
+            solved: wrapping_add_u32(walk.solved, 1),
+        };
+    }
+    walk
+}
+
+// The solved count.
+pub fn solved(yard: Yard, trees: [u64; SETS]) -> u32 {
+    let mut walk = Walk {
+        marks: 0,
+        solved: 0,
+    };
+    for i in 0..64u8 {
+        walk = visit(walk, yard, trees, 63 - i);
+    }
+    walk.solved
+}

@@ -3,7 +3,6 @@ use exceptions_flags::admitted::is_exception;
 use exceptions_flags::admitted::is_normal;
 use kruskal::links::Links;
 use network::limits::MAX_LINKS;
-ghost use mathlib.Core.Path.{_≡_};
 ghost use Rattle.order.specs.Lists.{filter};
 ghost use Rattle.kruskal.specs.Tree.{Walkable};
 ghost use Rattle.kruskal.specs.Base.{Holding};

@@ -17,7 +17,7 @@ ghost use Rattle.search_base.specs.Rest.{restOf};
 ghost use Rattle.search_base.specs.Exceptional.{Exceptions};
 ghost use Rattle.search.specs.Loops.{searched, withPairs};
 
-// The sets of one link and each exception from place i on. Exceptions come in rising order of cost, so that the sets behind one that loses
+// The sets of one link and each of the odd links from place i on. These come in rising order of cost, so that the sets behind one that loses
 // lose too.
 fn consider_pairs(
     ends: &[u8],
@@ -30,15 +30,15 @@ fn consider_pairs(
     s: u8,
     rest: Rest,
     link: u8,
-    exceptions: &[u8],
+    odd: &[u8],
     i: usize,
     b: Best,
 ) -> Best
     requires { ⌜ Columns (now ends) (now sums) × InOrder (now sums) (now base) × FlagsSize (now v) (now w) × Usable (now sums) link
-        × InOrder (now sums) (now exceptions) × (rest ≡ restOf (now sums) (now base) goal 2)
-        × (exception (two r (now v) s (now w)) link ≡ true) × Exceptions (two r (now v) s (now w)) (now exceptions) ⌝ }
+        × InOrder (now sums) (now odd) × (rest ≡ restOf (now sums) (now base) goal 2)
+        × (exception (two r (now v) s (now w)) link ≡ true) × Exceptions (two r (now v) s (now w)) (now odd) ⌝ }
     ensures { λ q. ⌜ q ≡ withPairs (now (ends .entry)) (now (sums .entry)) goal (two r (now (v .entry)) s (now (w .entry)))
-        (now (base .entry)) b link (now (exceptions .entry)) i ⌝ }
+        (now (base .entry)) b link (now (odd .entry)) i ⌝ }
 {
     if !pairs_fit(r, s) {
         return b;
@@ -46,8 +46,8 @@ fn consider_pairs(
     let cost = sum_at(sums, link);
     let mut best = b;
     let mut j = i;
-    while j < exceptions.len() {
-        let other = exceptions[j];
+    while j < odd.len() {
+        let other = odd[j];
         if rest.loses(cost + sum_at(sums, other), best.found, best.sum) {
             return best;
         }
@@ -57,7 +57,7 @@ fn consider_pairs(
     best
 }
 
-// The sets of one and of two of the exceptions.
+// The sets of one and of two of the odd links, the exceptions.
 pub fn consider_sets(
     ends: &[u8],
     sums: &[u32],
@@ -67,35 +67,21 @@ pub fn consider_sets(
     w: &[u8],
     r: u8,
     s: u8,
-    exceptions: &[u8],
+    odd: &[u8],
     b: Best,
 ) -> Best
     requires { ⌜ Columns (now ends) (now sums) × InOrder (now sums) (now base) × FlagsSize (now v) (now w)
-        × InOrder (now sums) (now exceptions) × Exceptions (two r (now v) s (now w)) (now exceptions) ⌝ }
+        × InOrder (now sums) (now odd) × Exceptions (two r (now v) s (now w)) (now odd) ⌝ }
     ensures { λ q. ⌜ q ≡ searched (now (ends .entry)) (now (sums .entry)) goal (two r (now (v .entry)) s (now (w .entry)))
-        (now (base .entry)) b (sets (now (exceptions .entry))) ⌝ }
+        (now (base .entry)) b (sets (now (odd .entry))) ⌝ }
 {
     let one = rest_of(sums, base, goal, 1);
     let two = rest_of(sums, base, goal, 2);
     let mut best = b;
-    for i in 0..exceptions.len() {
-        let link = exceptions[i];
-        best = consider_one(ends, sums, base, goal, v, w, r, s, one, link, best);
-        best = consider_pairs(
-            ends,
-            sums,
-            base,
-            goal,
-            v,
-            w,
-            r,
-            s,
-            two,
-            link,
-            exceptions,
-            i + 1,
-            best,
-        );
+    for i in 0..odd.len() {
+        let e = odd[i];
+        best = consider_one(ends, sums, base, goal, v, w, r, s, one, e, best);
+        best = consider_pairs(ends, sums, base, goal, v, w, r, s, two, e, odd, i + 1, best);
     }
     best
 }

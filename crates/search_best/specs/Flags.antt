@@ -68,7 +68,8 @@ flag-set flags e x f = go (ℕ-discrete x e)
     go (yes q) = inl q
     go (no n) = inr (sym (getD-set-other flags e x true false n) ∙ f)
 
-flags-from : (ts : List ℕ) (flags : List Bool) (x : ℕ) → x < length flags → (x ∈ ts) ⊎ (getD flags x false ≡ true) → getD (foldl withFlag flags ts) x false ≡ true
+flags-from : (ts : List ℕ) (flags : List Bool) (x : ℕ) → x < length flags → (x ∈ ts) ⊎ (getD flags x false ≡ true)
+    → getD (foldl withFlag flags ts) x false ≡ true
 flags-from [] flags x h (inl m) = elim m [ ]
 flags-from [] flags x h (inr f) = f
 flags-from (t ∷ ts) flags x h s = flags-from ts (withFlag flags t) x (omega (arith, length-set flags t true)) (go s)

@@ -16,18 +16,18 @@ use Rattle.search.proofs.consider_pairs.Statement.{statement}
 use Rattle.search.proofs.consider_pairs.Tie as tie
 
 abbrev Inv-loop : tie.InvT-loop
-Inv-loop ends sums base goal v w r s rest link exceptions i cost best₀ j₀ best j =
-    withPairs ends sums goal (two r v s w) base best link exceptions j ≡ withPairs ends sums goal (two r v s w) base best₀ link exceptions i
+Inv-loop ends sums base goal v w r s rest link odd i cost best₀ j₀ best j =
+    withPairs ends sums goal (two r v s w) base best link odd j ≡ withPairs ends sums goal (two r v s w) base best₀ link odd i
 
 abbrev μ-loop : tie.MeasureT-loop
-μ-loop ends sums base goal v w r s rest link exceptions i cost best₀ j₀ best j = length exceptions - j
+μ-loop ends sums base goal v w r s rest link odd i cost best₀ j₀ best j = length odd - j
 
 -- where the function was called, seen from a turn
 abbrev start : tie.In-loop Inv-loop μ-loop → tie.Start Inv-loop μ-loop
 start c = c .before .before .before .before .before .before .before .before .before .before .before
 
 -- the other link of the pair
-other : (c : tie.In-loop Inv-loop μ-loop) → Usable (start c .args .sums .now) (getD (start c .args .exceptions .now) (c .before .loop .j) 0)
+other : (c : tie.In-loop Inv-loop μ-loop) → Usable (start c .args .sums .now) (getD (start c .args .odd .now) (c .before .loop .j) 0)
 other c = usable-at (c .before .loop .j) (start c .pre .4 .walkable) (c .loop-test .taken)
 
 pairs-fit-requires : tie.Need-pairs-fit-requires Inv-loop μ-loop

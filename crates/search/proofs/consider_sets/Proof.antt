@@ -13,20 +13,20 @@ use Rattle.search.proofs.consider_sets.Statement.{statement}
 use Rattle.search.proofs.consider_sets.Tie as tie
 
 abbrev Inv-loop : tie.InvT-loop
-Inv-loop ends sums base goal v w r s exceptions one two best₀ i₀ i-end best i =
+Inv-loop ends sums base goal v w r s odd one two best₀ i₀ i-end best i =
     let cs = ceilings.two r v s w in
-    (i-end ≡ length exceptions)
-    × (withSets ends sums goal cs base best exceptions i ≡ searched ends sums goal cs base best₀ (sets exceptions))
+    (i-end ≡ length odd)
+    × (withSets ends sums goal cs base best odd i ≡ searched ends sums goal cs base best₀ (sets odd))
 
 abbrev μ-loop : tie.MeasureT-loop
-μ-loop ends sums base goal v w r s exceptions one two best₀ i₀ i-end best i = i-end - i
+μ-loop ends sums base goal v w r s odd one two best₀ i₀ i-end best i = i-end - i
 
 -- where the function was called, seen from the loop's start
 abbrev start : tie.At-loop Inv-loop μ-loop → tie.Start Inv-loop μ-loop
 start c = c .before .before .before .before .before .before .before .before .before
 
 -- a turn's place is one of the exceptions'
-within : (c : tie.In-loop Inv-loop μ-loop) → c .before .loop .i < length (start (c .before) .args .exceptions .now)
+within : (c : tie.In-loop Inv-loop μ-loop) → c .before .loop .i < length (start (c .before) .args .odd .now)
 within c = omega arith
 
 rest-of-requires : tie.Need-rest-of-requires Inv-loop μ-loop
@@ -38,8 +38,8 @@ rest-of-requires-2 c κs = let p = c .before .before .before .before .before .be
 loop-holds : tie.Need-loop-holds Inv-loop μ-loop
 loop-holds c = (refl, sets-start _ _ _ _ _ _ _)
 
-shared-slice-read-link : tie.Need-shared-slice-read-link Inv-loop μ-loop
-shared-slice-read-link c = search needs
+shared-slice-read-e : tie.Need-shared-slice-read-e Inv-loop μ-loop
+shared-slice-read-e c = search needs
 
 consider-one-requires : tie.Need-consider-one-requires Inv-loop μ-loop
 consider-one-requires c κs =
@@ -70,7 +70,7 @@ loop-again c =
 
 returns : tie.Need-returns Inv-loop μ-loop
 returns c =
-    let h : length (start (c .before) .args .exceptions .now) ≤ c .before .loop .i = omega arith in
+    let h : length (start (c .before) .args .odd .now) ≤ c .before .loop .i = omega arith in
     sets-end _ _ _ _ _ _ _ _ _ h (c .before .loop .inv .1)
 
 pub consider-sets-spec : {M : Type 1} → statement M
@@ -82,7 +82,7 @@ consider-sets-spec =
     rest-of-requires
     rest-of-requires-2
     loop-holds
-    shared-slice-read-link
+    shared-slice-read-e
     consider-one-requires
     add-consider-pairs
     consider-pairs-requires

@@ -1,5 +1,5 @@
--- `walk_positions::positions::visit_all` meets its contract. The invariant: marks, records and counts are those of the entries that the walk has solved among the
--- first n positions, and no more are solved than allowed.
+-- `walk_positions::positions::visit_all` meets its contract. The invariant: marks, records and counts are those of the entries that the walk has
+-- solved among the first n positions, and no more are solved than allowed.
 use mathlib.Core.Path.{_≡_, refl, subst⁻¹}
 use Prim.Native.Nat.{ℕ, _+_, _*_, _-_, _≤_, _<_}
 use native.Mathlib.Nat.{mul-le-mul-right}

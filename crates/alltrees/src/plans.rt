@@ -14,6 +14,9 @@ use std::num::wrapping_add_u16;
 use std::num::wrapping_add_u64;
 use std::num::wrapping_sub_u8;
 
+// Bytes of a list's head, and of a plan record before its links.
+const HEAD: usize = 10;
+
 // More plans than a list here has.
 const ROWS: usize = 72;
 
@@ -88,26 +91,26 @@ fn plan_head(plan: u64) -> u64 {
     0x4C50 + 65536 * (sum_of(plan) as u64) + 281474976710656 * (cost(y1(plan)) as u64)
 }
 
-// Byte i of a record: eight bytes of one word, two of another, and the links of a set.
+// Byte i of a record: eight bytes of one word, two of another, and then the links of a set.
 fn record_byte(head: u64, tail: u64, set: u8, i: usize) -> u8 {
     if i < 8 {
         return byte(head, i as u8);
     }
-    if i < 10 {
+    if i < HEAD {
         return byte(tail, i as u8);
     }
-    link_at(set, i - 10, 0)
+    link_at(set, i - HEAD, 0)
 }
 
 // Byte i of a list; past the last plan all are 0.
 fn list_byte(list: List, i: usize) -> u8 {
     let rows = list.rows;
     let tail = list.tail;
-    if i < 10 {
+    if i < HEAD {
         return record_byte(list.head, tail, 0, i);
     }
-    let size = 10 + (tail % 256) as usize;
-    let plan = rows[(i - 10) / size % ROWS];
+    let size = HEAD + (tail % 256) as usize;
+    let plan = rows[(i - HEAD) / size % ROWS];
     if plan == NONE {
         return 0;
     }
@@ -115,7 +118,7 @@ fn list_byte(list: List, i: usize) -> u8 {
         plan_head(plan),
         cost(y2(plan)) as u64,
         set_of(plan),
-        (i - 10) % size,
+        (i - HEAD) % size,
     )
 }
 

@@ -1,8 +1,11 @@
 // Small yards, made of numbers drawn, and their surveys. A record is written as words, whose bytes are the record's, low byte first. Eight
 // ceiling costs occur; in all but the survey a cost is its code, 0 to 7 in rising order.
 
-// n, p, k1 and k2 of every kind of yard of up to five stations, and then how many pairs of stations it has, or 1.
-const KINDS: [u64; 28] = [
+// How many kinds of yards there are: n, p, k1 and k2 for up to five stations.
+pub const KINDS: u32 = 28;
+
+// n, p, k1 and k2 of each kind, and then how many pairs of stations it has, or 1.
+const KIND: [u64; 28] = [
     0x0100000001,
     0x0200000002,
     0x0200010102,
@@ -116,7 +119,7 @@ fn codes(x: u64, present: bool) -> u64 {
 
 // The yard of a number, every kind in its turn.
 pub fn make(i: u32, x: u64) -> Yard {
-    let kind = KINDS[(i % 28) as usize];
+    let kind = KIND[(i % KINDS) as usize];
     let p = byte(kind, 1);
     let pairs = next(x);
     let sums = next(pairs);

@@ -6,6 +6,7 @@ mod tally;
 
 use alltrees::listing::trees_of;
 use alltrees::plans::plans_of;
+use alltrees::small::KINDS;
 use alltrees::small::Yard;
 use alltrees::small::length;
 use alltrees::small::make;
@@ -13,6 +14,9 @@ use alltrees::small::next;
 use alltrees::small::survey_of;
 use console::part;
 use tally::Tally;
+
+// Every kind of yard twenty times.
+const YARDS: u32 = 20 * KINDS;
 
 // A yard's trees, and both comparisons.
 fn compare(survey: &[u8], yard: Yard, tally: Tally) -> Tally {
@@ -26,7 +30,7 @@ fn compare(survey: &[u8], yard: Yard, tally: Tally) -> Tally {
 fn main() {
     let mut x = 1;
     let mut tally = Tally::new();
-    for i in 0..560u32 {
+    for i in 0..YARDS {
         x = next(x);
         let yard = make(i, x);
         let survey = survey_of(yard);

@@ -27,12 +27,15 @@ use yard::Yard;
 
 const INPUT: i32 = 0;
 
-// The yard after a line.
-fn obey(yard: Yard, line: Line) -> Yard {
+// The yard after a byte: a line that it ends is obeyed.
+fn obey(yard: Yard, line: Line, byte: u8) -> Yard {
     let word = line.word;
     let numbers = line.numbers;
+    if byte != b'\n' {
+        return yard;
+    }
     match word {
-        b'y' => yard.begin(numbers),
+        b'y' => Yard::begin(numbers),
         b'l' => yard.link(numbers),
         b's' => yard.set(numbers),
         b'c' => yard.cut(numbers),
@@ -40,15 +43,7 @@ fn obey(yard: Yard, line: Line) -> Yard {
     }
 }
 
-// The yard after a byte: a line is done where it ends.
-fn end(yard: Yard, line: Line, byte: u8) -> Yard {
-    if byte == b'\n' {
-        return obey(yard, line);
-    }
-    yard
-}
-
-// Where the line begins after a byte at an index; a colon ends its label.
+// Where the line begins after a byte at an index; a colon has its label printed.
 fn label(input: &[u8], from: usize, at: usize, byte: u8) -> usize {
     if byte == b'\n' {
         return wrapping_add_usize(at, 1);
@@ -67,7 +62,7 @@ fn run(input: &[u8]) {
     for at in 0..input.len() {
         let byte = input[at];
         let read = line.read(byte);
-        yard = end(yard, read, byte);
+        yard = obey(yard, read, byte);
         from = label(input, from, at, byte);
         line = read.rest(byte);
     }

@@ -4,10 +4,11 @@ use console::line::Line;
 use console::line::NUMBERS;
 use console::part;
 use encoding_writes::write_u32;
+use network::limits::MAX_LINKS;
 use std::num::wrapping_add_usize;
 
-// Room for a survey of more links than there may be.
-const ROOM: usize = 512;
+// More bytes than a survey of one link too many has.
+const ROOM: usize = 16 * (MAX_LINKS + 1);
 
 const YARD_MARK: u32 = 0x4459;
 
@@ -56,7 +57,7 @@ impl Yard {
     }
 
     // A yard record alone.
-    pub fn begin(self, numbers: [u32; NUMBERS]) -> Yard {
+    pub fn begin(numbers: [u32; NUMBERS]) -> Yard {
         Yard::new().record(YARD_MARK, YARD_SIZES, numbers)
     }
 

@@ -13,7 +13,7 @@ slice-aggregate-write-u32 c = search needs
 
 write-u32-requires : tie.Need-write-u32-requires
 write-u32-requires c κs =
-    let sized : length (c .before .before .before .args .self .bytes) ≡ 512 = search needs in
+    let sized : length (c .before .before .before .args .self .bytes) ≡ 656 = search needs in
     omega (arith, sized)
 
 wrapping-add-usize-requires : tie.Need-wrapping-add-usize-requires

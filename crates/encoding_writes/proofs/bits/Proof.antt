@@ -17,7 +17,7 @@ cast-result : tie.Need-cast-result
 cast-result c = rw (known c .less, known c .itself) (tt, omega (arith, known c .low))
 
 sub-result-2 : tie.Need-sub-result-2
-sub-result-2 c = rw (known c .less, known c .itself) (omega arith)
+sub-result-2 c = rw (known c .less, known c .itself) (omega (arith, known c .low))
 
 cast-result-2 : tie.Need-cast-result-2
 cast-result-2 c = rw (natural w16 (c .before .args .z) (c .if1 .left) (c .before .fits .z)) (tt, ofZ-fits w16 (c .before .args .z) (c .before .fits .z))

@@ -24,8 +24,8 @@ shared-slice-read-byte c = search needs
 read-requires : tie.Need-read-requires Inv-loop μ-loop
 read-requires c κs = search needs
 
-end-requires : tie.Need-end-requires Inv-loop μ-loop
-end-requires c κs = search needs
+obey-requires : tie.Need-obey-requires Inv-loop μ-loop
+obey-requires c κs = search needs
 
 label-requires : tie.Need-label-requires Inv-loop μ-loop
 label-requires c κs = search needs
@@ -56,7 +56,7 @@ run-spec =
     loop-holds
     shared-slice-read-byte
     read-requires
-    end-requires
+    obey-requires
     label-requires
     rest-requires
     add-at

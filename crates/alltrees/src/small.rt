@@ -2,10 +2,10 @@
 // ceiling costs occur; in all but the survey a cost is its code, 0 to 7 in rising order.
 
 // How many kinds of yards there are: n, p, k1 and k2 for up to five stations.
-pub const KINDS: u32 = 28;
+pub const KINDS: usize = 28;
 
 // n, p, k1 and k2 of each kind, and then how many pairs of stations it has, or 1.
-const KIND: [u64; 28] = [
+const KIND: [u64; KINDS] = [
     0x0100000001,
     0x0200000002,
     0x0200010102,
@@ -118,8 +118,8 @@ fn codes(x: u64, present: bool) -> u64 {
 }
 
 // The yard of a number, every kind in its turn.
-pub fn make(i: u32, x: u64) -> Yard {
-    let kind = KIND[(i % KINDS) as usize];
+pub fn make(i: usize, x: u64) -> Yard {
+    let kind = KIND[i % KINDS];
     let p = byte(kind, 1);
     let pairs = next(x);
     let sums = next(pairs);

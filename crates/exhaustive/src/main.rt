@@ -16,7 +16,7 @@ use console::part;
 use tally::Tally;
 
 // Every kind of yard twenty times.
-const YARDS: u32 = 20 * KINDS;
+const YARDS: usize = 20 * KINDS;
 
 // A yard's trees, and both comparisons.
 fn compare(survey: &[u8], yard: Yard, tally: Tally) -> Tally {

@@ -1,11 +1,11 @@
 -- The reply to a ceilings question and the tree buffer after it, by what the survey's check, the buffer and the search say.
-use mathlib.Core.List.{List, _++_}
+use mathlib.Core.List.{List}
 use mathlib.Core.Option.{Option, none, some}
 use mathlib.Core.Path.{_≡_, refl}
 use Prim.Native.Nat.{ℕ, _≤_, _<_}
 use borrow.Author.Tests.{le-ltb, lt-ltb}
 use lib.IntN.{ℤ}
-use lib.ListN.{drop, length}
+use lib.ListN.{length}
 use Rattle.network.specs.Yard.{best, bounds, treeSize}
 use Rattle.network.specs.PlanList.{costsOf}
 use Rattle.network.specs.Checked.{refuseIf, _orElse_}

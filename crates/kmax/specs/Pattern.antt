@@ -1,16 +1,16 @@
--- Edges that exceed the same ceilings. A tree stays one that fits where some such edges are replaced by as many others. Where at most one rank is
--- above 1, all exceptional edges of trees that fit are such edges. For any number of ceilings and any k.
+-- Edges that exceed the same ceilings: a tree stays one that fits where some such edges are replaced by as many others. An exceptional edge of a tree
+-- that fits is admissible by itself. For any number of ceilings and any k.
 use mathlib.Core.Bool.{Bool, true, _&&_}
 use mathlib.Core.List.{List, [], _∷_, map, Memᴰ·map, List·Memᴰ·head as here, List·Memᴰ·tail as there}
-use mathlib.Core.Path.{_≡_, refl, sym, ap, _∙_}
-use Prim.Native.Nat.{ℕ, _≤_, _<_}
+use mathlib.Core.Path.{_≡_, refl}
+use Prim.Native.Nat.{ℕ, _≤_}
 use native.Mathlib.Nat.{suc-inj}
 use native.Mathlib.Omega.{arith}
 use lib.Dec.{ltb}
 use lib.ListN.{length}
 use borrow.Author.Tests.{lt-ltb, ltb-true}
-use Rattle.order.specs.Test.{both, by-test, clash, left, right}
-use Rattle.order.specs.Lists.{_∈_, all-mem, any-mem, count, filter, filter-mem}
+use Rattle.order.specs.Test.{both, by-test, left, right}
+use Rattle.order.specs.Lists.{_∈_, count, filter, filter-mem}
 use Rattle.order.specs.Order.{TotalOrder}
 use Rattle.kmax.specs.KMax.{above, countAbove}
 use Rattle.kmax.specs.Ceilings.{Ceiling, admissible, exceeds, exceptional}
@@ -25,10 +25,6 @@ module _ {C : Type 0} (O : TotalOrder C) (cs : List (Ceiling C)) where
   -- the edges that pass the test exceed the same ceilings
   abbrev pub OnePattern : (ℕ → Bool) → Type 0
   OnePattern p = (c : Ceiling C) → c ∈ cs → (x y : ℕ) → p x ≡ true → p y ≡ true → exceeds O c x ≡ exceeds O c y
-
--- at most one rank is above 1
-abbrev pub OneAbove : {C : Type 0} → List (Ceiling C) → Type 0
-OneAbove {C} cs = (c d : Ceiling C) → c ∈ cs → d ∈ cs → 1 < c .rank → 1 < d .rank → c ≡ d
 
 -- ---- edges of one pattern are counted alike
 
@@ -60,25 +56,3 @@ module _ {C : Type 0} (O : TotalOrder C) where
   pub exceptional-lone : (cs : List (Ceiling C)) (ts : List ℕ) → admissible O cs (filter (exceptional O cs) ts) ≡ true
       → (x : ℕ) → x ∈ filter (exceptional O cs) ts → lone O cs x ≡ true
   exceptional-lone cs ts a x m = both (filter-mem (exceptional O cs) ts m .1) (admissible-one cs x (filter (exceptional O cs) ts) m a)
-
-  -- ---- at most one rank above 1: such edges exceed the ceiling of that rank and no other
-
-  module _ (cs : List (Ceiling C)) (x : ℕ) (e : lone O cs x ≡ true) where
-    -- what x exceeds has a rank above 1
-    lone-rank : (c : Ceiling C) → c ∈ cs → exceeds O c x ≡ true → 1 < c .rank
-    lone-rank c m k =
-        let a = all-mem _ cs (right (exceptional O cs x) (admissible O cs (x ∷ [])) e) c m in
-        ltb-true 1 (c .rank) (rw k at a)
-
-    lone-exceeds : OneAbove cs → (c : Ceiling C) → c ∈ cs → exceeds O c x ≡ ltb 1 (c .rank)
-    lone-exceeds one c m =
-        let w = any-mem (λ c. exceeds O c x) cs (left (exceptional O cs x) (admissible O cs (x ∷ [])) e) in
-        by-test (exceeds O c x)
-        (λ k. k ∙ sym (lt-ltb 1 (c .rank) (lone-rank c m k)))
-        (λ k. by-test (ltb 1 (c .rank))
-        (λ r. let q = one c (w .0) m (w .1) (ltb-true 1 (c .rank) r) (lone-rank (w .0) (w .1) (w .2)) in
-        clash (ap (λ (d : Ceiling C). exceeds O d x) q ∙ w .2) k)
-        (λ r. k ∙ sym r))
-
-  pub lone-pattern : (cs : List (Ceiling C)) → OneAbove cs → OnePattern O cs (lone O cs)
-  lone-pattern cs one c m x y e f = lone-exceeds cs x e one c m ∙ sym (lone-exceeds cs y f one c m)

@@ -28,11 +28,15 @@ use Rattle.planning.specs.Search.{base, trees-ranked}
 module _ (G : Graph) (S : Sound G) (bs : List ℤ) where
   open Graph G using (n, m, ends, s)
 
-  -- us does for ts, and its links that pass the test p are among those kept of them
-  pub record Exchanged (p : ℕ → Bool) (ts us : List ℕ) : Type 0 where
+  -- us does for ts: a tree that fits where ts fits, and is no worse
+  pub record DoesFor (ts us : List ℕ) : Type 0 where
     pub tree : us ∈ spanningTrees ends n m
     pub fits : meets orderℤ (under G bs) (pos 0) us ≡ meets orderℤ (under G bs) (pos 0) ts
     pub better : NoWorse G us ts
+
+  -- it does, and its links that pass the test p are among those kept of them
+  pub record Exchanged (p : ℕ → Bool) (ts us : List ℕ) : Type 0 where
+    pub does : DoesFor ts us
     pub kept : (x : ℕ) → x ∈ us → p x ≡ true → x ∈ base G (byCost s (filter p (links G)))
     pub stays : (x : ℕ) → x ∈ us → p x ≡ false → x ∈ ts
 
@@ -94,9 +98,13 @@ module _ (G : Graph) (S : Sound G) (bs : List ℤ) where
     exchanged : Exchanged (λ c. not (q c)) ts (ascending us)
     exchanged =
         record {
-          tree = listed;
-          fits = let R = trees-ranked G S bs .ranks in meets-alike orderℤ (pos 0) (under G bs) ts (ascending us) (R ts k) (R (ascending us) listed) same-count;
-          better = replaced-better G S q ts k;
+          does = record {
+            tree = listed;
+            fits =
+                let R = trees-ranked G S bs .ranks in
+                meets-alike orderℤ (pos 0) (under G bs) ts (ascending us) (R ts k) (R (ascending us) listed) same-count;
+            better = replaced-better G S q ts k;
+          };
           kept = λ x i e. ⊎-elim (λ j. clash (filter-mem q ts j .1) (not-true (q x) e)) (new-kept x) (old-or-new x i);
           stays = λ x i e. ⊎-elim (λ j. filter-mem q ts j .0) (λ j. clash (not-false (q x) e) (new-other x j)) (old-or-new x i);
         }

@@ -9,3 +9,5 @@ pub mod Complete
 pub mod Search
 -- links that exceed the same ceilings are exchanged for the cheapest ones
 pub mod Exchange
+-- pattern after pattern: sets of links that are kept of their pattern are enough for the search
+pub mod Patterns

@@ -9,7 +9,7 @@ use borrow.Author.Tests.{eqb-true, eqb-false, leb-false, ltb-false, not-false}
 use lib.ListN.{length}
 use Rattle.network.specs.Limits.{maxCeilings, maxLinks, maxStations, maxSum}
 use Rattle.network.specs.Bytes.{byteAt, markAt}
-use Rattle.network.specs.Survey.{ceilingsIn, endIn, layoutOf, linkCount, linkMark, linkSize, linkStart, plain, rankIn, stationsIn, sumIn}
+use Rattle.network.specs.Survey.{ceilingsIn, endIn, layoutOf, linkCount, linkMark, linkSize, linkStart, plain, ranksIn, stationsIn, sumIn}
 use Rattle.network.specs.Survey.{unknown, yardMark, yardSize}
 use Rattle.network.specs.Checked.{fine-both, first-fine, refuse-fine}
 use Rattle.network.specs.Refusals.{absentCost, badLength, badRanks, checkedWith, linkChecked, linkCheckedAt, yardChecked}
@@ -60,7 +60,7 @@ pub record YardFine (s : List ℕ) (l : Layout) (m : ℕ) : Type 0 where
   pub few-stations : stationsIn s ≤ maxStations
   pub few-links : m ≤ maxLinks
   pub few-ceilings : ceilingsIn s ≤ maxCeilings
-  pub ranks : badRanks (stationsIn s) (ceilingsIn s) (rankIn s 0) (rankIn s 1) ≡ false
+  pub ranks : badRanks (stationsIn s) (ceilingsIn s) (ranksIn s) ≡ false
 
 pub yard-fine : (s : List ℕ) (l : Layout) (m : ℕ) → yardChecked s l m ≡ Fine → YardFine s l m
 unfolding yardChecked

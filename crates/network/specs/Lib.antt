@@ -18,7 +18,7 @@ pub mod Calls
 pub mod Fetching
 -- printing
 pub mod Printing
--- the yards worked through, P1 to P12
+-- the yards worked through, P1 to P16
 pub mod Worked
 -- theorems: what the definitions mean, what holds of an accepted survey's bytes and of its network
 pub mod Meaning

@@ -17,6 +17,14 @@ maxCeilings = 2
 abbrev pub maxRank : ℕ
 maxRank = 3
 
+-- what the ranks have above 1, added up: at most 2, so that a 3 stands beside ranks of 1 alone, and two may be 2
+abbrev pub maxSlack : ℕ
+maxSlack = 2
+
+-- the sets of ceilings whose bounds a link may be above: room in the search, and no figure of document 01
+abbrev pub maxPatterns : ℕ
+maxPatterns = 2 ^ maxCeilings
+
 -- s, the sum cost of a link: 0 to 1,000,000
 abbrev pub maxSum : ℕ
 maxSum = 1_000_000

@@ -1,5 +1,5 @@
 -- What holds of the network of an accepted survey, said of its arrays with no byte in it, and so of the graph that the theory speaks of.
-use Prim.Native.Nat.{ℕ, suc, _+_, _-_, _*_, _/_, _%_, _^_, _≤_, _<_}
+use Prim.Native.Nat.{ℕ, zero, suc, _+_, _-_, _*_, _/_, _%_, _^_, _≤_, _<_}
 use mathlib.Core.Path.{_≡_, refl, sym, ap, _∙_}
 use mathlib.Core.Bool.{_&&_, false}
 use mathlib.Core.List.{List, [], _∷_}
@@ -18,11 +18,11 @@ use Rattle.network.specs.Limits.{maxCeilings, maxLinks, maxPlans, maxSta
 use Rattle.network.specs.Bytes.{byteAt, signed, u16At}
 use Rattle.network.specs.Column.{column, column-at, column-length}
 use Rattle.network.specs.Survey.{ceilingsIn, costIn, costsIn, endIn, endsIn, layoutOf, linkCount, linkStart, networkOf, networkWith, sumIn, sumsIn}
-use Rattle.network.specs.Refusals.{absentCost, badPresent, badRank, badRanks, checkedOf}
+use Rattle.network.specs.Refusals.{absentCost, anyBadRank, badPresent, badRank, badRanks, checkedOf}
 use Rattle.network.specs.Yard.{graph, ranks, treeSize}
 use Rattle.network.specs.Walk.{positionCount}
 use Rattle.network.specs.PlanList.{bufferNeed, maxNeed, planSize, planSlots}
-use Rattle.network.specs.Accepted.{Accepted, accepted, below-two, layout-roomy, or-false}
+use Rattle.network.specs.Accepted.{Accepted, accepted, layout-roomy, or-false}
 use Rattle.network.specs.declared.Checked.the-variants.{Fine}
 use Rattle.network.specs.declared.Layout.{Layout}
 use Rattle.network.specs.declared.Network.{Network}
@@ -32,7 +32,7 @@ pub record NetworkFine (net : Network) : Type 0 where
   pub few-stations : net .n ≤ maxStations
   pub few-links : net .m ≤ maxLinks
   pub few-ceilings : net .p ≤ maxCeilings
-  pub ranks : badRanks (net .n) (net .p) (getD (net .k) 0 0) (getD (net .k) 1 0) ≡ false
+  pub ranks : badRanks (net .n) (net .p) (net .k) ≡ false
   pub lengths : (length (net .k) ≡ 2) × (length (net .ends) ≡ 2 * maxLinks) × (length (net .sums) ≡ maxLinks) × (length (net .costs) ≡ maxCeilings * maxLinks)
   -- link i
   pub first-end : (i : ℕ) → i < net .m → getD (net .ends) (2 * i) 0 < net .n
@@ -97,7 +97,17 @@ present-rank n p j k e h =
     let high : k < n = leb-false _ _ (b .1) in
     (omega arith, omega arith)
 
+-- the rule holds of each rank: the one at i is that of ceiling c
+each-rank : (n p j : ℕ) (ks : List ℕ) → anyBadRank n p j ks ≡ false → (i c : ℕ) → i < length ks → c ≡ i + j → badRank n p c (getD ks i 0) ≡ false
+each-rank n p j [] e i c h q = absurd (omega arith)
+each-rank n p j (k ∷ ks) e zero c h q =
+    let own : c ≡ j = omega arith in
+    rw own (or-false (badRank n p j k) (anyBadRank n p (j + 1) ks) e .0)
+each-rank n p j (k ∷ ks) e (suc i) c h q =
+    each-rank n p (j + 1) ks (or-false (badRank n p j k) (anyBadRank n p (j + 1) ks) e .1) i c (omega arith) (omega arith)
+
 pub graph-sound : (net : Network) → NetworkFine net → Sound (graph net)
+unfolding badRanks
 graph-sound net fine =
     record {
       stations = fine .some-station;
@@ -107,9 +117,8 @@ graph-sound net fine =
           let few = fine .few-ceilings in
           let short = w .1 in
           let i : w .0 < net .p = omega (arith, length-take (net .p) (net .k)) in
-          let a = or-false _ _ (fine .ranks) .0 in
-          let bad = or-false _ _ a in
-          let each = below-two (λ j. badRank (net .n) (net .p) j (getD (net .k) j 0) ≡ false) (bad .0) (bad .1) (w .0) (omega arith) in
+          let each = each-rank (net .n) (net .p) 0 (net .k) (or-false _ _ (fine .ranks) .0) (w .0) (w .0)
+          (omega (arith, length-take (net .p) (net .k))) (omega arith) in
           rw (w .2 ∙ getD-take (net .p) (net .k) (w .0) 0 i) (present-rank (net .n) (net .p) (w .0) (getD (net .k) (w .0) 0) each i);
     }
 

@@ -1,12 +1,13 @@
 -- Document 01, "When the planner declines": numbers 1 to 8, which a survey alone decides, in their order and with their places.
 use Prim.Native.Nat.{ℕ, _+_, _-_, _%_}
-use mathlib.Core.Bool.{Bool, not, _&&_, _||_}
-use mathlib.Core.List.{List}
+use mathlib.Core.Bool.{Bool, false, not, _&&_, _||_}
+use mathlib.Core.List.{List, [], _∷_}
 use lib.ListN.{length}
 use lib.Dec.{leb, ltb, eqb}
-use Rattle.network.specs.Limits.{maxCeilings, maxLinks, maxRank, maxStations, maxSum}
+use Rattle.kmax.specs.Ceilings.{slackOf}
+use Rattle.network.specs.Limits.{maxCeilings, maxLinks, maxRank, maxSlack, maxStations, maxSum}
 use Rattle.network.specs.Bytes.{markAt}
-use Rattle.network.specs.Survey.{ceilingsIn, costBitsIn, endIn, layoutOf, linkCount, linkMark, linkStart, rankIn, stationsIn, sumIn}
+use Rattle.network.specs.Survey.{ceilingsIn, costBitsIn, endIn, layoutOf, linkCount, linkMark, linkStart, ranksIn, stationsIn, sumIn}
 use Rattle.network.specs.Checked.{refuseIf, _orElse_, firstRefusal}
 use Rattle.network.specs.declared.Checked.{Checked}
 use Rattle.network.specs.declared.Layout.{Layout}
@@ -27,9 +28,14 @@ badPresent n k = outside k 1 maxRank || leb n k
 abbrev pub badRank : ℕ → ℕ → ℕ → ℕ → Bool
 badRank n p j k = (ltb j p && badPresent n k) || (leb p j && not (eqb k 0))
 
--- 6: a k against its rule, or both above 1
-abbrev pub badRanks : ℕ → ℕ → ℕ → ℕ → Bool
-badRanks n p k1 k2 = badRank n p 0 k1 || badRank n p 1 k2 || (ltb 1 k1 && ltb 1 k2)
+-- 6, of the k of the ceilings j, j + 1, ..: one is against its rule
+abbrev pub anyBadRank : ℕ → ℕ → ℕ → List ℕ → Bool
+anyBadRank n p j [] = false
+anyBadRank n p j (k ∷ ks) = badRank n p j k || anyBadRank n p (j + 1) ks
+
+-- 6: a k against its rule, or all k, each less 1, add up to more than 2: a 3 beside a 2 or a 3 (`slackOf` adds them up)
+unfoldable pub badRanks : ℕ → ℕ → List ℕ → Bool
+badRanks n p ks = anyBadRank n p 0 ks || ltb maxSlack (slackOf ks)
 
 -- 7, of the link record at an index: an end is not below n, or both are equal
 abbrev pub badEnds : List ℕ → ℕ → ℕ → Bool
@@ -50,7 +56,7 @@ yardChecked s l m =
     orElse refuseIf (outside (stationsIn s) 1 maxStations) 3 0
     orElse refuseIf (ltb maxLinks m) 4 0
     orElse refuseIf (ltb maxCeilings (ceilingsIn s)) 5 0
-    orElse refuseIf (badRanks (stationsIn s) (ceilingsIn s) (rankIn s 0) (rankIn s 1)) 6 0
+    orElse refuseIf (badRanks (stationsIn s) (ceilingsIn s) (ranksIn s)) 6 0
 
 -- the link record at an index, with n stations and p ceilings: its mark, 7, 8
 unfoldable pub linkChecked : List ℕ → ℕ → ℕ → ℕ → ℕ → Checked

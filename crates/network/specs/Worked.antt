@@ -1,17 +1,19 @@
--- Document 01, "Yards worked through": P1 to P12 in one table, from survey bytes to list bytes, and the theorem that every row is right. It is
--- computed from the definitions.
+-- Document 01, "Yards worked through": P1 to P12 in one table, from survey bytes to list bytes, then the yards of later requests, and the theorem
+-- that every row is right. It is computed from the definitions.
+use mathlib.Core.Bool.{not}
 use mathlib.Core.List.{List, [], _∷_, _++_, List·Memᴰ·cases-cons, List·Memᴰ·not-nil}
 use mathlib.Core.Logic.{⊎-elim}
 use mathlib.Core.Path.{_≡_, refl, subst⁻¹}
 use Prim.Native.Nat.{ℕ, _-_}
 use lib.IntN.{ℤ, pos, negsuc}
 use lib.ListN.{length, replicate}
-use Rattle.order.specs.Lists.{_∈_, numbersFrom}
+use Rattle.order.specs.Lists.{_∈_, filter, numbersFrom}
 use Rattle.order.specs.Order.{orderℤ}
 use Rattle.spanning.specs.Labelling.{crosses, merge}
 use Rattle.spanning.specs.Tree as tree
 use Rattle.spanning.specs.Choose.{choose, chooseFrom}
 use Rattle.spanning.specs.Listing.{isListed, spanningTrees}
+use Rattle.frontier.specs.Frontier.{positions}
 use Rattle.kmax.specs.KMax.{kmax}
 use Rattle.network.specs.Limits.{maxPlans}
 use Rattle.network.specs.Walk.{plans, solvedCount, walked}
@@ -20,7 +22,7 @@ use Rattle.network.specs.Column.{column}
 use Rattle.network.specs.Survey.{costsIn, endsIn, layoutOf, linkMark, networkOf, networkWith, sumsIn, yardMark}
 use Rattle.network.specs.PlanList.{bufferNeed, headMark, join, planMark}
 use Rattle.network.specs.Checked.{firstRefusal, refuseIf, _orElse_}
-use Rattle.network.specs.Refusals.{badLength, checkedWith, linkChecked, yardChecked}
+use Rattle.network.specs.Refusals.{badLength, badRanks, checkedWith, linkChecked, yardChecked}
 use Rattle.network.specs.Calls.{Reply, ifFine, reply, status}
 use Rattle.network.specs.Calls.{asked, askedChecked, bestTree, drawnChecked, judged, treeAfter, treeWith}
 use Rattle.network.specs.Calls.{listAfter, listChecked, listStatus, plansAfter, plansChecked, roomChecked}
@@ -41,6 +43,8 @@ pub data Row : Type 0 where
   draws : (survey drawn : List ℕ) → Reply → Row
   -- the k-th largest of some figures
   ranks : (k : ℕ) → List ℤ → ℤ → Row
+  -- the ranks k1 and k2, each from 0 to 4, that number 6 lets pass with n stations and p ceilings
+  accepts : (n p : ℕ) (pairs : List (List ℕ)) → Row
   -- standard input, and what the program prints
   prints : (input output : List ℕ) → Row
 
@@ -53,6 +57,10 @@ pub record Lists (s : List ℕ) (links : List (List ℕ)) (count need : ℕ) (li
   pub succeeds : listStatus s maxPlans need ≡ record { number = 0; place = 0 }
   pub bytes : listAfter s maxPlans (replicate need 0xFF) ≡ list ++ replicate (need - length list) 0
 
+-- all k1 and k2 from 0 to 4
+abbrev pub rankPairs : List (List ℕ)
+rankPairs = positions (numbersFrom 5 0 ∷ numbersFrom 5 0 ∷ [])
+
 -- the answer of a row is the one that the definitions give
 abbrev pub Right : Row → Type 0
 Right (lists s links count need list) = Lists s links count need list
@@ -60,6 +68,7 @@ Right (allows s allowance size r after) = (listStatus s allowance size ≡ r) ×
 Right (asks s b1 b2 buffer r after) = (asked s b1 b2 (length buffer) ≡ r) × (treeAfter s b1 b2 buffer ≡ after)
 Right (draws s drawn r) = judged s drawn ≡ r
 Right (ranks k vs v) = kmax orderℤ k vs (pos 0) ≡ v
+Right (accepts n p pairs) = filter (λ ks. not (badRanks n p ks)) rankPairs ≡ pairs
 Right (prints input output) = printed input ≡ output
 
 -- ---- bytes as document 01 writes them
@@ -88,12 +97,12 @@ costs s y1 y2 = record { number = 0; place = 0; values = pos s ∷ y1 ∷ y2 ∷
 abbrev refused : ℕ → ℕ → Reply
 refused number place = record { number = number; place = place; values = [] }
 
--- Survey A, with k1; A with second costs; the two links of P4 and P5; P6; P7
+-- Survey A, with k1; A with second costs, k1 and k2; the two links of P4 and P5; P6; P7
 abbrev A : ℕ → List ℕ
 A k1 = yard 3 1 k1 0 (link 0 1 4 7 0 ∷ link 1 2 3 2 0 ∷ link 0 2 1 9 0 ∷ [])
 
-abbrev A₂ : List ℕ
-A₂ = yard 3 2 1 1 (link 0 1 4 7 1 ∷ link 1 2 3 2 6 ∷ link 0 2 1 9 3 ∷ [])
+abbrev A₂ : ℕ → ℕ → List ℕ
+A₂ k1 k2 = yard 3 2 k1 k2 (link 0 1 4 7 1 ∷ link 1 2 3 2 6 ∷ link 0 2 1 9 3 ∷ [])
 
 abbrev pair : ℕ → ℕ → List ℕ
 pair x y = yard 2 1 1 0 (link 0 1 5 x 0 ∷ link 0 1 5 y 0 ∷ [])
@@ -115,13 +124,14 @@ outputA =
 abbrev listA : List ℕ
 listA = list 2 3 2 1 (two (plan 4 9 0 (two 1 2)) (plan 7 7 0 (two 0 1)))
 
--- P1 to P12, in their order; P1 is two rows (the list in the 46 bytes that the buffer needs, and the whole output), and P12 is two
+-- P1 to P12, in their order; P1 is two rows (the list in the 46 bytes that the buffer needs, and the whole output), and P12 is two. Then both
+-- ranks may be 2: P13, P14 whose tree has one link above both bounds, P15 whose tree has two, one above each, and P16 in three rows
 pub table : List Row
 table =
     lists (A 1) (two (two 1 2) (two 0 1)) 3 46 listA
     ∷ prints (A 1) outputA
     ∷ lists (A 2) (one (two 1 2)) 1 46 (list 1 1 2 1 (one (plan 4 2 0 (two 1 2))))
-    ∷ lists A₂ (two 1 2 ∷ two 0 2 ∷ two 0 1 ∷ []) 6 118 (list 3 6 2 2 (plan 4 9 6 (two 1 2) ∷ plan 5 9 3 (two 0 2) ∷ plan 7 7 6 (two 0 1) ∷ []))
+    ∷ lists (A₂ 1 1) (two 1 2 ∷ two 0 2 ∷ two 0 1 ∷ []) 6 118 (list 3 6 2 2 (plan 4 9 6 (two 1 2) ∷ plan 5 9 3 (two 0 2) ∷ plan 7 7 6 (two 0 1) ∷ []))
     ∷ lists (pair 3 8) (one (one 0)) 1 32 (list 1 1 1 1 (one (plan 5 3 0 (one 0))))
     ∷ lists (pair 8 3) (one (one 1)) 2 32 (list 1 2 1 1 (one (plan 5 3 0 (one 1))))
     ∷ lists single (one []) 1 20 (list 1 1 0 0 (one (plan 0 0 0 [])))
@@ -132,6 +142,12 @@ table =
     ∷ ranks 2 (pos 5 ∷ negsuc 2 ∷ pos 5 ∷ []) (pos 5)
     ∷ allows (A 1) 3 46 (record { number = 0; place = 0 }) (listA ++ replicate 12 0)
     ∷ allows (A 1) 2 46 (record { number = 10; place = 0 }) (replicate 46 0)
+    ∷ lists (A₂ 2 2) (two 1 2 ∷ two 0 2 ∷ two 0 1 ∷ []) 3 118 (list 3 3 2 2 (plan 4 2 3 (two 1 2) ∷ plan 5 7 1 (two 0 2) ∷ plan 7 2 1 (two 0 1) ∷ []))
+    ∷ asks (A₂ 2 2) (pos 8) (pos 2) (two 0xFF 0xFF) (costs 5 (pos 7) (pos 1)) (two 0 2)
+    ∷ asks (A₂ 2 2) (pos 8) (pos 3) (two 0xFF 0xFF) (costs 4 (pos 2) (pos 3)) (two 1 2)
+    ∷ accepts 2 2 (one (two 1 1))
+    ∷ accepts 3 2 (two 1 1 ∷ two 1 2 ∷ two 2 1 ∷ two 2 2 ∷ [])
+    ∷ accepts 4 2 (two 1 1 ∷ two 1 2 ∷ two 1 3 ∷ two 2 1 ∷ two 2 2 ∷ two 3 1 ∷ [])
     ∷ []
 
 -- ---- the theorem
@@ -150,7 +166,7 @@ every P (h ▸ r) x m = ⊎-elim (λ q. subst⁻¹ P q h) (λ n. every P r x n) 
 pub table-right : (r : Row) → r ∈ table → Right r
 unfolding table endsIn sumsIn costsIn column layoutOf networkWith signed bitsOf
     spanningTrees choose chooseFrom tree.isTree tree.isTreeFrom tree.isForest tree.isOneComponent crosses merge numbersFrom isListed
-    badLength checkedWith linkChecked yardChecked firstRefusal refuseIf _orElse_ reply status ifFine
+    badLength badRanks checkedWith linkChecked yardChecked firstRefusal refuseIf _orElse_ reply status ifFine
     judged drawnChecked asked askedChecked bestTree treeAfter treeWith roomChecked plansChecked plansAfter listChecked listStatus listAfter printed
 table-right = every Right (
     record { promised = refl; by-walk = refl; counted = refl; needed = refl; succeeds = refl; bytes = refl }
@@ -161,5 +177,7 @@ table-right = every Right (
     ▸ record { promised = refl; by-walk = refl; counted = refl; needed = refl; succeeds = refl; bytes = refl }
     ▸ record { promised = refl; by-walk = refl; counted = refl; needed = refl; succeeds = refl; bytes = refl }
     ▸ record { promised = refl; by-walk = refl; counted = refl; needed = refl; succeeds = refl; bytes = refl }
-    ▸ (refl, refl) ▸ (refl, refl) ▸ refl ▸ refl ▸ (refl, refl) ▸ (refl, refl) ▸ done
+    ▸ (refl, refl) ▸ (refl, refl) ▸ refl ▸ refl ▸ (refl, refl) ▸ (refl, refl)
+    ▸ record { promised = refl; by-walk = refl; counted = refl; needed = refl; succeeds = refl; bytes = refl }
+    ▸ (refl, refl) ▸ (refl, refl) ▸ refl ▸ refl ▸ refl ▸ done
     )

@@ -12,6 +12,12 @@ pub const MAX_CEILINGS: usize = 2;
 // The rank of a ceiling cost.
 pub const MAX_RANK: u8 = 3;
 
+// What the ranks have above 1, added up.
+pub const MAX_SLACK: usize = 2;
+
+// The sets of ceilings whose bounds a link may be above: room in the search.
+pub const MAX_PATTERNS: usize = 1 << MAX_CEILINGS;
+
 // The sum cost of a link.
 pub const MAX_SUM: u32 = 1000000;
 

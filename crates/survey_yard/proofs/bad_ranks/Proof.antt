@@ -1,16 +1,18 @@
--- `survey_yard::bad_ranks` meets its contract. By what `bad_rank` ensures.
+-- `survey_yard::bad_ranks` meets its contract. By what `any_bad_rank` and `slack_of` ensure.
 use borrow.Author.Needs.{needs}
+use Rattle.network.specs.Refusals.{badRanks}
 use Rattle.survey_yard.proofs.bad_ranks.Statement.{statement}
 use Rattle.survey_yard.proofs.bad_ranks.Tie as tie
 
-bad-rank-requires : tie.Need-bad-rank-requires
-bad-rank-requires c κs = search needs
+any-bad-rank-requires : tie.Need-any-bad-rank-requires
+any-bad-rank-requires c κs = search needs
 
-bad-rank-requires-2 : tie.Need-bad-rank-requires-2
-bad-rank-requires-2 c κs = search needs
+slack-of-requires : tie.Need-slack-of-requires
+slack-of-requires c κs = search needs
 
 returns : tie.Need-returns
-returns c = rw (c .before .bad-rank .ensures, c .bad-rank2 .ensures)
+unfolding badRanks
+returns c = rw (c .before .any-bad-rank .ensures, c .slack-of .ensures)
 
 pub bad-ranks-spec : {M : Type 1} → statement M
-bad-ranks-spec = tie.close (tie.spec bad-rank-requires bad-rank-requires-2 returns)
+bad-ranks-spec = tie.close (tie.spec any-bad-rank-requires slack-of-requires returns)

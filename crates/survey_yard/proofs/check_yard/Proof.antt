@@ -1,6 +1,12 @@
 -- `survey_yard::check_yard` meets its contract. The rules are tried in the order of the definition.
+use Prim.Native.Nat.{_≤_}
+use mathlib.Core.Path.{ap, _∙_}
+use native.Mathlib.Omega.{arith}
 use borrow.Author.Needs.{needs}
-use Rattle.network.specs.Refusals.{yardChecked}
+use lib.ListN.{length}
+use Rattle.network.specs.Survey.{yardSize}
+use Rattle.network.specs.Refusals.{badRanks, yardChecked}
+use Rattle.survey_yard.specs.Ranks.{ranks-part}
 use Rattle.survey_yard.proofs.check_yard.Statement.{statement}
 use Rattle.survey_yard.proofs.check_yard.Tie as tie
 
@@ -31,14 +37,17 @@ cast-or-refuse-if c = search needs
 or-refuse-if-requires-3 : tie.Need-or-refuse-if-requires-3
 or-refuse-if-requires-3 c κs = search needs
 
-shared-slice-read-bad-ranks : tie.Need-shared-slice-read-bad-ranks
-shared-slice-read-bad-ranks c = search needs
-
 add-bad-ranks : tie.Need-add-bad-ranks
 add-bad-ranks c = search needs
 
-shared-slice-read-bad-ranks-2 : tie.Need-shared-slice-read-bad-ranks-2
-shared-slice-read-bad-ranks-2 c = search needs
+sub-bad-ranks : tie.Need-sub-bad-ranks
+sub-bad-ranks c = search needs
+
+part-bad-ranks-start : tie.Need-part-bad-ranks-start
+part-bad-ranks-start c = search needs
+
+part-bad-ranks-end : tie.Need-part-bad-ranks-end
+part-bad-ranks-end c = search needs
 
 bad-ranks-requires : tie.Need-bad-ranks-requires
 bad-ranks-requires c κs = search needs
@@ -49,11 +58,14 @@ or-refuse-if-requires-4 c κs = search needs
 returns : tie.Need-returns
 unfolding yardChecked
 returns c =
-    let c5 = c .before .before .before .before in
+    let c5 = c .before .before .before in
     let c4 = c5 .before in
     let c3 = c4 .before in
     let c2 = c3 .before .before in
-    rw (c .or-refuse-if4 .ensures, c .before .bad-ranks .ensures, c5 .or-refuse-if3 .ensures, c4 .or-refuse-if2 .ensures)
+    let start = c2 .before .before .before .before .before in
+    let room : yardSize ≤ length (start .args .s .now) = omega (arith, start .pre .0 .yard) in
+    let ranks = c .before .bad-ranks .ensures ∙ ap (badRanks _ _) (ranks-part (start .args .s .now) room) in
+    rw (c .or-refuse-if4 .ensures, ranks, c5 .or-refuse-if3 .ensures, c4 .or-refuse-if2 .ensures)
     (rw (c3 .or-refuse-if .ensures, c3 .before .is-outside .ensures, c2 .refuse-if .ensures))
 
 pub check-yard-spec : {M : Type 1} → statement M
@@ -69,9 +81,10 @@ check-yard-spec =
     or-refuse-if-requires-2
     cast-or-refuse-if
     or-refuse-if-requires-3
-    shared-slice-read-bad-ranks
     add-bad-ranks
-    shared-slice-read-bad-ranks-2
+    sub-bad-ranks
+    part-bad-ranks-start
+    part-bad-ranks-end
     bad-ranks-requires
     or-refuse-if-requires-4
     returns)

@@ -1,0 +1,2 @@
+-- the loop over ranks
+pub mod Slack

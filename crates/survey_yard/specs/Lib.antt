@@ -1,0 +1,2 @@
+-- the ranks of the yard record, and the loop over them
+pub mod Ranks

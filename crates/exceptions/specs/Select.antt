@@ -1,7 +1,7 @@
 -- Links that pass a test, collected in an array: each link is stored, and counts where it passes.
 use Prim.Native.Nat.{ℕ, _+_, _≤_, _<_}
 use mathlib.Core.Bool.{Bool, cond, true, false}
-use mathlib.Core.List.{List, [], _∷_, _++_, append-nil}
+use mathlib.Core.List.{List, [], _∷_, _++_, append-nil, Sublistᴰ}
 use mathlib.Core.Path.{_≡_, refl, sym, _∙_}
 use native.Mathlib.Nat.{add-zero, le-refl}
 use native.Mathlib.Numerals.{add-one}
@@ -9,21 +9,16 @@ use native.Mathlib.Omega.{arith}
 use lib.ListN.{length, length-set, getD, set, take}
 use mir.Val.{boolByte}
 use lib.Seq.{length-take-le, take-all, take-set-le, take-suc, take-suc-set}
-use Rattle.order.specs.Lists.{count-le-length, filter, filter-append, filter-mem, getD-mem, length-filter, numbersFrom}
+use Rattle.order.specs.Lists.{filter, filter-append, getD-mem, numbersFrom, sublist-few, sublist-⊆}
 use Rattle.order.specs.Order.{orderℕ, pair-first, pairs}
-use Rattle.order.specs.Perm.{pairwise-filter, pairwise-imp}
+use Rattle.order.specs.Perm.{pairwise-imp, pairwise-sublist}
 use Rattle.order.specs.Sorted.{Sorted, sort-sorted}
 use Rattle.order.specs.Least.{ranked}
-use Rattle.order.specs.Test.{by-test}
-use Rattle.spanning.specs.Labelling.{crosses}
-use Rattle.spanning.specs.LabelList.{labelOf}
-use Rattle.forest.specs.Groups.{joined}
 use Rattle.network.specs.Limits.{maxLinks}
-use Rattle.network.specs.Yard.{endsAt, sumAt}
-use Rattle.forest.specs.declared.Forest.{Forest}
+use Rattle.network.specs.Yard.{sumAt}
 use Rattle.kruskal_order.specs.ByCost.{Cheap, linkOrder, order-below, order-length}
 use Rattle.kruskal.specs.Tree.{Usable, Walkable}
-use Rattle.kruskal.specs.Base.{Holding, kept, kept-among, kept-few}
+use Rattle.kruskal.specs.Base.{Holding}
 use Rattle.kruskal.specs.declared.links.Links.{Links}
 
 -- the link at a place of links that can be walked
@@ -83,15 +78,6 @@ pub record InOrder (sums l : List ℕ) : Type 0 where
   pub walkable : Walkable sums l
   pub sorted : Sorted orderℕ (sumAt sums) l
 
-kept-sorted : (ends : List ℕ) (w : ℕ → ℕ) (f : Forest) (l : List ℕ) → Sorted orderℕ w l → Sorted orderℕ w (kept ends f l)
-unfolding kept
-kept-sorted ends w f [] s = s
-kept-sorted ends w f (e ∷ l) s =
-    let more = joined f (endsAt ends e .a) (endsAt ends e .b) in
-    by-test (crosses (labelOf (f .leader)) (endsAt ends e))
-    (λ c. rw c ((λ y m. s .0 y (kept-among ends more l y m)), kept-sorted ends w more l (s .1)))
-    (λ c. rw c (kept-sorted ends w f l (s .1)))
-
 module _ (sums : List ℕ) where
   pub order-in-order : (m : ℕ) {l : List ℕ} → m ≤ maxLinks → Cheap sums m → l ≡ linkOrder sums m → InOrder sums l
   unfolding linkOrder
@@ -106,23 +92,13 @@ module _ (sums : List ℕ) where
             (sort-sorted (pairs orderℕ orderℕ) key (numbersFrom m 0));
       })
 
-  pub filter-in-order : (p : ℕ → Bool) {l : List ℕ} → InOrder sums l → InOrder sums (filter p l)
-  filter-in-order p {l} v =
+  -- so is each sublist
+  pub sublist-in-order : {xs ys : List ℕ} → Sublistᴰ xs ys → InOrder sums ys → InOrder sums xs
+  sublist-in-order s v =
       let few = v .walkable .few in
       record {
-        walkable = record {
-          few = omega (arith, length-filter p l, count-le-length p l);
-          usable = λ e k. v .walkable .usable e (filter-mem p l k .0);
-        };
-        sorted = pairwise-filter p _ l (v .sorted);
-      }
-
-  pub kept-in-order : (ends : List ℕ) (f : Forest) {l : List ℕ} → InOrder sums l → InOrder sums (kept ends f l)
-  kept-in-order ends f {l} v =
-      let few = v .walkable .few in
-      record {
-        walkable = record { few = omega (arith, kept-few ends f l); usable = λ e k. v .walkable .usable e (kept-among ends f l e k) };
-        sorted = kept-sorted ends (sumAt sums) f l (v .sorted);
+        walkable = record { few = omega (arith, sublist-few s); usable = λ e k. v .walkable .usable e (sublist-⊆ s e k) };
+        sorted = pairwise-sublist _ s (v .sorted);
       }
 
   pub held-in-order : {l : List ℕ} {r : Links} → Holding l r → InOrder sums l → InOrder sums (take (r .count) (r .link))

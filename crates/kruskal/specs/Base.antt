@@ -1,15 +1,12 @@
 -- The links that Kruskal's method keeps, as a program collects them in an array.
 use Prim.Native.Nat.{ℕ, _+_, _≤_, _<_}
 use mathlib.Core.Bool.{true, false, cond}
-use mathlib.Core.List.{List, [], _∷_, _++_, append-nil, List·Memᴰ·cases-cons, List·Memᴰ·head as here, List·Memᴰ·tail as there}
-use mathlib.Core.Logic.{inl, inr, ⊎-elim}
+use mathlib.Core.List.{List, [], _∷_, _++_, append-nil, Sublistᴰ, Sublistᴰ·slnil, Sublistᴰ·cons, Sublistᴰ·cons-cons}
 use mathlib.Core.Path.{_≡_, refl, sym, _∙_}
 use native.Mathlib.Numerals.{add-one}
-use native.Mathlib.Omega.{arith}
 use lib.ListN.{length, getD, set, take, drop, drop-of-length-le}
 use lib.Seq.{append-snoc, drop-cons, take-suc-set}
-use Rattle.order.specs.Test.{Decided, by-test, decide}
-use Rattle.order.specs.Lists.{_∈_, _⊆_}
+use Rattle.order.specs.Test.{by-test}
 use Rattle.spanning.specs.Labelling.{crosses}
 use Rattle.spanning.specs.LabelList.{labelOf}
 use Rattle.network.specs.Limits.{maxLinks}
@@ -33,25 +30,14 @@ module _ (ends : List ℕ) where
       let rest = kept f l in
       cond (crosses (labelOf (f .leader)) (endsAt ends e)) (e ∷ more) rest
 
-  -- they are links of the list
-  pub kept-among : (f : Forest) (l : List ℕ) → kept f l ⊆ l
+  -- they are links of the list, in its order
+  pub kept-sublist : (f : Forest) (l : List ℕ) → Sublistᴰ (kept f l) l
   unfolding kept
-  kept-among f (e ∷ l) x m =
-      let more = kept-among (joined f (endsAt ends e .a) (endsAt ends e .b)) l x in
-      go (decide (crosses (labelOf (f .leader)) (endsAt ends e))) more (kept-among f l x) m
-    where
-      go : Decided (crosses (labelOf (f .leader)) (endsAt ends e)) → (x ∈ kept (joined f (endsAt ends e .a) (endsAt ends e .b)) l → x ∈ l)
-          → (x ∈ kept f l → x ∈ l) → x ∈ kept f (e ∷ l) → x ∈ e ∷ l
-      go (inl c) more rest m = ⊎-elim (λ q. here q) (λ k. there (more k)) (List·Memᴰ·cases-cons (rw c at m))
-      go (inr c) more rest m = there (rest (rw c at m))
-
-  pub kept-few : (f : Forest) (l : List ℕ) → length (kept f l) ≤ length l
-  unfolding kept
-  kept-few f [] = omega arith
-  kept-few f (e ∷ l) =
-      by-test (crosses (labelOf (f .leader)) (endsAt ends e))
-      (λ c. rw c (omega (arith, kept-few (joined f (endsAt ends e .a) (endsAt ends e .b)) l)))
-      (λ c. rw c (omega (arith, kept-few f l)))
+  kept-sublist f [] = Sublistᴰ·slnil
+  kept-sublist f (e ∷ l) =
+      let more = kept-sublist (joined f (endsAt ends e .a) (endsAt ends e .b)) l in
+      let rest = kept-sublist f l in
+      by-test (crosses (labelOf (f .leader)) (endsAt ends e)) (λ c. rw c (Sublistᴰ·cons-cons refl more)) (λ c. rw c (Sublistᴰ·cons rest))
 
   -- the first n links of an array, and those kept of l from place k on, from the groups f
   unfoldable pub collected : List ℕ → Forest → List ℕ → ℕ → ℕ → List ℕ

@@ -1,27 +1,31 @@
 -- The search over all sets: what is left of a loop over them at a turn, and what it comes to.
-use Prim.Native.Nat.{ℕ, zero, suc, _+_, _≤_, _<_}
-use mathlib.Core.Bool.{true, false, and-false}
-use mathlib.Core.List.{List, [], _∷_, map, foldl, foldl-append, List·Memᴰ·cases-cons, List·Memᴰ·head as here, List·Memᴰ·tail as there}
+use Prim.Native.Nat.{ℕ, zero, suc, _+_, _-_, _/_, _%_, _≤_, _<_}
+use mathlib.Core.Bool.{Bool, true, false}
+use mathlib.Core.List.{List, [], _∷_, map, _++_, foldl, foldl-append}
+use mathlib.Core.List.{List·Memᴰ·cases-cons, List·Memᴰ·eq-of-singleton, List·Memᴰ·head as here, List·Memᴰ·tail as there}
+use mathlib.Core.List.{Sublistᴰ, Sublistᴰ·cons, Sublistᴰ·refl, Sublistᴰ·slnil}
 use mathlib.Core.Logic.{⊎-elim}
 use mathlib.Core.Path.{_≡_, refl, sym, ap, _∙_}
 use native.Mathlib.Numerals.{add-one}
 use native.Mathlib.Omega.{arith}
 use borrow.Author.Tests.{leb-true}
-use lib.Dec.{eqb, leb}
-use lib.ListN.{length, getD, drop, drop-of-length-le}
-use lib.Seq.{drop-cons}
-use Rattle.order.specs.Test.{by-test}
-use Rattle.order.specs.Lists.{_∈_, _⊆_, map-mem}
+use lib.Dec.{leb}
+use lib.ListN.{length, length-drop, getD, take, drop, drop-of-length-le}
+use lib.Seq.{drop-cons, take-all}
+use Rattle.order.specs.Test.{by-test, fails}
+use Rattle.order.specs.Lists.{_∈_, count, map-mem}
 use Rattle.order.specs.Order.{orderℕ}
-use Rattle.order.specs.Perm.{sum}
+use Rattle.order.specs.Perm.{pairwise-sublist, sum}
 use Rattle.order.specs.Sorted.{Sorted}
 use Rattle.network.specs.Yard.{sumAt}
-use Rattle.forest.specs.Groups.{apart}
-use Rattle.kruskal.specs.Tree.{bare, linked}
-use Rattle.kruskal.specs.Base.{kept}
-use Rattle.exceptions_flags.specs.Ceilings.{Flagged, admitted}
-use Rattle.search_best.specs.Sets.{higher, lower, pair, sets, trials}
-use Rattle.search_best.specs.Search.{considered}
+use Rattle.kmax.specs.Ceilings.{slackOf}
+use Rattle.kmax.specs.Digits.{admits, admits-few, marked, ones}
+use Rattle.network.specs.Limits.{maxLinks}
+use Rattle.exceptions_patterns.specs.Patterns.{Patterned, admitted, patternAt}
+use Rattle.exceptions.specs.Keep.{Exceptions}
+use Rattle.exceptions.specs.Select.{InOrder, sublist-in-order}
+use Rattle.search_best.specs.Sets.{higher, lower, pair, sets, singles, trials}
+use Rattle.search_best.specs.Search.{considered, tried, triedIf}
 use Rattle.search_base.specs.Rest.{loses-more, losesTo, losing, restOf}
 use Rattle.search_best.specs.declared.best.Best.{Best}
 use Rattle.search_base.specs.declared.rest.Rest.{Rest}
@@ -30,16 +34,25 @@ pair-sum : (c : ℕ → ℕ) (x y : ℕ) → sum c (pair x y) ≡ c x + c y
 unfolding lower higher
 pair-sum c x y = by-test (leb x y) (λ k. rw k (omega arith)) (λ k. rw k (omega arith))
 
-drop-among : (l : List ℕ) (i : ℕ) → drop i l ⊆ l
-drop-among l zero y m = m
-drop-among [] (suc i) y m = m
-drop-among (x ∷ l) (suc i) y m = there (drop-among l i y m)
+-- the links from a place on, as a part of an array
+pub from-place : (l : List ℕ) (i : ℕ) → take (length l - i) (drop i l) ≡ drop i l
+from-place l i = take-all (length l - i) (drop i l) (omega (arith, length-drop i l))
+
+drop-sublist : (l : List ℕ) (i : ℕ) → Sublistᴰ (drop i l) l
+drop-sublist l zero = Sublistᴰ·refl l
+drop-sublist [] (suc i) = Sublistᴰ·slnil
+drop-sublist (x ∷ l) (suc i) = Sublistᴰ·cons (drop-sublist l i)
+
+-- they are in order too, and some are left before the end
+pub place-in-order : {sums l : List ℕ} (i : ℕ) → InOrder sums l → InOrder sums (take (length l - i) (drop i l))
+place-in-order {sums} {l} i v = rw (from-place l i) (sublist-in-order sums (drop-sublist l i) v)
+
+pub place-some : (l : List ℕ) (i : ℕ) → i < length l → 0 < length (take (length l - i) (drop i l))
+place-some l i h = rw (from-place l i) (omega (arith, length-drop i l))
 
 -- the rest of links in rising order of cost
 sorted-drop : (c : ℕ → ℕ) (l : List ℕ) (i : ℕ) → Sorted orderℕ c l → Sorted orderℕ c (drop i l)
-sorted-drop c l zero s = s
-sorted-drop c [] (suc i) s = s
-sorted-drop c (x ∷ l) (suc i) s = sorted-drop c l i (s .1)
+sorted-drop c l i s = pairwise-sublist _ (drop-sublist l i) s
 
 -- a link behind place i costs no less than the one at i
 later-dearer : (c : ℕ → ℕ) (l : List ℕ) (i y : ℕ) → Sorted orderℕ c l → i < length l → y ∈ drop i l → c (getD l i 0) ≤ c y
@@ -48,58 +61,112 @@ later-dearer c l i y s h m =
     let sorted = rw q at (sorted-drop c l i s) in
     ⊎-elim (λ e. rw e (omega arith)) (λ k. leb-true (c (getD l i 0)) (c y) (sorted .0 y k)) (List·Memᴰ·cases-cons (rw q at m))
 
-module _ (ends sums : List ℕ) (goal : ℕ) (cs : List Flagged) (base : List ℕ) where
+-- ---- the sets of one link
+
+module _ (ends sums : List ℕ) (goal : ℕ) (base : List ℕ) where
+  -- what those of the links of l from place i on leave of the best so far
+  unfoldable pub triedOnes : Best → List ℕ → ℕ → Best
+  triedOnes b l i = foldl (tried ends sums goal base) b (singles (drop i l))
+
+  pub ones-turn : (b b′ w : Best) (l : List ℕ) (i : ℕ) → i < length l → triedOnes b l i ≡ w → b′ ≡ tried ends sums goal base b (getD l i 0 ∷ [])
+      → triedOnes b′ l (i + 1) ≡ w
+  unfolding triedOnes singles
+  ones-turn b b′ w l i h e q = rw (q, ← e, drop-cons l i 0 h, add-one)
+
+  pub ones-end : (b w : Best) (l : List ℕ) (i : ℕ) → length l ≤ i → triedOnes b l i ≡ w → b ≡ w
+  unfolding triedOnes singles
+  ones-end b w l i h e = rw (drop-of-length-le l h) at e
+
+-- ---- sets that are admitted
+
+-- of two patterns either may come first
+admits-swap : (ks : List ℕ) (a b : ℕ) → admits ks (a ∷ b ∷ []) ≡ admits ks (b ∷ a ∷ [])
+unfolding admits ones
+admits-swap [] a b = refl
+admits-swap (k ∷ ks) a b =
+    let same : a % 2 + (b % 2 + 0) ≡ b % 2 + (a % 2 + 0) = omega arith in
+    rw (same, admits-swap ks (a / 2) (b / 2))
+
+pair-admitted : (ks patterns : List ℕ) (x y : ℕ) → admits ks (patternAt patterns x ∷ patternAt patterns y ∷ []) ≡ admitted ks patterns (pair x y)
+unfolding admitted lower higher
+pair-admitted ks patterns x y =
+    by-test (leb x y) (λ k. rw k) (λ k. rw k (admits-swap ks (patternAt patterns x) (patternAt patterns y)))
+
+-- where all ranks together have less than 2 above 1, no two exceptions are admitted
+pair-barred : (ks patterns : List ℕ) → Patterned ks patterns → slackOf ks < 2 → (x y : ℕ) → x < maxLinks → y < maxLinks
+    → marked (patternAt patterns x) ≡ true → marked (patternAt patterns y) ≡ true → admitted ks patterns (pair x y) ≡ false
+pair-barred ks patterns P few x y hx hy mx my =
+    sym (pair-admitted ks patterns x y)
+    ∙ fails _ (λ a.
+    let p = patternAt patterns x in
+    let q = patternAt patterns y in
+    let both : count marked (p ∷ q ∷ []) ≡ 2 = rw (mx, my) in
+    let most = admits-few ks (p ∷ q ∷ [])
+    (λ r m. ⊎-elim
+    (λ (e : r ≡ p). rw e (P .digits x hx))
+    (λ k. let e : r ≡ q = List·Memᴰ·eq-of-singleton k in rw e (P .digits y hy))
+    (List·Memᴰ·cases-cons m)) a in
+    omega arith)
+
+module _ (ends sums : List ℕ) (goal : ℕ) (ks patterns base : List ℕ) where
   -- what a list of sets leaves of the best so far
   unfoldable pub searched : Best → List (List ℕ) → Best
-  searched b Xs = foldl (considered ends sums goal cs base) b Xs
+  searched b Xs = foldl (considered ends sums goal ks patterns base) b Xs
 
-  inadmissible : (b : Best) (X : List ℕ) → admitted cs X ≡ false → b ≡ considered ends sums goal cs base b X
-  unfolding considered
-  inadmissible b X g = rw (g, and-false (eqb (foldl (linked ends sums) bare X .count) (length X)))
+  -- a set that is admitted is tried, and no other
+  pub admitted-tried : (b r : Best) (X : List ℕ) → admitted ks patterns X ≡ true → r ≡ tried ends sums goal base b X
+      → r ≡ considered ends sums goal ks patterns base b X
+  unfolding triedIf
+  admitted-tried b r X a e = rw a e
+
+  inadmissible : (b : Best) (X : List ℕ) → admitted ks patterns X ≡ false → b ≡ considered ends sums goal ks patterns base b X
+  unfolding triedIf
+  inadmissible b X g = rw g
+
+  -- one that loses changes nothing, admitted or not
+  lost : (b : Best) (X : List ℕ) → b ≡ tried ends sums goal base b X → b ≡ considered ends sums goal ks patterns base b X
+  unfolding triedIf
+  lost b X e = by-test (admitted ks patterns X) (λ a. rw a e) (λ a. rw a)
 
   -- sets that change nothing
-  unchanged : (b : Best) (Xs : List (List ℕ)) → ((X : List ℕ) → X ∈ Xs → b ≡ considered ends sums goal cs base b X) → searched b Xs ≡ b
+  unchanged : (b : Best) (Xs : List (List ℕ)) → ((X : List ℕ) → X ∈ Xs → b ≡ considered ends sums goal ks patterns base b X) → searched b Xs ≡ b
   unfolding searched
   unchanged b [] h = refl
   unchanged b (X ∷ Xs) h = rw (← h X (here refl)) (unchanged b Xs (λ Y m. h Y (there m)))
 
-  -- ---- the sets of x and the links of l from place i on
+  -- ---- the sets of the first link of l and the links from place i on
 
   -- what they leave of the best so far
-  unfoldable pub withPairs : Best → ℕ → List ℕ → ℕ → Best
-  withPairs b x l i = searched b (map (pair x) (drop i l))
+  unfoldable pub withPairs : Best → List ℕ → ℕ → Best
+  withPairs b l i = searched b (map (pair (getD l 0 0)) (drop i l))
 
-  pub pairs-turn : (b b′ w : Best) (x : ℕ) (l : List ℕ) (i : ℕ) → i < length l → withPairs b x l i ≡ w
-      → b′ ≡ considered ends sums goal cs base b (pair x (getD l i 0))
-      → withPairs b′ x l (i + 1) ≡ w
+  pub pairs-turn : (b b′ w : Best) (ok : Bool) (l : List ℕ) (i : ℕ) → i < length l → withPairs b l i ≡ w
+      → ok ≡ admits ks (patternAt patterns (getD l 0 0) ∷ patternAt patterns (getD l i 0) ∷ [])
+      → b′ ≡ triedIf ends sums goal ok base b (pair (getD l 0 0) (getD l i 0)) → withPairs b′ l (i + 1) ≡ w
   unfolding withPairs searched
-  pairs-turn b b′ w x l i h e q = rw (q, ← e, drop-cons l i 0 h, add-one)
+  pairs-turn b b′ w ok l i h e a q =
+      let fit = a ∙ pair-admitted ks patterns (getD l 0 0) (getD l i 0) in
+      rw (q, fit, ← e, drop-cons l i 0 h, add-one)
 
-  pub pairs-end : (b w : Best) (x : ℕ) (l : List ℕ) (i : ℕ) → length l ≤ i → withPairs b x l i ≡ w → b ≡ w
+  pub pairs-end : (b w : Best) (l : List ℕ) (i : ℕ) → length l ≤ i → withPairs b l i ≡ w → b ≡ w
   unfolding withPairs searched
-  pairs-end b w x l i h e = rw (drop-of-length-le l h) at e
+  pairs-end b w l i h e = rw (drop-of-length-le l h) at e
 
-  -- where the set of x and the link at i loses, those behind it lose too
-  pub pairs-lose : Sorted orderℕ (sumAt sums) base → (b w : Best) (x : ℕ) (l : List ℕ) (i : ℕ) (rest : Rest) (c d : ℕ)
+  -- where the set with the link at i loses, those behind it lose too
+  pub pairs-lose : Sorted orderℕ (sumAt sums) base → (b w : Best) (l : List ℕ) (i : ℕ) (rest : Rest) (c d : ℕ)
       → Sorted orderℕ (sumAt sums) l → i < length l
-      → rest ≡ restOf sums base goal 2 → c ≡ sumAt sums x → d ≡ sumAt sums (getD l i 0) → losesTo rest (c + d) (b .found) (b .sum) ≡ true
-      → withPairs b x l i ≡ w → b ≡ w
+      → rest ≡ restOf sums base goal 2 → c ≡ sumAt sums (getD l 0 0) → d ≡ sumAt sums (getD l i 0) → losesTo rest (c + d) (b .found) (b .sum) ≡ true
+      → withPairs b l i ≡ w → b ≡ w
   unfolding withPairs
-  pairs-lose by-cost b w x l i rest c d sorted h e f g k q = sym (unchanged b (map (pair x) (drop i l)) (λ X m.
+  pairs-lose by-cost b w l i rest c d sorted h e f g k q =
+      let x = getD l 0 0 in
+      sym (unchanged b (map (pair x) (drop i l)) (λ X m.
       let y = map-mem (pair x) (drop i l) X m in
       let dearer = later-dearer (sumAt sums) l i (y .0) sorted h (y .1) in
       let cost = pair-sum (sumAt sums) x (y .0) in
       let dear = loses-more (restOf sums base goal 2) _ _ (b .found) (b .sum) (omega (arith, f, g)) (rw e at k) in
-      rw (y .2) (losing ends sums goal cs base by-cost b (pair x (y .0)) dear)))
+      rw (y .2) (lost b (pair x (y .0)) (losing ends sums goal base by-cost b (pair x (y .0)) dear))))
       ∙ q
-
-  -- where no two of the links are admitted, they change nothing
-  pub pairs-unfit : (b : Best) (x : ℕ) (l : List ℕ) (i : ℕ) → ((y : ℕ) → y ∈ l → admitted cs (pair x y) ≡ false) → b ≡ withPairs b x l i
-  unfolding withPairs
-  pairs-unfit b x l i barred =
-      sym (unchanged b (map (pair x) (drop i l)) (λ X m.
-      let y = map-mem (pair x) (drop i l) X m in
-      rw (y .2) (inadmissible b (pair x (y .0)) (barred (y .0) (drop-among l i (y .0) (y .1))))))
 
   -- ---- the sets of one and two links of l from place i on
 
@@ -111,13 +178,14 @@ module _ (ends sums : List ℕ) (goal : ℕ) (cs : List Flagged) (base : List �
   unfolding withSets
   sets-start b l = refl
 
-  pub sets-turn : (b b′ b″ w : Best) (l : List ℕ) (i : ℕ) → i < length l → withSets b l i ≡ w → b′ ≡ considered ends sums goal cs base b (getD l i 0 ∷ [])
-      → b″ ≡ withPairs b′ (getD l i 0) l (i + 1) → withSets b″ l (i + 1) ≡ w
+  pub sets-turn : (b b′ b″ w : Best) (l : List ℕ) (i : ℕ) → i < length l → withSets b l i ≡ w
+      → b′ ≡ considered ends sums goal ks patterns base b (getD l i 0 ∷ []) → b″ ≡ withPairs b′ (drop i l) 1 → withSets b″ l (i + 1) ≡ w
   unfolding withSets withPairs searched sets
   sets-turn b b′ b″ w l i h e q p =
       let x = getD l i 0 in
-      let try = considered ends sums goal cs base in
-      rw (p, q, ← e, drop-cons l i 0 h, add-one) (sym (foldl-append try (try b (x ∷ [])) (map (pair x) (drop (suc i) l)) (sets (drop (suc i) l))))
+      let try = considered ends sums goal ks patterns base in
+      let later = rw (drop-cons l i 0 h) at p in
+      rw (later, q, ← e, drop-cons l i 0 h, add-one) (sym (foldl-append try (try b (x ∷ [])) (map (pair x) (drop (suc i) l)) (sets (drop (suc i) l))))
 
   pub sets-end : (b w : Best) (l : List ℕ) (i : ℕ) → length l ≤ i → withSets b l i ≡ w → b ≡ w
   unfolding withSets searched sets
@@ -125,12 +193,38 @@ module _ (ends sums : List ℕ) (goal : ℕ) (cs : List Flagged) (base : List �
 
   -- ---- all sets
 
-  pub trials-searched : (b₀ b r : Best) (l : List ℕ) → b ≡ considered ends sums goal cs base b₀ [] → r ≡ searched b (sets l) → r ≡ searched b₀ (trials l)
+  -- where no two exceptions are admitted, those of one link are all
+  module _ (P : Patterned ks patterns) (few : slackOf ks < 2) where
+    ones-searched : (b : Best) (l : List ℕ) → Exceptions ks patterns l → ((x : ℕ) → x ∈ l → x < maxLinks)
+        → foldl (tried ends sums goal base) b (singles l) ≡ searched b (sets l)
+    unfolding searched sets singles
+    ones-searched b [] E below = refl
+    ones-searched b (x ∷ l) E below =
+        let try = considered ends sums goal ks patterns base in
+        let b′ = tried ends sums goal base b (x ∷ []) in
+        let first : b′ ≡ try b (x ∷ []) = admitted-tried b b′ (x ∷ []) (E .alone x (here refl)) refl in
+        let barred : searched b′ (map (pair x) l) ≡ b′ = unchanged b′ (map (pair x) l) (λ X m.
+        let y = map-mem (pair x) l X m in
+        rw (y .2) (inadmissible b′ (pair x (y .0)) (pair-barred ks patterns P few x (y .0) (below x (here refl)) (below (y .0) (there (y .1)))
+        (E .above x (here refl)) (E .above (y .0) (there (y .1)))))) in
+        let later : Exceptions ks patterns l = record { above = λ y m. E .above y (there m); alone = λ y m. E .alone y (there m) } in
+        ones-searched b′ l later (λ y m. below y (there m))
+        ∙ ap (λ (c : Best). foldl try c (sets l)) (sym barred)
+        ∙ sym (foldl-append try b′ (map (pair x) l) (sets l))
+        ∙ ap (λ (c : Best). foldl try c (map (pair x) l ++ sets l)) first
+
+    pub ones-all : (b r : Best) (l : List ℕ) → Exceptions ks patterns l → ((x : ℕ) → x ∈ l → x < maxLinks)
+        → r ≡ triedOnes ends sums goal base b l 0 → r ≡ searched b (sets l)
+    unfolding triedOnes
+    ones-all b r l E below e = e ∙ ones-searched b l E below
+
+  pub trials-searched : (b₀ b r : Best) (l : List ℕ) → b ≡ considered ends sums goal ks patterns base b₀ [] → r ≡ searched b (sets l)
+      → r ≡ searched b₀ (trials l)
   unfolding searched
-  trials-searched b₀ b r l e q = q ∙ ap (λ (k : Best). foldl (considered ends sums goal cs base) k (sets l)) e
+  trials-searched b₀ b r l e q = q ∙ ap (λ (k : Best). foldl (considered ends sums goal ks patterns base) k (sets l)) e
 
   -- without exceptions there are no other sets
-  pub none-searched : (b₀ b : Best) (l : List ℕ) → length l ≡ 0 → b ≡ considered ends sums goal cs base b₀ [] → b ≡ searched b₀ (trials (kept ends apart l))
-  unfolding searched sets kept
+  pub none-searched : (b₀ b : Best) (l : List ℕ) → length l ≡ 0 → b ≡ considered ends sums goal ks patterns base b₀ [] → b ≡ searched b₀ (trials l)
+  unfolding searched sets
   none-searched b₀ b [] h e = e
   none-searched b₀ b (x ∷ l) h e = absurd (omega arith)

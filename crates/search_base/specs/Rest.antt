@@ -4,7 +4,7 @@ use Prim.Native.Nat.{ℕ, zero, suc, _+_, _-_, _*_, _≤_, _<_}
 use mathlib.Core.Bool.{Bool, true, false, cond, not, _&&_, _||_}
 use mathlib.Core.List.{List, [], _∷_, foldl, List·Memᴰ·cases-cons, List·Memᴰ·head as here, List·Memᴰ·tail as there}
 use mathlib.Core.Logic.{⊎-elim}
-use mathlib.Core.Path.{_≡_}
+use mathlib.Core.Path.{_≡_, sym, ap, _∙_}
 use native.Mathlib.Nat.{mul-le-mul-right}
 use native.Mathlib.Omega.{arith}
 use borrow.Author.Tests.{eqb-true, le-ltb, lt-ltb, ltb-true, ne-eqb}
@@ -21,17 +21,25 @@ use Rattle.network.specs.Yard.{sumAt}
 use Rattle.trees_costs.specs.TreeCosts.{Below, sum-le, sumOf}
 use Rattle.kruskal.specs.Tree.{Walkable, bare, linked}
 use Rattle.kruskal.specs.declared.tree.Tree.{Tree}
-use Rattle.exceptions_flags.specs.Ceilings.{Flagged, admitted}
 use Rattle.search_base.specs.Growth.{grown-all, grown-few, grown-least, grown-more}
-use Rattle.search_best.specs.Search.{beats, considered, offered}
+use Rattle.search_best.specs.Search.{beats, offered, tried}
 use Rattle.search_best.specs.declared.best.Best.{Best}
 use Rattle.search_base.specs.declared.rest.Rest.{Rest}
 
 -- what a tree of `goal` links takes of the base beside a set of `size` links
 unfoldable pub restOf : List ℕ → List ℕ → ℕ → ℕ → Rest
 restOf sums base goal size =
-    cond (ltb (length base) (goal - size)) (record { enough = false; least = 0 })
-    (record { enough = true; least = sum (sumAt sums) (take (goal - size) base) })
+    cond (ltb (length base) (goal - size)) (record { goal = goal; enough = false; least = 0 })
+    (record { goal = goal; enough = true; least = sum (sumAt sums) (take (goal - size) base) })
+
+-- it is for trees of that many links
+pub rest-goal : (sums base : List ℕ) (goal size : ℕ) {rest : Rest} → rest ≡ restOf sums base goal size → rest .goal ≡ goal
+unfolding restOf
+rest-goal sums base goal size e =
+    rw e (by-test (ltb (length base) (goal - size)) (λ k. rw k) (λ k. rw k))
+
+pub rest-for : (sums base : List ℕ) (goal size : ℕ) {rest : Rest} → rest ≡ restOf sums base goal size → rest ≡ restOf sums base (rest .goal) size
+rest-for sums base goal size e = e ∙ ap (λ (g : ℕ). restOf sums base g size) (sym (rest-goal sums base goal size e))
 
 -- no tree with a set that costs `cost` is better than the best so far, if one was found, with its sum
 unfoldable pub losesTo : Rest → ℕ → Bool → ℕ → Bool
@@ -86,18 +94,18 @@ module _ (sums base : List ℕ) (walk : Walkable sums base) where
   base-fits = rw (take-length base) at (first-fits (length base))
 
   -- the rest, by whether the base has enough links
-  pub rest-few : (goal size : ℕ) → length base < goal - size → record { enough = false; least = 0 } ≡ restOf sums base goal size
+  pub rest-few : (goal size : ℕ) → length base < goal - size → record { goal = goal; enough = false; least = 0 } ≡ restOf sums base goal size
   unfolding restOf
   rest-few goal size h = rw (lt-ltb (length base) (goal - size) h)
 
   pub rest-enough : (goal size : ℕ) → goal - size ≤ length base
-      → record { enough = true; least = sumOf sums (take (goal - size) base) } ≡ restOf sums base goal size
+      → record { goal = goal; enough = true; least = sumOf sums (take (goal - size) base) } ≡ restOf sums base goal size
   unfolding restOf sumOf
   rest-enough goal size h = rw (le-ltb (length base) (goal - size) h)
 
 -- ---- a set that loses
 
-module _ (ends sums : List ℕ) (goal : ℕ) (cs : List Flagged) (base : List ℕ) (sorted : Sorted orderℕ (sumAt sums) base) where
+module _ (ends sums : List ℕ) (goal : ℕ) (base : List ℕ) (sorted : Sorted orderℕ (sumAt sums) base) where
   -- the tree that a set without a ring leads to has too few links, or a larger sum than b
   no-better : (b : Best) (X : List ℕ) (t : Tree) → losesTo (restOf sums base goal (length X)) (sum (sumAt sums) X) (b .found) (b .sum) ≡ true
       → t .count ≡ length X → t .sum ≡ sum (sumAt sums) X
@@ -118,13 +126,13 @@ module _ (ends sums : List ℕ) (goal : ℕ) (cs : List Flagged) (base : List �
       clash (right (eqb (u .count) goal) _ k) (rw (found, le-ltb (u .sum) (b .sum) (omega arith), ne-eqb (u .sum) (b .sum) (λ s. omega arith)))))
 
   pub losing : (b : Best) (X : List ℕ) → losesTo (restOf sums base goal (length X)) (sum (sumAt sums) X) (b .found) (b .sum) ≡ true
-      → b ≡ considered ends sums goal cs base b X
-  unfolding considered offered bare
+      → b ≡ tried ends sums goal base b X
+  unfolding tried offered bare
   losing b X e =
       let t = foldl (linked ends sums) bare X in
-      by-test (eqb (t .count) (length X) && admitted cs X)
+      by-test (eqb (t .count) (length X))
       (λ k.
-      let n = eqb-true (t .count) (length X) (left (eqb (t .count) (length X)) _ k) in
+      let n = eqb-true (t .count) (length X) k in
       let c = grown-all ends sums bare X (omega arith) in
       rw (k, no-better b X t e n (omega arith)))
       (λ k. rw k)

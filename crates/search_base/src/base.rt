@@ -21,12 +21,12 @@ fn flags_of(sums: &[u32], links: &[u8]) -> [bool; MAX_LINKS]
     taken
 }
 
-// The base as the best tree so far, where it has `goal` links and the empty set of exceptions is admitted.
-pub fn base_alone(sums: &[u32], base: &[u8], goal: u8, admitted: bool) -> Best
+// The base as the best tree so far, where it has `goal` links.
+pub fn base_alone(sums: &[u32], base: &[u8], goal: u8) -> Best
     requires { ⌜ (length (now sums) ≡ maxLinks) × Walkable (now sums) (now base) ⌝ }
-    ensures { λ r. ⌜ r ≡ baseAlone (now (sums .entry)) (now (base .entry)) goal admitted ⌝ }
+    ensures { λ r. ⌜ r ≡ baseAlone (now (sums .entry)) (now (base .entry)) goal ⌝ }
 {
-    if admitted & (base.len() == goal as usize) {
+    if base.len() == goal as usize {
         return Best {
             found: true,
             sum: sum_of(sums, base),

@@ -7,8 +7,9 @@ ghost use Rattle.network.specs.Limits.{maxLinks};
 ghost use Rattle.kruskal.specs.Tree.{Walkable};
 ghost use Rattle.search_base.specs.Rest.{losesTo, restOf};
 
-// Whether the base has as many links as a tree takes beside a set, and the least that so many cost.
+// What a tree of `goal` links takes of the base beside a set: whether the base has as many links, and the least that so many cost.
 pub struct Rest {
+    pub goal: u8,
     pub enough: bool,
     pub least: u32,
 }
@@ -32,11 +33,13 @@ pub fn rest_of(sums: &[u32], base: &[u8], goal: u8, size: u8) -> Rest
     let n = beside(goal, size);
     if base.len() < n {
         return Rest {
+            goal,
             enough: false,
             least: 0,
         };
     }
     Rest {
+        goal,
         enough: true,
         least: sum_of(sums, &base[..n]),
     }

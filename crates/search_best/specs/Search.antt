@@ -12,7 +12,8 @@ use Rattle.kruskal.specs.Base.{kept}
 use Rattle.kruskal.specs.declared.tree.Tree.{Tree}
 use Rattle.search_best.specs.Flags.{first}
 use Rattle.search_best.specs.Sets.{trials}
-use Rattle.exceptions_flags.specs.Ceilings.{Flagged, admitted, exception, normal}
+use Rattle.exceptions_patterns.specs.Patterns.{admitted, normal}
+use Rattle.exceptions.specs.Keep.{keptExceptions}
 use Rattle.search_best.specs.declared.best.Best.{Best}
 
 -- no tree was found
@@ -27,14 +28,23 @@ beats t b = cond (b .found) (ltb (t .sum) (b .sum) || (eqb (t .sum) (b .sum) && 
 unfoldable pub offered : ℕ → Best → Tree → Best
 offered goal b t = cond (eqb (t .count) goal && beats t b) (record { found = true; sum = t .sum; taken = t .taken }) b
 
-module _ (ends sums : List ℕ) (goal : ℕ) (cs : List Flagged) where
-  -- one exception set: it is admitted, each of its links joins two groups, and the base completes it
-  unfoldable pub considered : List ℕ → Best → List ℕ → Best
-  considered base b X =
+module _ (ends sums : List ℕ) (goal : ℕ) where
+  -- one exception set: where each of its links joins two groups, the base completes it, and the tree is offered
+  unfoldable pub tried : List ℕ → Best → List ℕ → Best
+  tried base b X =
       let t = foldl (linked ends sums) bare X in
-      cond (eqb (t .count) (length X) && admitted cs X) (offered goal b (foldl (linked ends sums) t base)) b
+      cond (eqb (t .count) (length X)) (offered goal b (foldl (linked ends sums) t base)) b
+
+  -- it is tried where a test holds
+  unfoldable pub triedIf : Bool → List ℕ → Best → List ℕ → Best
+  triedIf ok base b X = let t = tried base b X in cond ok t b
+
+module _ (ends sums : List ℕ) (goal : ℕ) (ks patterns : List ℕ) where
+  -- and so where it is admitted
+  abbrev pub considered : List ℕ → Best → List ℕ → Best
+  considered base b X = triedIf ends sums goal (admitted ks patterns X) base b X
 
   -- The best tree, of links that come in the given order. The base is what Kruskal's method keeps of the normal links; exceptions too are tried only
-  -- where it keeps them, with nothing joined but exceptions.
+  -- where it keeps them, with nothing joined but exceptions of their pattern.
   unfoldable pub bestOf : List ℕ → Best
-  bestOf order = foldl (considered (kept ends apart (filter (normal cs) order))) nothing (trials (kept ends apart (filter (exception cs) order)))
+  bestOf order = foldl (considered (kept ends apart (filter (normal patterns) order))) nothing (trials (keptExceptions ends patterns ks order))

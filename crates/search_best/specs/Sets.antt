@@ -33,6 +33,10 @@ unfoldable pub sets : List ℕ → List (List ℕ)
 sets [] = []
 sets (x ∷ l) = (x ∷ []) ∷ (map (pair x) l ++ sets l)
 
+-- those of one link alone
+unfoldable pub singles : List ℕ → List (List ℕ)
+singles l = map (λ x. x ∷ []) l
+
 -- and the empty one
 abbrev pub trials : List ℕ → List (List ℕ)
 trials l = [] ∷ sets l

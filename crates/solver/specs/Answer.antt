@@ -12,11 +12,9 @@ use Rattle.network.specs.Yard.{best, bounds, sumAt, treeSize}
 use Rattle.network.specs.Calls.{isNone, linksOf, treeWith}
 use Rattle.network.specs.NetworkFine.{NetworkFine}
 use Rattle.network.specs.declared.Network.{Network}
-use Rattle.kruskal_order.specs.ByCost.{linkOrder}
 use Rattle.search_best.specs.Flags.{rising}
 use Rattle.solver_buffer.specs.Buffer.{put-front, putAt}
-use Rattle.exceptions_flags.specs.Two.{twoOf}
-use Rattle.search_best.specs.Search.{bestOf}
+use Rattle.solver_network.specs.OfNetwork.{netBest}
 use Rattle.solver.specs.Found.{Shows, none-shown, tree-shown}
 use Rattle.solver.specs.Best.{best-shown}
 use Rattle.search_best.specs.declared.best.Best.{Best}
@@ -41,7 +39,7 @@ module _ {s : ℕ → ℕ} {goal : ℕ} where
 
 -- what the program's search gives is the answer
 module _ (net : Network) (fine : NetworkFine net) (b1 b2 : ℤ) (b : Best)
-    (e : b ≡ bestOf (net .ends) (net .sums) (net .n - 1) (twoOf net b1 b2) (linkOrder (net .sums) (net .m))) where
+    (e : b ≡ netBest net b1 b2) where
   shown : Shows (sumAt (net .sums)) (net .n - 1) (best net (bounds net b1 b2)) b
   shown = rw e (best-shown net fine b1 b2)
 

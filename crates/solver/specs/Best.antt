@@ -1,39 +1,43 @@
 -- THE THEOREM: the program's search finds the best tree of document 01.
-use Prim.Native.Nat.{ℕ, _-_, _≤_, _<_}
-use mathlib.Core.Bool.{Bool, true, not}
+use Prim.Native.Nat.{ℕ, _-_, _<_}
+use mathlib.Core.Bool.{Bool, true, not, _&&_}
 use mathlib.Core.List.{List, [], _∷_, List·Memᴰ·eq-of-singleton}
-use mathlib.Core.Path.{_≡_, sym, ap, _∙_, fun-ext}
+use mathlib.Core.Path.{_≡_, sym, ap, _∙_, fun-ext, subst}
 use native.Mathlib.Omega.{arith}
-use lib.IntN.{ℤ, pos}
-use lib.ListN.{length}
-use Rattle.order.specs.Test.{by-test, left}
-use Rattle.order.specs.Lists.{_∈_, _⊆_, filter, filter-mem, mem-filter, numbersFrom}
+use borrow.Author.Tests.{not-false, not-true}
+use lib.Dec.{eqb}
+use lib.IntN.{ℤ}
+use Rattle.order.specs.Test.{both, left, right}
+use Rattle.order.specs.Lists.{_∈_, _⊆_, filter, filter-mem, mem-filter, numbersFrom, sublist-⊆}
 use Rattle.order.specs.Order.{orderℕ, orderℤ, pairs}
-use Rattle.order.specs.Perm.{pairwise-filter, pairwise-imp}
-use Rattle.order.specs.Sorted.{Apart, numbers-mem, numbers-rising, rising-apart, sort-mem, sublist-rising}
+use Rattle.order.specs.Perm.{pairwise-filter, pairwise-imp, pairwise-sublist}
+use Rattle.order.specs.Sorted.{Apart, mem-numbers, numbers-mem, numbers-rising, rising-apart, sort-mem, sublist-rising}
 use Rattle.order.specs.Least.{ranked}
 use Rattle.spanning.specs.Labelling.{Labelling}
 use Rattle.spanning.specs.Tree.{identity}
-use Rattle.spanning.specs.Kruskal.{greedy-forest, greedy-⊆, kruskal, kruskal-greedy}
-use Rattle.spanning.specs.Best.{byCost, forest-apart}
-use Rattle.kmax.specs.Ceilings.{Ceiling, admissible, ceilings-slack, exceptional, meets, meets-admissible, meets-few}
-use Rattle.kmax.specs.Pattern.{exceptional-lone, lone, lone-pattern}
+use Rattle.spanning.specs.Kruskal.{greedy-⊆, kruskal, kruskal-greedy}
+use Rattle.spanning.specs.Best.{byCost}
+use Rattle.kmax.specs.Ceilings.{Ceiling, admissible, exceptional}
+use Rattle.kmax.specs.Pattern.{lone}
+use Rattle.kmax.specs.Digits.{admits, marked}
 use Rattle.planning.specs.Graph.{exceptionals, links, normals, searchSets, under}
-use Rattle.planning.specs.Search.{EnoughSets, base, search-base, search-sets, trees-ranked}
-use Rattle.planning.specs.Exchange.{exchange}
+use Rattle.planning.specs.Search.{EnoughSets, base, search-base, search-sets}
+use Rattle.planning.specs.Patterns.{KeptLink, has, keeps, kept-enough}
 use Rattle.network.specs.Limits.{maxLinks}
-use Rattle.network.specs.Yard.{best, bounds, endsAt, graph, ranks, sumAt, trees}
+use Rattle.network.specs.Yard.{best, bounds, endsAt, graph, ranks, sumAt}
 use Rattle.network.specs.NetworkFine.{NetworkFine, graph-sound}
 use Rattle.network.specs.declared.Network.{Network}
 use Rattle.forest.specs.Groups.{apart, apart-labels, apart-led}
-use Rattle.kruskal_order.specs.ByCost.{linkOrder, order-below}
+use Rattle.kruskal_order.specs.ByCost.{linkOrder, order-apart, order-below}
 use Rattle.kruskal.specs.Base.{kept}
 use Rattle.kruskal.specs.Grown.{kept-kruskal}
 use Rattle.solver.specs.Filter.{filter-ext, filter-sort}
 use Rattle.search_best.specs.Sets.{trials, trials-among, trials-complete, trials-sound}
-use Rattle.exceptions_flags.specs.Ceilings.{exception, normal}
-use Rattle.exceptions_flags.specs.Two.{two-admitted, two-bounds, two-few, two-normal, two-one, twoOf}
+use Rattle.exceptions_patterns.specs.Patterns.{Patterned, admitted, normal, patternAt}
+use Rattle.exceptions_patterns.specs.OfNetwork.{net-admitted, net-bounds, net-few, net-normal, net-pattern, net-patterned, netPatterns}
+use Rattle.exceptions.specs.Keep.{exceptions-of, exceptions-sublist, kept-exceptions, keptExceptions, pattern-known}
 use Rattle.search_best.specs.Search.{bestOf}
+use Rattle.solver_network.specs.OfNetwork.{netBest}
 use Rattle.solver.specs.Found.{Shows, near, search-shown}
 
 -- the links have different numbers, and so different places in the order
@@ -82,74 +86,94 @@ module _ (net : Network) (fine : NetworkFine net) (b1 b2 : ℤ) where
   abbrev cheapest : List ℕ
   cheapest = base (graph net) (byCost (sumAt (net .sums)) (normals (graph net) bs))
 
-  base-links : kept (net .ends) apart (filter (normal (twoOf net b1 b2)) (linkOrder (net .sums) (net .m))) ≡ cheapest
-  base-links = kept-links (normal (twoOf net b1 b2)) (λ e. not (exceptional orderℤ cs e)) (two-normal net fine b1 b2)
-
-  -- and of the exceptions
-  abbrev cheapestLone : List ℕ
-  cheapestLone = base (graph net) (byCost (sumAt (net .sums)) (filter (lone orderℤ cs) (links (graph net))))
-
-  exception-links : kept (net .ends) apart (filter (exception (twoOf net b1 b2)) (linkOrder (net .sums) (net .m))) ≡ cheapestLone
-  unfolding exception
-  exception-links =
-      kept-links (exception (twoOf net b1 b2)) (lone orderℤ cs)
-      (λ e h.
-      let alone = two-admitted net fine b1 b2 (e ∷ []) (λ x m. rw (List·Memᴰ·eq-of-singleton m) h) in
-      rw (two-normal net fine b1 b2 e h, alone) (by-test (exceptional orderℤ cs e) (λ t. rw t) (λ t. rw t)))
+  base-links : kept (net .ends) apart (filter (normal (netPatterns net b1 b2)) (linkOrder (net .sums) (net .m))) ≡ cheapest
+  base-links = kept-links (normal (netPatterns net b1 b2)) (λ e. not (exceptional orderℤ cs e)) (net-normal net fine b1 b2)
 
   kept-below : (q : ℕ → Bool) (e : ℕ) → e ∈ base (graph net) (byCost (sumAt (net .sums)) (filter q (links (graph net)))) → e < net .m
   kept-below q e k = candidate q e (greedy-⊆ (endsAt (net .ends)) (kruskal-greedy (endsAt (net .ends)) identity _) e k)
 
+  -- and of the exceptions, pattern by pattern
+  abbrev odd : List ℕ
+  odd = keptExceptions (net .ends) (netPatterns net b1 b2) (ranks net) (linkOrder (net .sums) (net .m))
+
   -- ---- the sets that the program tries are enough
 
-  lone-apart : Apart (λ x. x) cheapestLone
-  lone-apart =
-      forest-apart (endsAt (net .ends)) identity cheapestLone (greedy-forest (endsAt (net .ends)) (kruskal-greedy (endsAt (net .ends)) identity _))
+  patterned : Patterned (ranks net) (netPatterns net b1 b2)
+  patterned = net-patterned net fine b1 b2
 
-  lone-exceptional : cheapestLone ⊆ exceptionals (graph net) bs
-  lone-exceptional x k =
-      let p = lone orderℤ cs in
-      let r = filter-mem p (links (graph net)) (passing p x (greedy-⊆ (endsAt (net .ends)) (kruskal-greedy (endsAt (net .ends)) identity _) x k)) in
-      mem-filter (exceptional orderℤ cs) (r .0) (left (exceptional orderℤ cs x) (admissible orderℤ cs (x ∷ [])) (r .1))
+  order-within : (x : ℕ) → x ∈ linkOrder (net .sums) (net .m) → x < maxLinks
+  order-within = within (linkOrder (net .sums) (net .m)) (order-below (net .sums) (net .m))
 
-  -- the exceptional links of a tree that fits, if they are kept: at most two, and so a set that is tried
-  tried : (ts : List ℕ) → ts ∈ trees net → meets orderℤ cs (pos 0) ts ≡ true → ((x : ℕ) → x ∈ ts → lone orderℤ cs x ≡ true → x ∈ cheapestLone)
-      → filter (exceptional orderℤ cs) ts ∈ trials cheapestLone
-  tried ts k f keeps =
-      let T = trees-ranked (graph net) (graph-sound net fine) bs in
-      let X = filter (exceptional orderℤ cs) ts in
-      let few = meets-few orderℤ (pos 0) cs ts (T .ranks ts k) f in
-      let most = two-few net fine in
-      let admitted = sym (meets-admissible orderℤ (pos 0) cs ts (T .ranks ts k)) ∙ f in
-      let small : length X ≤ 2 = omega (arith, ceilings-slack (graph net .cost) 0 (ranks net) bs) in
-      trials-complete cheapestLone X
-      (pairwise-filter (exceptional orderℤ cs) _ ts (sublist-rising orderℕ (λ x. x) (T .subsequence ts k) (numbers-rising (net .m) 0)))
-      (λ x i. keeps x (filter-mem (exceptional orderℤ cs) ts i .0) (exceptional-lone orderℤ cs ts admitted x i))
-      small
+  odd-among : odd ⊆ linkOrder (net .sums) (net .m)
+  odd-among = sublist-⊆ (exceptions-sublist (net .ends) (ranks net) (netPatterns net b1 b2) (linkOrder (net .sums) (net .m)) patterned)
 
-  -- for each tree that fits, one whose exceptions are all kept will do
-  enough : EnoughSets (graph net) bs (trials cheapestLone)
+  odd-below : (x : ℕ) → x ∈ odd → x < net .m
+  odd-below x k = order-below (net .sums) (net .m) x (odd-among x k)
+
+  -- no link is there twice
+  odd-apart : Apart (λ x. x) odd
+  odd-apart =
+      pairwise-sublist (λ x y. ¬ (y ≡ x)) (exceptions-sublist (net .ends) (ranks net) (netPatterns net b1 b2) (linkOrder (net .sums) (net .m)) patterned)
+      (order-apart (net .sums) (net .m))
+
+  -- each is above some bound, and may be in a tree all the same
+  odd-exceptional : odd ⊆ exceptionals (graph net) bs
+  unfolding normal
+  odd-exceptional x k =
+      let known = kept-exceptions (net .ends) (ranks net) (netPatterns net b1 b2) (linkOrder (net .sums) (net .m)) patterned order-within in
+      let above = sym (net-normal net fine b1 b2 x (order-within x (odd-among x k))) ∙ not-true _ (known .above x k) in
+      mem-filter (exceptional orderℤ cs) (mem-numbers (net .m) 0 x (omega arith) (omega (arith, odd-below x k))) (not-false _ above)
+
+  -- what the program keeps of one pattern is what the theory keeps of it
+  pattern-links : (q : ℕ) → kept (net .ends) apart (filter (λ e. eqb (patternAt (netPatterns net b1 b2) e) q) (linkOrder (net .sums) (net .m)))
+      ≡ keeps (graph net) bs q
+  pattern-links q =
+      kept-links (λ e. eqb (patternAt (netPatterns net b1 b2) e) q) (has (graph net) bs q)
+      (λ e h. ap (λ (p : ℕ). eqb p q) (net-pattern net fine b1 b2 e h))
+
+  -- a link that needs to be tried may be an exception
+  needed-fit : (x : ℕ) → x < maxLinks → lone orderℤ cs x ≡ true
+      → marked (patternAt (netPatterns net b1 b2) x) && admits (ranks net) (patternAt (netPatterns net b1 b2) x ∷ []) ≡ true
+  unfolding normal admitted
+  needed-fit x h e =
+      let above = left (exceptional orderℤ cs x) (admissible orderℤ cs (x ∷ [])) e in
+      let alone = right (exceptional orderℤ cs x) (admissible orderℤ cs (x ∷ [])) e in
+      let one = net-admitted net fine b1 b2 (x ∷ []) (λ y m. rw (List·Memᴰ·eq-of-singleton m) h) in
+      both (ap not (net-normal net fine b1 b2 x h ∙ ap not above)) (one ∙ alone)
+
+  -- and so it is among those that the program tries
+  needed : (x : ℕ) → x < net .m → KeptLink (graph net) bs x → x ∈ odd
+  needed x h K =
+      let few = fine .few-links in
+      let known : x < maxLinks = omega arith in
+      let q = patternAt (netPatterns net b1 b2) x in
+      let own = exceptions-of (net .ends) (ranks net) (netPatterns net b1 b2) (linkOrder (net .sums) (net .m)) patterned q
+      (pattern-known (ranks net) (netPatterns net b1 b2) patterned x known) (needed-fit x known (K .alone)) in
+      let kept : x ∈ keeps (graph net) bs q = subst (λ (p : ℕ). x ∈ keeps (graph net) bs p) (sym (net-pattern net fine b1 b2 x known)) (K .kept) in
+      let there : x ∈ filter (λ e. eqb (patternAt (netPatterns net b1 b2) e) q) odd =
+      subst (λ (l : List ℕ). x ∈ l) (sym (own ∙ pattern-links q)) kept in
+      filter-mem (λ e. eqb (patternAt (netPatterns net b1 b2) e) q) odd there .0
+
+  enough : EnoughSets (graph net) bs (trials odd)
   enough =
-      record {
-        sound = trials-sound (exceptionals (graph net) bs) cheapestLone
-            (pairwise-filter (exceptional orderℤ cs) _ (links (graph net)) (numbers-rising (net .m) 0))
-            lone-apart lone-exceptional;
-        covers = λ ts k f.
-            let u = exchange (graph net) (graph-sound net fine) bs (lone orderℤ cs) (lone-pattern orderℤ cs (two-one net fine b1 b2)) ts k in
-            let r = u .1 in
-            (u .0, r .tree, r .fits ∙ f, r .better, tried (u .0) (r .tree) (r .fits ∙ f) (r .kept));
-      }
+      kept-enough (graph net) (graph-sound net fine) bs (trials odd)
+      (trials-sound (exceptionals (graph net) bs) odd (pairwise-filter (exceptional orderℤ cs) _ (links (graph net)) (numbers-rising (net .m) 0))
+      odd-apart odd-exceptional)
+      (λ X sub short K.
+      trials-complete odd X
+      (sublist-rising orderℕ (λ x. x) sub (pairwise-filter (exceptional orderℤ cs) _ (links (graph net)) (numbers-rising (net .m) 0)))
+      (λ x m. needed x (link-below x (filter-mem (exceptional orderℤ cs) (links (graph net)) (sublist-⊆ sub x m) .0)) (K x m))
+      (omega (arith, net-few net fine)))
 
-  trials-best : searchSets (graph net) bs cheapest (trials cheapestLone) ≡ best net bs
+  trials-best : searchSets (graph net) bs cheapest (trials odd) ≡ best net bs
   trials-best =
-      search-base (graph net) bs (byCost (sumAt (net .sums)) (normals (graph net) bs)) (trials cheapestLone)
-      ∙ search-sets (graph net) (graph-sound net fine) bs (two-bounds net fine b1 b2) (trials cheapestLone) enough
+      search-base (graph net) bs (byCost (sumAt (net .sums)) (normals (graph net) bs)) (trials odd)
+      ∙ search-sets (graph net) (graph-sound net fine) bs (net-bounds net fine b1 b2) (trials odd) enough
 
-  pub best-shown : Shows (sumAt (net .sums)) (net .n - 1) (best net bs)
-      (bestOf (net .ends) (net .sums) (net .n - 1) (twoOf net b1 b2) (linkOrder (net .sums) (net .m)))
-  unfolding bestOf
+  pub best-shown : Shows (sumAt (net .sums)) (net .n - 1) (best net bs) (netBest net b1 b2)
+  unfolding bestOf netBest
   best-shown =
-      let found = search-shown net fine bs (twoOf net b1 b2) cheapest (kept-below (λ e. not (exceptional orderℤ cs e)))
-      (λ X below. two-admitted net fine b1 b2 X (within X below)) (trials cheapestLone)
-      (λ X k x m. kept-below (lone orderℤ cs) x (trials-among cheapestLone X k x m)) in
-      rw (base-links, exception-links, ← trials-best) found
+      let found = search-shown net fine bs (ranks net) (netPatterns net b1 b2) cheapest (kept-below (λ e. not (exceptional orderℤ cs e)))
+      (λ X below. net-admitted net fine b1 b2 X (within X below)) (trials odd)
+      (λ X k x m. odd-below x (trials-among odd X k x m)) in
+      rw (base-links, ← trials-best) found

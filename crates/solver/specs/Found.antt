@@ -1,6 +1,6 @@
 -- What the program keeps at each exception set is what the theory's search keeps: `Shows` ties the one to the other.
 use Prim.Native.Nat.{ℕ, _-_, _≤_, _<_}
-use mathlib.Core.Bool.{Bool, and-false, cond, true, false, not, _&&_, _||_}
+use mathlib.Core.Bool.{Bool, cond, true, false, not, _&&_, _||_}
 use mathlib.Core.List.{List, [], _∷_, _++_, append-nil, foldl, map, List·Memᴰ·head as here, List·Memᴰ·tail as there}
 use mathlib.Core.Logic.{_⊎_, inl, inr}
 use mathlib.Core.Option.{Option, none, some}
@@ -34,8 +34,8 @@ use Rattle.kruskal.specs.Tree.{bare, linked}
 use Rattle.kruskal.specs.Grown.{Holds, Near, bare-holds, grown-holds}
 use Rattle.kruskal.specs.declared.tree.Tree.{Tree}
 use Rattle.search_best.specs.Flags.{first, first-dictionary, flags-length, flags-rising, rising}
-use Rattle.exceptions_flags.specs.Ceilings.{Flagged, admitted}
-use Rattle.search_best.specs.Search.{beats, considered, nothing, offered}
+use Rattle.exceptions_patterns.specs.Patterns.{admitted}
+use Rattle.search_best.specs.Search.{beats, considered, nothing, offered, tried, triedIf}
 use Rattle.search_best.specs.declared.best.Best.{Best}
 
 -- ---- Kruskal's method keeps all of a list exactly where it is a forest
@@ -146,10 +146,10 @@ module _ (net : Network) (fine : NetworkFine net) where
       let few = fine .few-stations in
       (omega arith, omega arith)
 
-  -- ---- one exception set, under ceilings that the flags fs stand for
+  -- ---- one exception set, under ceilings that the ranks ks and the patterns stand for
 
-  module _ (bs : List ℤ) (fs : List Flagged) (base : List ℕ) (base-below : (e : ℕ) → e ∈ base → e < net .m)
-      (agree : (X : List ℕ) → ((x : ℕ) → x ∈ X → x < net .m) → admitted fs X ≡ admissible orderℤ (under (graph net) bs) X) where
+  module _ (bs : List ℤ) (ks patterns base : List ℕ) (base-below : (e : ℕ) → e ∈ base → e < net .m)
+      (agree : (X : List ℕ) → ((x : ℕ) → x ∈ X → x < net .m) → admitted ks patterns X ≡ admissible orderℤ (under (graph net) bs) X) where
     -- the theory's search tries one set
     abbrev try : Option (List ℕ) → List ℕ → Option (List ℕ)
     try = tryOne orderℤ (under (graph net) bs) (pairs orderℤ (dictionary orderℕ)) (ranked (total (graph net)) (λ ts. ts)) (completed (graph net) base)
@@ -185,8 +185,8 @@ module _ (net : Network) (fine : NetworkFine net) where
         forest-apart (endsAt ends) identity (whole (endsAt ends) base X) (tree .1 (isForest-iff identity (map (endsAt ends) X) .0 f, l) .forest)
 
     step : (o : Option (List ℕ)) (b : Best) (X : List ℕ) → ((x : ℕ) → x ∈ X → x < net .m) → Shows s goal o b
-        → Shows s goal (try o X) (considered ends (net .sums) goal fs base b X)
-    unfolding considered completed
+        → Shows s goal (try o X) (considered ends (net .sums) goal ks patterns base b X)
+    unfolding tried triedIf completed
     step o b X below shown =
         by-test (admissible orderℤ (under (graph net) bs) X)
         (λ e. by-test (isForest identity (map (endsAt ends) X))
@@ -195,15 +195,15 @@ module _ (net : Network) (fine : NetworkFine net) where
         (offer-shown o b (whole (endsAt ends) base X) (grow (grow bare X) base) shown (grown X below f) (whole-apart X below f) (whole-links X below)))
         (λ f. let count : grow bare X .count ≡ length X → ⊥ = λ q. omega (arith, alone X below .size, ring-kruskal ends identity X f) in
         rw (agree X below, e, f, ne-eqb (grow bare X .count) (length X) count) shown))
-        (λ e. rw (agree X below, e, and-false (eqb (grow bare X .count) (length X))) shown)
+        (λ e. rw (agree X below, e) shown)
 
     -- ---- all of them
 
     pub fold-shown : (Xs : List (List ℕ)) → ((X : List ℕ) → X ∈ Xs → (x : ℕ) → x ∈ X → x < net .m) → (o : Option (List ℕ)) (b : Best) → Shows s goal o b
-        → Shows s goal (foldl try o Xs) (foldl (considered ends (net .sums) goal fs base) b Xs)
+        → Shows s goal (foldl try o Xs) (foldl (considered ends (net .sums) goal ks patterns base) b Xs)
     fold-shown [] below o b shown = shown
     fold-shown (X ∷ Xs) below o b shown =
-        fold-shown Xs (λ Y m. below Y (there m)) (try o X) (considered ends (net .sums) goal fs base b X) (step o b X (below X (here refl)) shown)
+        fold-shown Xs (λ Y m. below Y (there m)) (try o X) (considered ends (net .sums) goal ks patterns base b X) (step o b X (below X (here refl)) shown)
 
     fold-search : (Ys Xs : List (List ℕ)) → foldl try (searchSets (graph net) bs base Ys) Xs ≡ searchSets (graph net) bs base (Ys ++ Xs)
     fold-search Ys [] = ap (searchSets (graph net) bs base) (sym (append-nil Ys))
@@ -215,8 +215,8 @@ module _ (net : Network) (fine : NetworkFine net) where
 
     -- what the program keeps after the sets Xs is what the theory's search finds among them
     pub search-shown : (Xs : List (List ℕ)) → ((X : List ℕ) → X ∈ Xs → (x : ℕ) → x ∈ X → x < net .m)
-        → Shows s goal (searchSets (graph net) bs base Xs) (foldl (considered ends (net .sums) goal fs base) nothing Xs)
+        → Shows s goal (searchSets (graph net) bs base Xs) (foldl (considered ends (net .sums) goal ks patterns base) nothing Xs)
     unfolding nothing searchIn
     search-shown Xs below =
-        subst (λ (o : Option (List ℕ)). Shows s goal o (foldl (considered ends (net .sums) goal fs base) nothing Xs)) (fold-search [] Xs)
+        subst (λ (o : Option (List ℕ)). Shows s goal o (foldl (considered ends (net .sums) goal ks patterns base) nothing Xs)) (fold-search [] Xs)
         (fold-shown Xs below none nothing (none-shown refl))

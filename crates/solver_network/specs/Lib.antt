@@ -1,2 +1,2 @@
--- the best tree of a network, from its ranks, its flags and its link order
+-- the best tree of a network, from its ranks, its patterns and its link order
 pub mod OfNetwork

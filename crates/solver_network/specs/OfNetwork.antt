@@ -1,21 +1,27 @@
 -- The best tree of a network, put together from what the search is given.
-use Prim.Native.Nat.{ℕ, _-_}
-use mathlib.Core.List.{List}
+use Prim.Native.Nat.{ℕ, _-_, _≤_}
+use mathlib.Core.List.{List, [], _∷_}
 use mathlib.Core.Path.{_≡_}
-use lib.Dec.{ltb}
+use native.Mathlib.Omega.{arith}
 use lib.IntN.{ℤ}
-use lib.ListN.{getD}
+use lib.ListN.{length, length-take, take}
+use Rattle.network.specs.Limits.{maxCeilings}
+use Rattle.network.specs.Yard.{ranks}
 use Rattle.network.specs.declared.Network.{Network}
 use Rattle.kruskal_order.specs.ByCost.{linkOrder}
-use Rattle.exceptions_flags.specs.Two.{aboveFlags, rankOf, two, twoOf}
+use Rattle.exceptions_patterns.specs.OfNetwork.{netPatterns}
 use Rattle.search_best.specs.Search.{bestOf}
 use Rattle.search_best.specs.declared.best.Best.{Best}
 
--- the best tree of a network, from its ranks, its flags and its link order
-pub assembled-network : (net : Network) (b1 b2 : ℤ) (r s : ℕ) (v w order : List ℕ) (b : Best)
-    → r ≡ rankOf (ltb 0 (net .p)) (getD (net .k) 0 0) → s ≡ rankOf (ltb 1 (net .p)) (getD (net .k) 1 0)
-    → v ≡ aboveFlags (net .costs) 0 (ltb 0 (net .p)) b1 → w ≡ aboveFlags (net .costs) 1 (ltb 1 (net .p)) b2 → order ≡ linkOrder (net .sums) (net .m)
-    → b ≡ bestOf (net .ends) (net .sums) (net .n - 1) (two r v s w) order
-    → b ≡ bestOf (net .ends) (net .sums) (net .n - 1) (twoOf net b1 b2) (linkOrder (net .sums) (net .m))
-unfolding twoOf
-assembled-network net b1 b2 r s v w order b e f g h o q = rw (← e, ← f, ← g, ← h, ← o) q
+-- the best tree of a network under the bounds b1 and b2, as the search finds it
+unfoldable pub netBest : Network → ℤ → ℤ → Best
+netBest net b1 b2 = bestOf (net .ends) (net .sums) (net .n - 1) (ranks net) (netPatterns net b1 b2) (linkOrder (net .sums) (net .m))
+
+pub assembled-network : (net : Network) (b1 b2 : ℤ) (patterns order : List ℕ) (b : Best) → patterns ≡ netPatterns net b1 b2
+    → order ≡ linkOrder (net .sums) (net .m) → b ≡ bestOf (net .ends) (net .sums) (net .n - 1) (ranks net) patterns order → b ≡ netBest net b1 b2
+unfolding netBest
+assembled-network net b1 b2 patterns order b e o q = rw (← e, ← o) q
+
+-- there are at most as many bounds as ceilings
+pub few-bounds : (p : ℕ) (b1 b2 : ℤ) → length (take p (b1 ∷ b2 ∷ [])) ≤ maxCeilings
+few-bounds p b1 b2 = omega (arith, length-take p (b1 ∷ b2 ∷ []))

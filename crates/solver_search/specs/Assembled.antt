@@ -1,20 +1,33 @@
 -- The best tree, put together from what the search is given.
-use Prim.Native.Nat.{ℕ}
+use Prim.Native.Nat.{ℕ, _<_}
 use mathlib.Core.List.{List}
 use mathlib.Core.Path.{_≡_}
-use Rattle.order.specs.Lists.{filter}
+use Rattle.order.specs.Lists.{_∈_, filter}
 use Rattle.forest.specs.Groups.{apart}
+use Rattle.network.specs.Limits.{maxLinks}
 use Rattle.kruskal.specs.Base.{kept}
-use Rattle.exceptions_flags.specs.Ceilings.{exception}
-use Rattle.exceptions_flags.specs.Two.{free, free-normal, two}
+use Rattle.exceptions_patterns.specs.Patterns.{Patterned, normal}
+use Rattle.exceptions.specs.Keep.{Exceptions, exceptions-sublist, kept-exceptions, keptExceptions}
+use Rattle.exceptions.specs.Select.{InOrder, sublist-in-order}
 use Rattle.search_best.specs.Sets.{trials}
 use Rattle.search_best.specs.Search.{bestOf, nothing}
 use Rattle.search_best.specs.declared.best.Best.{Best}
 use Rattle.search.specs.Loops.{searched}
 
 -- the best tree, from the normal links, the base and the exceptions
-pub assembled : (ends sums : List ℕ) (goal r s : ℕ) (v w order normals base exceptions : List ℕ) (b : Best)
-    → normals ≡ filter (free v w) order → base ≡ kept ends apart normals → exceptions ≡ filter (exception (two r v s w)) order
-    → b ≡ searched ends sums goal (two r v s w) base nothing (trials (kept ends apart exceptions)) → b ≡ bestOf ends sums goal (two r v s w) order
+pub assembled : (ends sums : List ℕ) (goal : ℕ) (ks patterns order normals base : List ℕ) (b : Best) → normals ≡ filter (normal patterns) order
+    → base ≡ kept ends apart normals → b ≡ searched ends sums goal ks patterns base nothing (trials (keptExceptions ends patterns ks order))
+    → b ≡ bestOf ends sums goal ks patterns order
 unfolding searched bestOf
-assembled ends sums goal r s v w order normals base exceptions b e f g q = rw (← free-normal r s v w order, ← e, ← f, ← g) q
+assembled ends sums goal ks patterns order normals base b e f q = rw (← e, ← f) q
+
+-- what is known of the exceptions that are kept of links in order
+module _ (ends : List ℕ) {sums order ks patterns : List ℕ} (P : Patterned ks patterns) (v : InOrder sums order) where
+  pub kept-below : (x : ℕ) → x ∈ keptExceptions ends patterns ks order → x < maxLinks
+  kept-below x m = sublist-in-order sums (exceptions-sublist ends ks patterns order P) v .walkable .usable x m .below
+
+  pub kept-in-order : InOrder sums (keptExceptions ends patterns ks order)
+  kept-in-order = sublist-in-order sums (exceptions-sublist ends ks patterns order P) v
+
+  pub kept-known : Exceptions ks patterns (keptExceptions ends patterns ks order)
+  kept-known = kept-exceptions ends ks patterns order P (λ x m. v .walkable .usable x m .below)

@@ -1,4 +1,4 @@
--- The set is not admitted, has a ring, or is completed and offered.
+-- The set has a ring, or is completed and offered.
 use mathlib.Core.Path.{_≡_, ap, _∙_}
 use mathlib.Core.List.{foldl}
 use native.Mathlib.Omega.{arith}
@@ -7,13 +7,13 @@ use denote.Ref.{now}
 use Rattle.network.specs.Limits.{maxLinks}
 use Rattle.kruskal.specs.Tree.{Light, bare, light-bare, light-up, linked}
 use Rattle.kruskal.specs.declared.tree.Tree.{Tree}
-use Rattle.search_set.specs.Tries.{light-grown, tried-barred, tried-ring, tried-whole}
+use Rattle.search_set.specs.Tries.{light-grown, tried-ring, tried-whole}
 use Rattle.search_set.proofs.consider.Statement.{statement}
 use Rattle.search_set.proofs.consider.Tie as tie
 
 -- where the function was called
 abbrev start : tie.After-empty → tie.Start
-start c = c .before .before .before .before .before .before
+start c = c .before .before .before .before .before
 
 -- the walk over the set
 abbrev walk : tie.After-grow → Tree → Tree
@@ -34,8 +34,8 @@ light c =
     let p = start (c .before) .pre in
     rw (forest c) (light-up maxLinks (omega (arith, p .3)) (light-grown _ _ 0 bare _ (p .2 .usable) light-bare))
 
-cast-if2 : tie.Need-cast-if2
-cast-if2 c = search needs
+cast-if1 : tie.Need-cast-if1
+cast-if1 c = search needs
 
 grow-requires-2 : tie.Need-grow-requires-2
 grow-requires-2 c κs = let p = start (c .before .before .before) .pre in (p .0, p .1, light (c .before .before))
@@ -46,16 +46,10 @@ offer-requires c κs = search needs
 returns : tie.Need-returns
 returns c =
     let grown = c .before .before .before .before in
-    tried-whole _ _ _ _ _ _ _ _ _ _ (forest grown) (grown .before .before .if1 .taken) (c .before .before .if2 .taken) (c .before .grow2 .ensures)
-    (c .offer .ensures)
+    tried-whole _ _ _ _ _ _ _ _ _ (forest grown) (c .before .before .if1 .taken) (c .before .grow2 .ensures) (c .offer .ensures)
 
 returns-2 : tie.Need-returns-2
-returns-2 c = tried-ring _ _ _ _ _ _ _ _ (forest (c .before .before)) (c .if2 .left)
-
-returns-3 : tie.Need-returns-3
-returns-3 c = tried-barred _ _ _ _ _ _ _ (c .if1 .left)
+returns-2 c = tried-ring _ _ _ _ _ _ _ (forest (c .before .before)) (c .if1 .left)
 
 pub consider-spec : {M : Type 1} → statement M
-consider-spec =
-    tie.close
-    (tie.spec empty-requires grow-requires cast-if2 grow-requires-2 offer-requires returns returns-2 returns-3)
+consider-spec = tie.close (tie.spec empty-requires grow-requires cast-if1 grow-requires-2 offer-requires returns returns-2)

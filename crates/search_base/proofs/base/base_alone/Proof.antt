@@ -13,11 +13,11 @@ flags-of-requires : tie.Need-flags-of-requires
 flags-of-requires c κs = search needs
 
 returns : tie.Need-returns
-returns c = alone-found _ _ _ _ _ _ (c .before .before .if1 .taken) (c .before .sum-of .ensures) (c .flags-of .ensures)
+returns c = alone-found _ _ _ _ _ (c .before .before .if1 .taken) (c .before .sum-of .ensures) (c .flags-of .ensures)
 
 returns-2 : tie.Need-returns-2
 unfolding nothing
-returns-2 c = alone-none _ _ _ _ (c .if1 .left)
+returns-2 c = alone-none _ _ _ (c .if1 .left)
 
 pub base-alone-spec : {M : Type 1} → statement M
 base-alone-spec = tie.close (tie.spec sum-of-requires flags-of-requires returns returns-2)

@@ -35,7 +35,8 @@ returns-2 c =
     let i = c .before .before .before .before .before .before in
     let n = c .before .before .before .beside .ensures in
     let h : i .args .goal - i .args .size ≤ length (now (i .args .base)) = omega (arith, n) in
-    ap (λ (k : ℕ). record { enough = true; least = k }) (c .sum-of .ensures ∙ ap (λ (k : ℕ). sumOf (now (i .args .sums)) (take k (now (i .args .base)))) n)
+    ap (λ (k : ℕ). record { goal = i .args .goal; enough = true; least = k })
+    (c .sum-of .ensures ∙ ap (λ (k : ℕ). sumOf (now (i .args .sums)) (take k (now (i .args .base)))) n)
     ∙ rest-enough _ _ (i .pre .1) _ _ h
 
 pub rest-of-spec : {M : Type 1} → statement M

@@ -7,7 +7,6 @@ use crate::listing::set_of;
 use crate::listing::sum_of;
 use crate::listing::y1;
 use crate::listing::y2;
-use crate::small::Yard;
 use crate::small::byte;
 
 // What buffers hold before a call.
@@ -37,14 +36,14 @@ pub fn bound(i: u8) -> i16 {
     BOUNDS[(i % 16) as usize]
 }
 
-// The code that a bound allows for ceiling i, any where it is absent.
-fn allowed(yard: Yard, i: u8, bound: u8) -> u8 {
-    if i < byte(yard.kind, 1) { bound / 2 } else { 7 }
+// The code that a bound allows for ceiling i of a kind, any where it is absent.
+fn allowed(kind: u64, i: u8, bound: u8) -> u8 {
+    if i < byte(kind, 1) { bound / 2 } else { 7 }
 }
 
-// The best tree under two bounds, or none.
-pub fn wanted(yard: Yard, trees: [u64; SETS], b1: u8, b2: u8) -> u64 {
-    best_of(trees, allowed(yard, 0, b1), allowed(yard, 1, b2))
+// The best tree of a yard of a kind under two bounds, or none.
+pub fn wanted(kind: u64, trees: [u64; SETS], b1: u8, b2: u8) -> u64 {
+    best_of(trees, allowed(kind, 0, b1), allowed(kind, 1, b2))
 }
 
 // Whether a tree has these costs.

@@ -46,8 +46,8 @@ pub fn link_at(set: u8, j: usize, past: u8) -> u8 {
 }
 
 // The stations reached, with both of link e where the set has it and one is reached.
-fn reach(yard: Yard, set: u8, reached: u8, e: u8) -> u8 {
-    let ends = pair(yard, e);
+fn reach(kind: u64, pairs: u64, set: u8, reached: u8, e: u8) -> u8 {
+    let ends = pair(kind, pairs, e);
     let both = 1 << (ends % 8) | 1 << (ends / 256 % 8);
     if (set >> (6 - e % 7) & 1 == 1) & (reached & both != 0) {
         return reached | both;
@@ -56,10 +56,10 @@ fn reach(yard: Yard, set: u8, reached: u8, e: u8) -> u8 {
 }
 
 // The stations reached from station 0, in five turns through the links.
-fn reached(yard: Yard, set: u8) -> u8 {
+fn reached(kind: u64, pairs: u64, set: u8) -> u8 {
     let mut r = 1;
     for i in 0..35u8 {
-        r = reach(yard, set, r, i % 7);
+        r = reach(kind, pairs, set, r, i % 7);
     }
     r
 }
@@ -67,7 +67,7 @@ fn reached(yard: Yard, set: u8) -> u8 {
 // Whether a set is a tree: no link past the last, fewer links than stations, and all stations reached.
 fn is_tree(yard: Yard, set: u8) -> bool {
     let n = byte(yard.kind, 0) as u32;
-    let stations = size(reached(yard, set));
+    let stations = size(reached(yard.kind, yard.pairs, set));
     (set & 127 >> (yard.m % 8) == 0) & (size(set) < n) & (stations == n)
 }
 

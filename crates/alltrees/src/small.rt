@@ -2,38 +2,41 @@
 // ceiling costs occur; in all but the survey a cost is its code, 0 to 7 in rising order.
 
 // How many kinds of yards there are: n, p, k1 and k2 for up to five stations.
-pub const KINDS: usize = 28;
+pub const KINDS: usize = 31;
 
-// n, p, k1 and k2 of each kind, and then how many pairs of stations it has, or 1.
+// n, p, k1 and k2 of each kind, and then the number of its last pair of stations, 0 where there is none.
 const KIND: [u64; KINDS] = [
-    0x0100000001,
-    0x0200000002,
-    0x0200010102,
-    0x0201010202,
-    0x0600000003,
-    0x0600010103,
-    0x0600020103,
-    0x0601010203,
-    0x0601020203,
-    0x0602010203,
-    0x0C00000004,
-    0x0C00010104,
-    0x0C00020104,
-    0x0C00030104,
-    0x0C01010204,
-    0x0C01020204,
-    0x0C01030204,
-    0x0C02010204,
-    0x0C03010204,
-    0x1400000005,
-    0x1400010105,
-    0x1400020105,
-    0x1400030105,
-    0x1401010205,
-    0x1401020205,
-    0x1401030205,
-    0x1402010205,
-    0x1403010205,
+    0x0000000001,
+    0x0100000002,
+    0x0100010102,
+    0x0101010202,
+    0x0500000003,
+    0x0500010103,
+    0x0500020103,
+    0x0501010203,
+    0x0501020203,
+    0x0502010203,
+    0x0502020203,
+    0x0B00000004,
+    0x0B00010104,
+    0x0B00020104,
+    0x0B00030104,
+    0x0B01010204,
+    0x0B01020204,
+    0x0B01030204,
+    0x0B02010204,
+    0x0B02020204,
+    0x0B03010204,
+    0x1300000005,
+    0x1300010105,
+    0x1300020105,
+    0x1300030105,
+    0x1301010205,
+    0x1301020205,
+    0x1301030205,
+    0x1302010205,
+    0x1302020205,
+    0x1303010205,
 ];
 
 // The stations of a link: the first n * (n - 1) pairs are those of n stations.
@@ -77,8 +80,8 @@ pub const ZERO: u8 = 3;
 
 const ZEROS: u64 = 0x0303030303030303;
 
-// A yard of a kind with m links. Byte e of a column belongs to link e: a number that gives one of so many pairs of stations, its sum cost in
-// steps of 65,537, and the codes of its ceiling costs.
+// A yard of a kind with m links. Byte e of a column belongs to link e: a number that picks its pair of stations, its sum cost in steps of 65,537,
+// and the codes of its ceiling costs.
 pub struct Yard {
     pub kind: u64,
     pub m: u8,
@@ -134,13 +137,10 @@ pub fn make(i: usize, x: u64) -> Yard {
     }
 }
 
-// The two stations of link e.
-pub fn pair(yard: Yard, e: u8) -> u16 {
-    let choices = byte(yard.kind, 4);
-    if choices == 0 {
-        return 0;
-    }
-    PAIRS[(byte(yard.pairs, e) % choices % 20) as usize]
+// The two stations of link e: its byte of a column picks one of the pairs of a kind.
+pub fn pair(kind: u64, pairs: u64, e: u8) -> u16 {
+    let count = byte(kind, 4) % 20 + 1;
+    PAIRS[(byte(pairs, e) % count % 20) as usize]
 }
 
 pub fn cost(code: u8) -> u16 {
@@ -149,7 +149,7 @@ pub fn cost(code: u8) -> u16 {
 
 // The mark, stations and sum cost of a link.
 fn link_record(yard: Yard, e: u8) -> u64 {
-    let ends = pair(yard, e) as u64;
+    let ends = pair(yard.kind, yard.pairs, e) as u64;
     let s = byte(yard.sums, e) as u64;
     0x4B4C + 65536 * ends + 4294967296 * 65537 * s
 }

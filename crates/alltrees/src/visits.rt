@@ -1,5 +1,5 @@
-// The walk of document 01 with a mark for each position, for its solved count. A position is a pair of codes, visited by falling codes;
-// those whose costs no link has are passed over.
+// The walk of document 01 with a mark for each position, for its solved count. A position is a pair of codes, c1 and c2, with the mark of bit
+// 8 * c1 + c2; positions are visited by falling codes, and those whose costs no link has are passed over.
 use crate::listing::SETS;
 use crate::listing::at_or_above;
 use crate::listing::best_of;
@@ -9,12 +9,6 @@ use crate::small::Yard;
 use crate::small::ZERO;
 use crate::small::byte;
 use std::num::wrapping_add_u32;
-
-// The positions marked, bit 8 * c1 + c2 for codes c1 and c2, and how many were solved.
-pub struct Walk {
-    pub marks: u64,
-    pub solved: u32,
-}
 
 // Every position.
 const EVERY: u64 = 0xFFFFFFFFFFFFFFFF;
@@ -36,33 +30,35 @@ fn is_open(yard: Yard, marks: u64, q: u8) -> bool {
     there & (marks >> (q % 64) & 1 == 0)
 }
 
-// The marks of the positions between two, both included.
-fn between(low1: u8, high1: u8, low2: u8, high2: u8) -> u64 {
-    let row = (255 >> (7 - high2 % 8) & 255 << (low2 % 8)) % 256;
-    let rows = EVERY >> (8 * (7 - high1 % 8)) & EVERY << (8 * (low1 % 8));
-    row * 0x0101010101010101 & rows
+// The bits from one to another, both included.
+fn bits(low: u8, high: u8) -> u64 {
+    EVERY >> (63 - high % 64) & EVERY << (low % 64)
 }
 
-// The walk after a position. Found, a tree marks through its own codes; none found marks through the least.
-fn visit(walk: Walk, yard: Yard, trees: [u64; SETS], q: u8) -> Walk {
-    if is_open(yard, walk.marks, q) {
+// The marks of the positions between two, both included.
+fn between(low1: u8, high1: u8, low2: u8, high2: u8) -> u64 {
+    let row = bits(low2, high2) % 256;
+    row * 0x0101010101010101 & bits(low1 % 8 * 8, high1 % 8 * 8 + 7)
+}
+
+// The marks that a position makes, its own among them, or 0 where it is not solved. Found, a tree marks through its own codes; none found marks
+// through the least.
+fn visit(yard: Yard, trees: [u64; SETS], marks: u64, q: u8) -> u64 {
+    if is_open(yard, marks, q) {
         let tree = best_of(trees, q / 8, q % 8);
-        return Walk {
-            marks: walk.marks | between(y1(tree), q / 8, y2(tree), q % 8),
-            solved: wrapping_add_u32(walk.solved, 1),
-        };
+        return between(y1(tree), q / 8, y2(tree), q % 8);
     }
-    walk
+    0
 }
 
 // The solved count.
 pub fn solved(yard: Yard, trees: [u64; SETS]) -> u32 {
-    let mut walk = Walk {
-        marks: 0,
-        solved: 0,
-    };
+    let mut marks = 0;
+    let mut solved = 0;
     for i in 0..64u8 {
-        walk = visit(walk, yard, trees, 63 - i);
+        let more = visit(yard, trees, marks, 63 - i);
+        marks = marks | more;
+        solved = wrapping_add_u32(solved, (more != 0) as u32);
     }
-    walk.solved
+    solved
 }

@@ -22,7 +22,7 @@ const YARDS: usize = 20 * KINDS;
 fn compare(survey: &[u8], yard: Yard, tally: Tally) -> Tally {
     let trees = trees_of(yard);
     let plans = plans_of(trees);
-    let asked = questions::differences(survey, yard, trees);
+    let asked = questions::differences(survey, yard.kind, trees);
     let listed = lists::differences(survey, yard, trees, plans);
     tally.yard(plans.trees, plans.plans, asked, listed)
 }

@@ -6,7 +6,6 @@ use alltrees::answers::has_links;
 use alltrees::answers::wanted;
 use alltrees::listing::NONE;
 use alltrees::listing::SETS;
-use alltrees::small::Yard;
 use network::Answer;
 use planner::best;
 use std::num::wrapping_add_u64;
@@ -26,13 +25,13 @@ fn differs(survey: &[u8], b1: u8, b2: u8, tree: u64) -> u64 {
     !(agrees(answer, tree) & has_links(tree, &given)) as u64
 }
 
-// How often the planner differs under the 256 pairs of bounds.
-pub fn differences(survey: &[u8], yard: Yard, trees: [u64; SETS]) -> u64 {
+// How often the planner differs under the 256 pairs of bounds, with a yard of a kind.
+pub fn differences(survey: &[u8], kind: u64, trees: [u64; SETS]) -> u64 {
     let mut n = 0;
     for i in 0..256u32 {
         let b1 = (i / 16) as u8;
         let b2 = (i % 16) as u8;
-        let d = differs(survey, b1, b2, wanted(yard, trees, b1, b2));
+        let d = differs(survey, b1, b2, wanted(kind, trees, b1, b2));
         n = wrapping_add_u64(n, d);
     }
     n

@@ -29,11 +29,11 @@ impl Tally {
     }
 
     // With a yard of so many trees and plans, a question for each pair of bounds, and its list.
-    pub fn yard(mut self, trees: u16, plans: u16, asked: u64, listed: u64) -> Tally {
+    pub fn yard(mut self, trees: u64, plans: u64, asked: u64, listed: u64) -> Tally {
         self.yards = wrapping_add_u64(self.yards, 1);
-        self.trees = wrapping_add_u64(self.trees, trees as u64);
+        self.trees = wrapping_add_u64(self.trees, trees);
         self.questions = wrapping_add_u64(self.questions, 256);
-        self.plans = wrapping_add_u64(self.plans, plans as u64);
+        self.plans = wrapping_add_u64(self.plans, plans);
         self.differences = wrapping_add_u64(self.differences, wrapping_add_u64(asked, listed));
         self
     }

@@ -28,15 +28,20 @@ fn plan(plans: &[u8], r: u32) {
     row(b" links", fetch_links(plans, r));
 }
 
-// The first three plans of a list with another byte, and the last that can be asked for.
+// The first three plans of a list, and the last that can be asked for.
+fn some_plans(plans: &[u8]) {
+    plan(plans, 0);
+    plan(plans, 1);
+    plan(plans, 2);
+    plan(plans, 4294967295);
+}
+
+// The same of a list with another byte.
 fn fetch(plans: &mut [u8], i: u32, x: u32) {
     let at = i as usize;
     if at < plans.len() {
         plans[at] = (x % 256) as u8;
-        plan(plans, 0);
-        plan(plans, 1);
-        plan(plans, 2);
-        plan(plans, 4294967295);
+        some_plans(plans);
     }
 }
 

@@ -14,10 +14,10 @@ use Rattle.exhaustive.proofs.tally.Tally.new.Reads as new-reads
 use Rattle.exhaustive.proofs.tally.Tally.print.Reads as print-reads
 
 abbrev Inv-loop : tie.InvT-loop
-Inv-loop x₀ tally₀ i₀ x tally i = i ≤ 560
+Inv-loop x₀ tally₀ i₀ x tally i = i ≤ 620
 
 abbrev μ-loop : tie.MeasureT-loop
-μ-loop x₀ tally₀ i₀ x tally i = 560 - i
+μ-loop x₀ tally₀ i₀ x tally i = 620 - i
 
 new-requires : tie.Need-new-requires Inv-loop μ-loop
 new-requires c κs = search needs

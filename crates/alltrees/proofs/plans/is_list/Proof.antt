@@ -4,10 +4,10 @@ use Rattle.alltrees.proofs.plans.is_list.Statement.{statement}
 use Rattle.alltrees.proofs.plans.is_list.Tie as tie
 
 abbrev Inv-loop : tie.InvT-loop
-Inv-loop given list same₀ i₀ i-end same i = i ≤ i-end
+Inv-loop given head tail rows same₀ i₀ i-end same i = i ≤ i-end
 
 abbrev μ-loop : tie.MeasureT-loop
-μ-loop given list same₀ i₀ i-end same i = i-end - i
+μ-loop given head tail rows same₀ i₀ i-end same i = i-end - i
 
 loop-holds : tie.Need-loop-holds Inv-loop μ-loop
 loop-holds c = search needs

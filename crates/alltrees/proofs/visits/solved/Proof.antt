@@ -4,10 +4,10 @@ use Rattle.alltrees.proofs.visits.solved.Statement.{statement}
 use Rattle.alltrees.proofs.visits.solved.Tie as tie
 
 abbrev Inv-loop : tie.InvT-loop
-Inv-loop yard trees walk₀ i₀ walk i = i ≤ 64
+Inv-loop yard trees marks₀ solved₀ i₀ marks solved i = i ≤ 64
 
 abbrev μ-loop : tie.MeasureT-loop
-μ-loop yard trees walk₀ i₀ walk i = 64 - i
+μ-loop yard trees marks₀ solved₀ i₀ marks solved i = 64 - i
 
 loop-holds : tie.Need-loop-holds Inv-loop μ-loop
 loop-holds c = search needs
@@ -17,6 +17,12 @@ sub-visit c = search needs
 
 visit-requires : tie.Need-visit-requires Inv-loop μ-loop
 visit-requires c κs = search needs
+
+cast-wrapping-add-u32 : tie.Need-cast-wrapping-add-u32 Inv-loop μ-loop
+cast-wrapping-add-u32 c = search needs
+
+wrapping-add-u32-requires : tie.Need-wrapping-add-u32-requires Inv-loop μ-loop
+wrapping-add-u32-requires c κs = search needs
 
 add-i : tie.Need-add-i Inv-loop μ-loop
 add-i c = search needs
@@ -39,6 +45,8 @@ solved-spec =
     loop-holds
     sub-visit
     visit-requires
+    cast-wrapping-add-u32
+    wrapping-add-u32-requires
     add-i
     loop-less
     loop-again

@@ -4,10 +4,10 @@ use Rattle.exhaustive.proofs.questions.differences.Statement.{statement
 use Rattle.exhaustive.proofs.questions.differences.Tie as tie
 
 abbrev Inv-loop : tie.InvT-loop
-Inv-loop survey yard trees n₀ i₀ n i = i ≤ 256
+Inv-loop survey kind trees n₀ i₀ n i = i ≤ 256
 
 abbrev μ-loop : tie.MeasureT-loop
-μ-loop survey yard trees n₀ i₀ n i = 256 - i
+μ-loop survey kind trees n₀ i₀ n i = 256 - i
 
 loop-holds : tie.Need-loop-holds Inv-loop μ-loop
 loop-holds c = search needs

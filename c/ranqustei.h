@@ -26,7 +26,7 @@
  *     2       1     n, the stations            1 to 24
  *     3       1     p, the ceilings            0 to 2
  *     4       1     k1, the rank of ceiling 1  1 to 3 and at most t; 0 if p = 0
- *     5       1     k2, the rank of ceiling 2  1 to 3 and at most t, and 1 if k1 is above 1; 0 if p is below 2
+ *     5       1     k2, the rank of ceiling 2  1 to 3, at most t and at most 4 - k1; 0 if p is below 2
  *
  *     link record, 12 bytes
  *     offset  size  field                      range
@@ -97,7 +97,7 @@ enum {
     RANQUSTEI_TOO_MANY_LINKS = 4,
     /* There are more than 2 ceilings. */
     RANQUSTEI_TOO_MANY_CEILINGS = 5,
-    /* A rank is not 1 to 3 or is above t, both ranks are above 1, or the rank of an absent ceiling is not 0. */
+    /* A rank is not 1 to 3 or is above t, one rank is 3 and the other above 1, or the rank of an absent ceiling is not 0. */
     RANQUSTEI_BAD_RANK = 6,
     /* An end of a link (place) is no station, or both its ends are the same. */
     RANQUSTEI_BAD_ENDS = 7,

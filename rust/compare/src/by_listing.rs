@@ -54,9 +54,7 @@ impl Planner for ByListing<'_> {
             return Err(Refusal::whole(9));
         }
         let plan = self.listing.best(ceilings).ok_or(Refusal::whole(14))?;
-        for (byte, link) in tree.iter_mut().zip(plan.tree.links()) {
-            *byte = link;
-        }
+        plan.tree.write(tree);
         Ok(plan.costs)
     }
 

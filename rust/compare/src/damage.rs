@@ -4,11 +4,12 @@ use crate::draft::{Draft, LinkDraft};
 use crate::rng::Rng;
 
 /// The kinds of damage to the fields of a survey.
-const FIELD_DAMAGES: [fn(&mut Draft, &mut Rng); 11] = [
+const FIELD_DAMAGES: [fn(&mut Draft, &mut Rng); 12] = [
     yard_mark,
     stations,
     ceilings,
     any_ranks,
+    both_ranks_above_1,
     absent_rank,
     link_mark,
     end_out_of_range,
@@ -70,6 +71,10 @@ fn ceilings(draft: &mut Draft, rng: &mut Rng) {
 fn any_ranks(draft: &mut Draft, rng: &mut Rng) {
     let past_tree = draft.stations;
     draft.ranks = [0, 1].map(|_| rng.pick(&[0, 1, 2, 3, 4, past_tree, 255]));
+}
+
+fn both_ranks_above_1(draft: &mut Draft, rng: &mut Rng) {
+    draft.ranks = rng.pick(&[[2, 2], [2, 3], [3, 2], [3, 3]]);
 }
 
 fn absent_rank(draft: &mut Draft, rng: &mut Rng) {

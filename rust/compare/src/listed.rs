@@ -24,6 +24,8 @@ pub struct Listed {
     pub ceilings: [u64; 3],
     /// Yards with a rank above 1.
     pub ranked: u64,
+    /// Yards with both ranks above 1.
+    pub both_ranked: u64,
     /// Yards with a plan whose costs several trees have.
     pub tied: u64,
 }
@@ -35,6 +37,7 @@ impl Listed {
         self.trees += by_listing.tree_count() as u64;
         self.ceilings[yard.ceilings] += 1;
         self.ranked += u64::from(yard.ranks.iter().any(|&rank| rank > 1));
+        self.both_ranked += u64::from(yard.ranks.iter().all(|&rank| rank > 1));
         self.tied += u64::from(by_listing.has_ties());
     }
 
@@ -43,6 +46,7 @@ impl Listed {
         self.yards += other.yards;
         self.trees += other.trees;
         self.ranked += other.ranked;
+        self.both_ranked += other.both_ranked;
         self.tied += other.tied;
         for (count, more) in self.ceilings.iter_mut().zip(other.ceilings) {
             *count += more;

@@ -30,6 +30,20 @@ pub enum Values {
     Opposed,
 }
 
+/// The ranks that a yard may have where they are not above t.
+const RANKS: [[u8; 2]; 10] = [
+    [0, 0],
+    [1, 0],
+    [2, 0],
+    [3, 0],
+    [1, 1],
+    [1, 2],
+    [1, 3],
+    [2, 1],
+    [2, 2],
+    [3, 1],
+];
+
 /// What a yard is to be like.
 pub struct Recipe {
     stations: RangeInclusive<i64>,
@@ -57,15 +71,9 @@ impl Recipe {
     /// A yard with any legal number of ceilings and any legal ranks.
     pub fn draft(&self, rng: &mut Rng) -> Draft {
         let stations = rng.within(self.stations.clone()) as u8;
-        let most_ceilings = if stations == 1 { 0 } else { 2 };
-        let ceilings = rng.within(0..=most_ceilings) as usize;
-        let mut ranks = [0; 2];
-        ranks[..ceilings].fill(1);
-        if ceilings > 0 {
-            let most = (stations - 1).min(3);
-            ranks[rng.below(ceilings)] = rng.within(1..=most.into()) as u8;
-        }
-        self.draft_with(stations, ranks, rng)
+        let mut legal = RANKS.to_vec();
+        legal.retain(|ranks| ranks.iter().all(|&rank| rank < stations));
+        self.draft_with(stations, rng.pick(&legal), rng)
     }
 
     /// A yard with these ranks; a ceiling is present if its rank is not 0.
@@ -179,4 +187,25 @@ fn different(count: usize, range: RangeInclusive<i64>, rng: &mut Rng) -> Vec<i64
         .collect();
     rng.shuffle(&mut numbers);
     numbers
+}
+
+#[cfg(test)]
+mod tests {
+    use super::*;
+    use crate::kinds::exact;
+    use peer::survey::Yard;
+
+    #[test]
+    fn all_legal_ranks_are_drawn() {
+        for stations in 1..=5 {
+            let recipe = exact(stations, 6, Values::Free);
+            let drafts = (0..500).map(|seed| recipe.draft(&mut Rng::new(seed)));
+            let drawn: Vec<[u8; 2]> = drafts.map(|draft| draft.ranks).collect();
+            for ranks in (0..=4).flat_map(|k1| (0..=4).map(move |k2| [k1, k2])) {
+                let draft = recipe.draft_with(stations as u8, ranks, &mut Rng::new(0));
+                let is_legal = Yard::read(&draft.bytes()).is_ok();
+                assert_eq!(drawn.contains(&ranks), is_legal, "{stations} {ranks:?}");
+            }
+        }
+    }
 }

@@ -67,16 +67,19 @@ fn print_row(name: &str, tally: &Tally) {
 
 /// The yards that were held against a listing of all trees too.
 fn print_listed(tallies: &[(&Kind, Tally)], total: &Tally) {
-    println!("\n| held against all trees | yards | trees | p = 0 | p = 1 | p = 2 | rank above 1 | tied plans |");
-    println!("|---|---|---|---|---|---|---|---|");
+    println!(
+        "\n| held against all trees | yards | trees | p = 0 | p = 1 | p = 2 \
+         | rank above 1 | both above 1 | tied plans |"
+    );
+    println!("|---|---|---|---|---|---|---|---|---|");
     let rows = tallies.iter().map(|(kind, tally)| (kind.name, tally));
     let rows = rows.filter(|(_, tally)| tally.listed.yards > 0);
     for (name, tally) in rows.chain([("all", total)]) {
         let listed = tally.listed;
         let [none, one, two] = listed.ceilings;
         println!(
-            "| {name} | {} | {} | {none} | {one} | {two} | {} | {} |",
-            listed.yards, listed.trees, listed.ranked, listed.tied
+            "| {name} | {} | {} | {none} | {one} | {two} | {} | {} | {} |",
+            listed.yards, listed.trees, listed.ranked, listed.both_ranked, listed.tied
         );
     }
 }

@@ -1,13 +1,16 @@
 //! The best tree under ceilings, by Kruskal's algorithm.
 //!
-//! A tree fits a bound of rank k if at most k − 1 of its links are above the bound. At most one
-//! rank is above 1, so a tree that fits has at most two such links, its exceptions. Each set of
-//! exceptions is tried: it is completed by Kruskal over the links above no bound.
+//! A tree fits a bound of rank k if at most k − 1 of its links are above the bound. A link above
+//! no bound is normal, any other is an exception. Each set of exceptions that the ranks have room
+//! for is tried: it is completed by Kruskal over the normal links.
 
-use crate::plan::{Plan, Tree};
-use crate::survey::{Link, Yard, MAX_LINKS, MAX_RANK, MAX_STATIONS};
+use crate::link_set::LinkSet;
+use crate::plan::Plan;
+use crate::survey::{Link, Yard, MAX_EXCEPTIONS, MAX_LINKS, MAX_STATIONS};
+use std::ops::Range;
 
 /// The groups of stations joined so far: the group of each station.
+#[derive(Clone, Copy)]
 pub struct Groups([u8; MAX_STATIONS]);
 
 impl Groups {
@@ -28,27 +31,53 @@ impl Groups {
     }
 }
 
-/// The cheapest links without a ring out of those offered in rising order.
+/// The set of bounds that a link is above: bit i stands for bound i.
+type Class = usize;
+
+const CLASSES: usize = 1 << 2;
+/// The class of the links above no bound.
+const NORMAL: Class = 0;
+const EXCEPTIONAL: Range<Class> = NORMAL + 1..CLASSES;
+
+/// How many more links of a tree may be above each bound.
+#[derive(Clone, Copy)]
+struct Room([usize; 2]);
+
+impl Room {
+    /// What is left beside a link of a class; none if there is no room for the link.
+    fn beside(self, class: Class) -> Option<Room> {
+        let mut left = self.0;
+        for (i, room) in left.iter_mut().enumerate() {
+            *room = room.checked_sub(class >> i & 1)?;
+        }
+        Some(Room(left))
+    }
+
+    /// The exceptions, out of sets by class, that there is room for.
+    fn exceptions(self, sets: &[LinkSet; CLASSES]) -> LinkSet {
+        let open = EXCEPTIONAL.filter(|&class| self.beside(class).is_some());
+        open.fold(LinkSet::default(), |all, class| all.or(sets[class]))
+    }
+}
+
+/// Links side by side, for the sets of exceptions to be completed from.
 struct Base {
-    groups: Groups,
     links: [Link; MAX_STATIONS],
     len: usize,
 }
 
 impl Base {
-    fn empty() -> Base {
-        Base {
-            groups: Groups::apart(),
+    /// The links at some places of the sorted row.
+    fn of(sorted: &[Link; MAX_LINKS], places: LinkSet) -> Base {
+        let mut base = Base {
             links: [Link::default(); MAX_STATIONS],
             len: 0,
+        };
+        for place in places.links() {
+            base.links[base.len] = sorted[usize::from(place)];
+            base.len += 1;
         }
-    }
-
-    fn offer(&mut self, link: &Link) {
-        if self.groups.join(link.ends) {
-            self.links[self.len] = *link;
-            self.len += 1;
-        }
+        base
     }
 
     fn links(&self) -> &[Link] {
@@ -60,8 +89,8 @@ impl Base {
 pub struct Solver<'a> {
     yard: &'a Yard,
     sorted: [Link; MAX_LINKS],
-    /// How many links of a tree may be above each bound.
-    exceptions: [usize; 2],
+    /// What room a link of each class leaves in a tree.
+    rooms: [Option<Room>; CLASSES],
 }
 
 impl<'a> Solver<'a> {
@@ -71,46 +100,52 @@ impl<'a> Solver<'a> {
         let mut sorted = [Link::default(); MAX_LINKS];
         sorted[..count].copy_from_slice(yard.links());
         sorted[..count].sort_unstable_by_key(|link| (link.sum, link.number));
+        let room = Room(yard.ranks.map(|rank| rank.saturating_sub(1)));
         Solver {
             yard,
             sorted,
-            exceptions: yard.ranks.map(|rank| rank.saturating_sub(1)),
+            rooms: std::array::from_fn(|class| room.beside(class)),
         }
     }
 
     /// The best tree under the bounds, if one fits.
     pub fn best(&self, bounds: [i16; 2]) -> Option<Plan> {
-        let most = self.exceptions[0].max(self.exceptions[1]);
-        let (normal, exceptional) = self.bases(bounds);
-        let mut search = Search::new(normal.links(), self.yard.tree_len());
-        search.try_sets(exceptional.links(), most);
+        let kept = self.kept(bounds);
+        let base = Base::of(&self.sorted, kept[NORMAL]);
+        let mut search = Search::new(base.links(), self.yard.tree_len());
+        for class in EXCEPTIONAL {
+            if let Some(room) = self.rooms[class] {
+                search.try_sets(&self.sorted, kept[class], room.exceptions(&kept));
+            }
+        }
         let (sum, tree) = search.best?;
         Some(Plan::of(self.yard, tree, sum))
     }
 
-    /// The base of the links above no bound, and that of the links that can be exceptions.
+    /// The links of each class that a best tree can have, by their places in the sorted row.
     ///
-    /// All exceptions are above the same bound, so among them, as among normal links, a cheaper
-    /// one can stand for a dearer: no best tree has a link outside the two bases. Nor has it one
-    /// dearer than a whole tree of normal links.
-    fn bases(&self, bounds: [i16; 2]) -> (Base, Base) {
-        let (mut normal, mut exceptional) = (Base::empty(), Base::empty());
-        for link in &self.sorted[..self.yard.links().len()] {
-            let above = |i: usize| i < self.yard.ceilings && link.costs[i] > bounds[i];
-            let barred = |i: usize| above(i) && self.exceptions[i] == 0;
-            if normal.len == self.yard.tree_len() {
+    /// Among links of one class a cheaper one can stand for a dearer, so a best tree has only
+    /// those that Kruskal keeps of them. Nor has it one dearer than a whole tree of normal links.
+    fn kept(&self, bounds: [i16; 2]) -> [LinkSet; CLASSES] {
+        let mut kept = [LinkSet::default(); CLASSES];
+        let mut groups = [Groups::apart(); CLASSES];
+        let mut missing = self.yard.tree_len();
+        for (place, link) in self.sorted[..self.yard.links().len()].iter().enumerate() {
+            if missing == 0 {
                 break;
             }
-            if barred(0) || barred(1) {
-                continue;
-            }
-            if above(0) || above(1) {
-                exceptional.offer(link);
-            } else {
-                normal.offer(link);
+            let class = self.class(link, bounds);
+            if self.rooms[class].is_some() && groups[class].join(link.ends) {
+                kept[class] = kept[class].with(place as u8);
+                missing -= usize::from(class == NORMAL);
             }
         }
-        (normal, exceptional)
+        kept
+    }
+
+    fn class(&self, link: &Link, bounds: [i16; 2]) -> Class {
+        let above = |i: usize| i < self.yard.ceilings && link.costs[i] > bounds[i];
+        usize::from(above(0)) | usize::from(above(1)) << 1
     }
 }
 
@@ -120,7 +155,7 @@ struct Search<'a> {
     /// At i the sum of the cheapest i links of the base.
     cheapest: [u32; MAX_STATIONS],
     tree_len: usize,
-    best: Option<(u32, Tree)>,
+    best: Option<(u32, LinkSet)>,
 }
 
 impl<'a> Search<'a> {
@@ -142,17 +177,15 @@ impl<'a> Search<'a> {
         }
     }
 
-    /// Tries all sets of up to `most` exceptions, given in rising order.
-    fn try_sets(&mut self, exceptional: &[Link], most: usize) {
-        for (i, first) in exceptional.iter().enumerate() {
-            if most >= 1 {
-                self.try_set(&[first]);
-            }
-            if most >= 2 {
-                for second in &exceptional[i + 1..] {
-                    if !self.try_set(&[first, second]) {
-                        break;
-                    }
+    /// Tries the first exceptions alone, and each with the second ones that come after it; both
+    /// sets are of places in the sorted row.
+    fn try_sets(&mut self, sorted: &[Link; MAX_LINKS], firsts: LinkSet, seconds: LinkSet) {
+        for first in firsts.links() {
+            let link = &sorted[usize::from(first)];
+            self.try_set(&[link]);
+            for second in seconds.after(first).links() {
+                if !self.try_set(&[link, &sorted[usize::from(second)]]) {
+                    break;
                 }
             }
         }
@@ -170,7 +203,7 @@ impl<'a> Search<'a> {
             return false;
         }
         if let Some((sum, tree)) = self.complete(set) {
-            let wins = |(best_sum, best_tree): (u32, Tree)| {
+            let wins = |(best_sum, best_tree): (u32, LinkSet)| {
                 sum < best_sum || sum == best_sum && tree.is_before(best_tree)
             };
             if self.best.is_none_or(wins) {
@@ -180,10 +213,11 @@ impl<'a> Search<'a> {
         true
     }
 
-    /// The cheapest tree with all of a set, by Kruskal over the base.
-    fn complete(&self, set: &[&Link]) -> Option<(u32, Tree)> {
+    /// The cheapest tree with all of a set, by Kruskal over the base. If the set is a ring, its
+    /// second link is left out: the tree is that of the first alone.
+    fn complete(&self, set: &[&Link]) -> Option<(u32, LinkSet)> {
         let mut groups = Groups::apart();
-        let (mut sum, mut tree, mut missing) = (0, Tree::default(), self.tree_len);
+        let (mut sum, mut tree, mut missing) = (0, LinkSet::default(), self.tree_len);
         let mut take = |link: &Link| {
             if groups.join(link.ends) {
                 sum += link.sum;
@@ -198,4 +232,4 @@ impl<'a> Search<'a> {
 }
 
 // Sets of more than two exceptions are not tried.
-const _: () = assert!(MAX_RANK == 3);
+const _: () = assert!(MAX_EXCEPTIONS == 2);

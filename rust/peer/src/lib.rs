@@ -7,6 +7,7 @@
 #![forbid(unsafe_code)]
 
 pub mod kruskal;
+pub mod link_set;
 pub mod listing;
 pub mod plan;
 pub mod plan_list;
@@ -15,7 +16,8 @@ pub mod survey;
 pub mod walk;
 
 use kruskal::{Groups, Solver};
-use plan::{Plan, Tree};
+use link_set::LinkSet;
+use plan::Plan;
 pub use plan_list::fetch;
 pub use reply::{Costs, Refusal};
 use survey::Yard;
@@ -30,7 +32,7 @@ pub fn judge(survey: &[u8], drawn: &[u8]) -> Result<Costs, Refusal> {
 }
 
 /// The tree that was drawn and its sum, if the links are a tree's, strictly rising.
-fn tree_of(yard: &Yard, drawn: &[u8]) -> Option<(Tree, u32)> {
+fn tree_of(yard: &Yard, drawn: &[u8]) -> Option<(LinkSet, u32)> {
     if drawn.len() != yard.tree_len() || !drawn.is_sorted_by(|a, b| a < b) {
         return None;
     }
@@ -53,9 +55,7 @@ pub fn best(survey: &[u8], ceilings: [i16; 2], tree: &mut [u8]) -> Result<Costs,
     let plan = Solver::new(&yard)
         .best(ceilings)
         .ok_or(Refusal::whole(14))?;
-    for (byte, link) in links.iter_mut().zip(plan.tree.links()) {
-        *byte = link;
-    }
+    plan.tree.write(links);
     Ok(plan.costs)
 }
 

@@ -38,9 +38,7 @@ fn write_plan(record: &mut [u8], plan: &Plan) {
     record[2..6].copy_from_slice(&plan.costs.sum.to_le_bytes());
     record[6..8].copy_from_slice(&y1.to_le_bytes());
     record[8..10].copy_from_slice(&y2.to_le_bytes());
-    for (byte, link) in record[10..].iter_mut().zip(plan.tree.links()) {
-        *byte = link;
-    }
+    plan.tree.write(&mut record[10..]);
 }
 
 /// The link numbers of plan `plan`, as a part of the list.

@@ -8,8 +8,10 @@ pub const MAX_STATIONS: usize = 24;
 pub const MAX_LINKS: usize = 40;
 /// The greatest sum cost of a link.
 pub const MAX_SUM: u32 = 1_000_000;
+/// The most links above a bound that the ranks allow a tree.
+pub const MAX_EXCEPTIONS: usize = 2;
 /// The greatest rank of a ceiling.
-pub const MAX_RANK: u8 = 3;
+pub const MAX_RANK: usize = MAX_EXCEPTIONS + 1;
 
 const YARD_MARK: [u8; 2] = [0x59, 0x44];
 const LINK_MARK: [u8; 2] = [0x4c, 0x4b];
@@ -77,6 +79,7 @@ impl Yard {
     /// The yard without its links, or the number of the refusal.
     fn read_head(head: &[u8; YARD_BYTES], link_count: usize) -> Result<Yard, u8> {
         let [mark @ .., stations, ceilings, k1, k2] = *head;
+        let ranks = [k1, k2].map(usize::from);
         if mark != YARD_MARK {
             return Err(2);
         }
@@ -89,13 +92,13 @@ impl Yard {
         if ceilings > 2 {
             return Err(5);
         }
-        if !ranks_are_legal(ceilings.into(), [k1, k2], stations - 1) {
+        if !ranks_are_legal(ceilings.into(), ranks, usize::from(stations) - 1) {
             return Err(6);
         }
         Ok(Yard {
             stations: stations.into(),
             ceilings: ceilings.into(),
-            ranks: [k1.into(), k2.into()],
+            ranks,
             links: [Link::default(); MAX_LINKS],
             link_count,
         })
@@ -124,12 +127,11 @@ impl Yard {
     }
 }
 
-/// Present ranks are 1 to 3 and at most `tree_len`, absent ones 0, and at most one is above 1.
-fn ranks_are_legal(ceilings: usize, ranks: [u8; 2], tree_len: u8) -> bool {
+/// Absent ranks are 0. Present ones are 1 to `tree_len`, and together they allow a tree at most
+/// `MAX_EXCEPTIONS`: a rank of k allows k − 1.
+fn ranks_are_legal(ceilings: usize, ranks: [usize; 2], tree_len: usize) -> bool {
     let (present, absent) = ranks.split_at(ceilings);
-    present
-        .iter()
-        .all(|&rank| (1..=MAX_RANK.min(tree_len)).contains(&rank))
-        && absent.iter().all(|&rank| rank == 0)
-        && ranks.iter().filter(|&&rank| rank > 1).count() <= 1
+    absent.iter().all(|&rank| rank == 0)
+        && present.iter().all(|rank| (1..=tree_len).contains(rank))
+        && present.iter().map(|rank| rank - 1).sum::<usize>() <= MAX_EXCEPTIONS
 }

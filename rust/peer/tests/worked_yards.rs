@@ -1,4 +1,4 @@
-//! The yards worked through in document 01.
+//! The yards worked through in document 01, and yards with two ranks above 1.
 
 use peer::listing::Listing;
 use peer::plan_list;
@@ -21,6 +21,8 @@ fn survey(n: u8, ranks: &[u8], links: &[LinkRow]) -> Vec<u8> {
 }
 
 const A: [LinkRow; 3] = [(0, 1, 4, 7, 0), (1, 2, 3, 2, 0), (0, 2, 1, 9, 0)];
+/// A with second costs.
+const A2: [LinkRow; 3] = [(0, 1, 4, 7, 1), (1, 2, 3, 2, 6), (0, 2, 1, 9, 3)];
 
 /// The list of a survey in a dirty buffer of exactly its need, without the zeroes at its end.
 fn listed(survey: &[u8], need: usize, len: usize) -> Vec<u8> {
@@ -69,11 +71,7 @@ fn p2_second_largest() {
 
 #[test]
 fn p3_two_ceilings() {
-    let mut links = A;
-    for (link, second) in links.iter_mut().zip([1, 6, 3]) {
-        link.4 = second;
-    }
-    let bytes = listed(&survey(3, &[1, 1], &links), 118, 46);
+    let bytes = listed(&survey(3, &[1, 1], &A2), 118, 46);
     let plans = [
         plan(4, 9, 6, &[1, 2]),
         plan(5, 9, 3, &[0, 2]),
@@ -157,7 +155,66 @@ fn limits_of_a_survey() {
         place: 2,
     };
     assert_eq!(number(&survey(2, &[], &dear)), eighth);
-    assert_eq!(number(&survey(4, &[3], &links(1))), Refusal::whole(11));
-    assert_eq!(number(&survey(3, &[3], &links(1))), Refusal::whole(6));
-    assert_eq!(number(&survey(4, &[2, 2], &links(1))), Refusal::whole(6));
+}
+
+#[test]
+fn limits_of_ranks() {
+    let is_legal = |n, ranks: &[u8]| match Yard::read(&survey(n, ranks, &[])) {
+        Ok(_) => true,
+        Err(refusal) => {
+            assert_eq!(refusal, Refusal::whole(6));
+            false
+        }
+    };
+    assert!(is_legal(4, &[3]) && !is_legal(3, &[3]));
+    assert!(is_legal(3, &[2, 2]) && !is_legal(2, &[2, 2]));
+    for ranks in [[1, 1], [1, 2], [2, 1], [1, 3], [3, 1], [2, 2]] {
+        assert!(is_legal(4, &ranks));
+    }
+    for ranks in [[2, 3], [3, 2], [3, 3], [1, 4], [4, 1], [0, 2], [2, 0]] {
+        assert!(!is_legal(4, &ranks) && !is_legal(24, &ranks));
+    }
+}
+
+#[test]
+fn both_second_largest() {
+    let bytes = listed(&survey(3, &[2, 2], &A2), 118, 46);
+    let plans = [
+        plan(4, 2, 3, &[1, 2]),
+        plan(5, 7, 1, &[0, 2]),
+        plan(7, 2, 1, &[0, 1]),
+    ];
+    assert_eq!(bytes, [head(3, 3, 2, 2), plans.concat()].concat());
+}
+
+/// The best tree of a yard of four stations with ranks (2, 2) under bounds of 5. Links 0, 1 and 2
+/// are above both bounds, the first and the second; the sum of link 3, a normal one, is given.
+fn best_with_exceptions(sum: u32) -> [u8; 3] {
+    let links = [
+        (0, 1, 1, 9, 9),
+        (0, 1, 2, 9, 1),
+        (1, 2, 1, 1, 9),
+        (1, 2, sum, 1, 1),
+        (2, 3, 1, 1, 1),
+    ];
+    let survey = survey(4, &[2, 2], &links);
+    let yard = Yard::read(&survey).unwrap();
+    let mut tree = [0; 3];
+    let costs = best(&survey, [5, 5], &mut tree).unwrap();
+    let by_listing = Listing::of(&yard).best([5, 5]).unwrap();
+    assert_eq!(by_listing.costs, costs);
+    assert!(by_listing.tree.links().eq(tree));
+    tree
+}
+
+#[test]
+fn one_exception_above_both_bounds() {
+    assert_eq!(best_with_exceptions(1), [0, 3, 4]);
+    // As good as the tree with two exceptions, and first.
+    assert_eq!(best_with_exceptions(2), [0, 3, 4]);
+}
+
+#[test]
+fn an_exception_above_each_bound() {
+    assert_eq!(best_with_exceptions(3), [1, 2, 4]);
 }

@@ -94,7 +94,7 @@ impl Cause {
             Cause::Ceilings => "a yard has at most 2 ceilings",
             Cause::Rank => {
                 "a rank is 1 to 3 and not above the links of a tree, \
-                 only one rank is above 1, and an absent ceiling has rank 0"
+                 beside a rank of 3 the other is 1, and an absent ceiling has rank 0"
             }
             Cause::Ends => "joins a station that the yard does not have, or joins a station to itself",
             Cause::Figures => "has a sum above 1,000,000, or a cost for a ceiling that the yard does not have",

@@ -18,7 +18,7 @@ const YARDS: u64 = 6;
 /// Ceilings questions of a run.
 const QUESTIONS: usize = 64;
 const STATIONS: [u8; 7] = [6, 8, 10, 12, 16, 20, 24];
-const RANKS: [[u8; 2]; 4] = [[1, 1], [2, 1], [3, 1], [1, 3]];
+const RANKS: [[u8; 2]; 5] = [[1, 1], [2, 1], [3, 1], [1, 3], [2, 2]];
 const HARD_LINKS: i64 = MAX_LINKS as i64;
 
 fn main() {

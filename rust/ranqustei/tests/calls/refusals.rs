@@ -63,8 +63,8 @@ fn yard_records() {
         Cause::Ceilings,
         "a yard has at most 2 ceilings",
     );
-    let rule = "a rank is 1 to 3 and not above the links of a tree, only one rank is above 1, \
-                and an absent ceiling has rank 0";
+    let rule = "a rank is 1 to 3 and not above the links of a tree, beside a rank of 3 the other \
+                is 1, and an absent ceiling has rank 0";
     check(edited(4, 3), 6, 0, Cause::Rank, rule);
     check(edited(5, 1), 6, 0, Cause::Rank, rule);
 }

@@ -45,6 +45,11 @@ fn worked_yards() {
         6,
     );
     check(
+        &yard(3, &[2, 2], &two),
+        &["4 2 3 links 1 2", "5 7 1 links 0 2", "7 2 1 links 0 1"],
+        3,
+    );
+    check(
         &yard(2, &[1], &[(0, 1, 5, &[3]), (0, 1, 5, &[8])]),
         &["5 3 links 0"],
         1,
@@ -115,6 +120,19 @@ fn limits_of_a_yard() {
     );
     check(&yard_a(2), &["4 2 links 1 2"], 1);
     assert_eq!(refused(&yard_a(3)), Some(Cause::Rank));
+}
+
+#[test]
+fn ranks_beside_each_other() {
+    let bare = |stations, ranks: [u8; 2]| yard(stations, &ranks, &[]);
+    for ranks in [[1, 3], [2, 2], [3, 1]] {
+        check(&bare(4, ranks), &[], 0);
+    }
+    for ranks in [[2, 3], [3, 2], [3, 3]] {
+        assert_eq!(refused(&bare(4, ranks)), Some(Cause::Rank));
+    }
+    check(&bare(3, [2, 2]), &[], 0);
+    assert_eq!(refused(&bare(2, [2, 2])), Some(Cause::Rank));
 }
 
 #[test]

@@ -38,8 +38,9 @@ fn folder() -> PathBuf {
     for part in ["examples/yards", "docs/pictures"] {
         fs::create_dir_all(folder.join(part)).expect("the scratch folder can be written");
     }
-    for name in ["examples/yards/survey-a.txt", "examples/yards/orchard.txt"] {
-        fs::copy(repository(name), folder.join(name)).expect("the example is there");
+    for yard in ["survey-a", "orchard", "heather"] {
+        let name = format!("examples/yards/{yard}.txt");
+        fs::copy(repository(&name), folder.join(&name)).expect("the example is there");
     }
     folder
 }

@@ -120,7 +120,9 @@ fn refusals_name_the_line_of_the_record() {
     );
     let many = format!("stations 2\n{}", "0 1 1\n".repeat(41));
     check(&many, 1, "a yard has at most 40 links (number 4, place 0)");
-    assert!(message("stations 3 ceilings 3").starts_with("standard input:1: a rank is 1 to 3 and"));
+    for head in ["stations 3 ceilings 3", "stations 4 ceilings 2 3"] {
+        assert!(message(head).starts_with("standard input:1: a rank is 1 to 3 and"));
+    }
 }
 
 #[test]

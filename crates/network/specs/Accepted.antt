@@ -7,12 +7,12 @@ use native.Mathlib.Nat.{div-add-mod', mul-le-mul-right, suc-mul}
 use native.Mathlib.Omega.{arith}
 use borrow.Author.Tests.{eqb-true, eqb-false, leb-false, ltb-false, not-false}
 use lib.ListN.{length}
-use Rattle.network.specs.Limits.{maxCeilings, maxLinks, maxStations, maxSum}
+use Rattle.network.specs.Limits.{maxCeilings, maxLinks, maxStations}
 use Rattle.network.specs.Bytes.{byteAt, markAt}
 use Rattle.network.specs.Survey.{ceilingsIn, endIn, layoutOf, linkCount, linkMark, linkSize, linkStart, plain, ranksIn, stationsIn, sumIn}
 use Rattle.network.specs.Survey.{unknown, yardMark, yardSize}
 use Rattle.network.specs.Checked.{fine-both, first-fine, refuse-fine}
-use Rattle.network.specs.Refusals.{absentCost, badLength, badRanks, checkedWith, linkChecked, linkCheckedAt, yardChecked}
+use Rattle.network.specs.Refusals.{absentCost, badLength, badRanks, badSum, checkedWith, linkChecked, linkCheckedAt, yardChecked}
 use Rattle.network.specs.declared.Checked.the-variants.{Fine}
 use Rattle.network.specs.declared.Layout.{Layout}
 
@@ -91,7 +91,7 @@ pub record LinkFine (s : List ℕ) (at n p : ℕ) : Type 0 where
   pub first-end : byteAt s (at + 2) < n
   pub second-end : byteAt s (at + 3) < n
   pub two-ends : byteAt s (at + 2) ≡ byteAt s (at + 3) → ⊥
-  pub cheap : sumIn s at ≤ maxSum
+  pub priced : badSum (sumIn s at) ≡ false
   pub absent : (j : ℕ) → j < 2 → absentCost s at p j ≡ false
 
 pub link-fine : (s : List ℕ) (at n p place : ℕ) → linkChecked s at n p place ≡ Fine → LinkFine s at n p
@@ -110,7 +110,7 @@ link-fine s at n p place e =
       first-end = leb-false _ _ (each .0);
       second-end = leb-false _ _ (each .1);
       two-ends = eqb-false _ _ (ends .1);
-      cheap = ltb-false _ _ (sum .0);
+      priced = sum .0;
       absent = below-two _ (sum .1) (costs .1);
     }
 

@@ -5,7 +5,7 @@ use Prim.Native.Nat.{ℕ, suc, _+_, _*_, _/_, _%_, zero}
 use lib.Dec.{eqb}
 use lib.IntN.{ℤ}
 use lib.ListN.{getD}
-use mir.Syntax.{w16}
+use mir.Syntax.{Width, w16, w32}
 use mir.Val.{ofZ, toZ}
 
 -- the byte at an index; 0 past the end
@@ -20,17 +20,21 @@ u16At bs i = byteAt bs i + byteAt bs (i + 1) * 256
 abbrev pub u32At : List ℕ → ℕ → ℕ
 u32At bs i = u16At bs i + u16At bs (i + 2) * 65536
 
--- the number that sixteen bits mean in two's complement: u below 32,768, and u - 65,536 from there on
-unfoldable pub signed : ℕ → ℤ
-signed u = toZ w16 u
+-- the number that bits of a width mean in two's complement: of 16 bits, u below 32,768, and u - 65,536 from there on
+unfoldable pub signed : Width → ℕ → ℤ
+signed w u = toZ w u
 
 -- the signed number of two bytes
 abbrev pub i16At : List ℕ → ℕ → ℤ
-i16At bs i = signed (u16At bs i)
+i16At bs i = signed w16 (u16At bs i)
 
--- the sixteen bits that mean z in two's complement
-unfoldable pub bitsOf : ℤ → ℕ
-bitsOf z = ofZ w16 z
+-- the signed number of four bytes
+abbrev pub i32At : List ℕ → ℕ → ℤ
+i32At bs i = signed w32 (u32At bs i)
+
+-- the bits of a width that mean z in two's complement
+unfoldable pub bitsOf : Width → ℤ → ℕ
+bitsOf w z = ofZ w z
 
 -- the k low bytes of a number, low byte first
 abbrev pub littleEndian : ℕ → ℕ → List ℕ

@@ -5,7 +5,7 @@ use mathlib.Core.List.{List, [], _∷_, _++_}
 use mathlib.Core.Option.{Option, none, some}
 use Prim.Native.Nat.{ℕ}
 use lib.Dec.{ltb}
-use lib.IntN.{ℤ, pos}
+use lib.IntN.{ℤ}
 use lib.ListN.{drop, length, replicate}
 use Rattle.network.specs.Yard.{best, bounds, isTree, treeSize}
 use Rattle.network.specs.Walk.{passes}
@@ -31,7 +31,7 @@ pub record Reply : Type 0 where
 
 -- the values of a plan's costs
 abbrev pub costValues : Costs → List ℤ
-costValues v = pos (v .sum) ∷ v .y1 ∷ v .y2 ∷ []
+costValues v = v .sum ∷ v .y1 ∷ v .y2 ∷ []
 
 -- what each case of the answer enum says
 unfoldable pub says : Answer → Reply

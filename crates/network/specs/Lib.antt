@@ -18,11 +18,12 @@ pub mod Calls
 pub mod Fetching
 -- printing
 pub mod Printing
--- the yards worked through, P1 to P16
+-- the yards worked through, P1 to P21
 pub mod Worked
--- theorems: what the definitions mean, what holds of an accepted survey's bytes and of its network
+-- theorems: what the definitions mean, what holds of an accepted survey's bytes, of its sum costs and of its network
 pub mod Meaning
 pub mod Accepted
+pub mod Sums
 pub mod NetworkFine
 -- demand 3
 pub mod Promise

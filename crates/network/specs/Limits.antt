@@ -1,5 +1,6 @@
 -- The limits of document 01. Ceiling costs are of 16 bits and the allowance is of 32: their types say so.
-use Prim.Native.Nat.{ℕ, _^_, _-_}
+use Prim.Native.Nat.{ℕ, _^_, _*_, _-_}
+use lib.IntN.{ℤ, negℤ, pos}
 
 -- stations: 1 to 24
 abbrev pub maxStations : ℕ
@@ -25,9 +26,16 @@ maxSlack = 2
 abbrev pub maxPatterns : ℕ
 maxPatterns = 2 ^ maxCeilings
 
--- s, the sum cost of a link: 0 to 1,000,000
+-- s, the sum cost of a link: -1,000,000 to 1,000,000
 abbrev pub maxSum : ℕ
 maxSum = 1_000_000
+
+abbrev pub minSum : ℤ
+minSum = negℤ (pos maxSum)
+
+-- a sum cost raised by 1,000,000, so that none is below 0: room in the search, and no figure of document 01
+abbrev pub maxRaised : ℕ
+maxRaised = 2 * maxSum
 
 -- t, the links of a tree: at most 23
 abbrev pub maxTree : ℕ

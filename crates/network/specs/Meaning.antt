@@ -5,12 +5,12 @@ use mathlib.Core.List.{List, map}
 use mathlib.Core.Logic.{_↔_}
 use mathlib.Core.Option.{none, some}
 use mathlib.Core.Path.{_≡_, ap}
-use Prim.Native.Nat.{ℕ, _≤_}
-use lib.Dec.{leb}
+use Prim.Native.Nat.{ℕ}
 use native.Mathlib.Omega.{arith}
-use lib.IntN.{ℤ, negsuc, pos}
+use lib.IntN.{ℤ, pos}
 use lib.ListN.{getD, length}
-use borrow.Author.Tests.{le-leb, leb-true, not-true}
+use lib.Signed.{leZ}
+use borrow.Author.Tests.{not-true}
 use Rattle.order.specs.Test.{clash, fails, left, right, both}
 use Rattle.order.specs.Lists.{_∈_, first}
 use Rattle.order.specs.Order.{dictionary, dictionaryLe, equal→≡, le-refl, orderℕ, orderℤ, ≡→equal}
@@ -70,8 +70,8 @@ module _ (net : Network) (sound : Sound (graph net)) where
   pub record Best (bs : List ℤ) (ts : List ℕ) : Type 0 where
     pub tree : Tree net ts
     pub fitting : fits net bs ts ≡ true
-    pub least : (us : List ℕ) → Tree net us → fits net bs us ≡ true → treeSum net ts ≤ treeSum net us
-    pub foremost : (us : List ℕ) → Tree net us → fits net bs us ≡ true → treeSum net us ≤ treeSum net ts → dictionaryLe orderℕ ts us ≡ true
+    pub least : (us : List ℕ) → Tree net us → fits net bs us ≡ true → leZ (treeSum net ts) (treeSum net us) ≡ true
+    pub foremost : (us : List ℕ) → Tree net us → fits net bs us ≡ true → leZ (treeSum net us) (treeSum net ts) ≡ true → dictionaryLe orderℕ ts us ≡ true
 
   pub best-found : (bs : List ℤ) (ts : List ℕ) → best net bs ≡ some ts → Best bs ts
   best-found bs ts e =
@@ -79,21 +79,20 @@ module _ (net : Network) (sound : Sound (graph net)) where
       record {
         tree = trees-iff ts .0 (b .member);
         fitting = b .passes;
-        least = λ us t f. leb-true (treeSum net ts) (treeSum net us) (b .lowest us (trees-iff us .1 t) f);
+        least = λ us t f. b .lowest us (trees-iff us .1 t) f;
         foremost = λ us t f l.
-            let close = both f (le-leb (treeSum net us) (treeSum net ts) l) in
-            first-lowest (dictionary orderℕ) (λ xs. xs) near ts (trees net) trees-rising leftmost us (trees-iff us .1 t) close;
+            first-lowest (dictionary orderℕ) (λ xs. xs) near ts (trees net) trees-rising leftmost us (trees-iff us .1 t) (both f l);
       }
     where
       -- a tree that fits at no higher sum
       near : List ℕ → Bool
-      near us = fits net bs us && leb (treeSum net us) (treeSum net ts)
+      near us = fits net bs us && leZ (treeSum net us) (treeSum net ts)
 
       leftmost : first near (trees net) ≡ some ts
       leftmost =
-          least-first orderℤ (λ us. pos (treeSum net us)) (fits net bs) near (trees net) ts e
-          (both (best-some (yard net) bs ts e .passes) (le-refl orderℕ (treeSum net ts)))
-          (λ us k. (left (fits net bs us) (leb (treeSum net us) (treeSum net ts)) k, right (fits net bs us) (leb (treeSum net us) (treeSum net ts)) k))
+          least-first orderℤ (treeSum net) (fits net bs) near (trees net) ts e
+          (both (best-some (yard net) bs ts e .passes) (le-refl orderℤ (treeSum net ts)))
+          (λ us k. (left (fits net bs us) (leZ (treeSum net us) (treeSum net ts)) k, right (fits net bs us) (leZ (treeSum net us) (treeSum net ts)) k))
 
   -- none is reported only if no tree fits
   pub best-missing : (bs : List ℤ) → best net bs ≡ none → (ts : List ℕ) → Tree net ts → fits net bs ts ≡ false
@@ -108,14 +107,10 @@ pub says-once : (a b : Answer) → says a ≡ says b → a ≡ b
 unfolding says
 says-once (Plan v) (Plan w) e =
     let values = ap (λ (r : Reply). r .values) e in
-    let sum : v .sum ≡ w .sum = ap (λ (l : List ℤ). natural (getD l 0 (pos 0))) values in
+    let sum : v .sum ≡ w .sum = ap (λ (l : List ℤ). getD l 0 (pos 0)) values in
     let first : v .y1 ≡ w .y1 = ap (λ (l : List ℤ). getD l 1 (pos 0)) values in
     let second : v .y2 ≡ w .y2 = ap (λ (l : List ℤ). getD l 2 (pos 0)) values in
     λ i. Plan (record { sum = sum i; y1 = first i; y2 = second i })
-  where
-    natural : ℤ → ℕ
-    natural (pos n) = n
-    natural (negsuc n) = 0
 says-once (Answer·Refused r) (Answer·Refused q) e =
     let number = ap (λ (a : Reply). a .number) e in
     let place = ap (λ (a : Reply). a .place) e in

@@ -10,19 +10,22 @@ use lib.Dec.{ltb}
 use lib.ListN.{getD, length, length-take}
 use lib.Seq.{getD-take}
 use lib.IntN.{pos}
+use mir.Syntax.{w16}
 use Rattle.order.specs.Lists.{mem-getD}
+use Rattle.order.specs.Lowered.{lowered-weighs}
 use Rattle.frontier.specs.Frontier.{product}
 use Rattle.planning.specs.Graph.{Graph, Sound, valuesAt, valuesFrom}
 use Rattle.planning.specs.Grid.{values-few}
-use Rattle.network.specs.Limits.{maxCeilings, maxLinks, maxPlans, maxStations, maxSum, maxTree}
+use Rattle.network.specs.Limits.{maxCeilings, maxLinks, maxPlans, maxRaised, maxStations, maxSum, maxTree}
 use Rattle.network.specs.Bytes.{byteAt, signed, u16At}
 use Rattle.network.specs.Column.{column, column-at, column-length}
-use Rattle.network.specs.Survey.{ceilingsIn, costIn, costsIn, endIn, endsIn, layoutOf, linkCount, linkStart, networkOf, networkWith, sumIn, sumsIn}
+use Rattle.network.specs.Survey.{ceilingsIn, costIn, costsIn, endIn, endsIn, layoutOf, linkCount, linkStart, networkOf, networkWith, sumsIn}
 use Rattle.network.specs.Refusals.{absentCost, anyBadRank, badPresent, badRank, badRanks, checkedOf}
-use Rattle.network.specs.Yard.{graph, ranks, treeSize}
+use Rattle.network.specs.Yard.{graph, ranks, sumAt, treeSize}
 use Rattle.network.specs.Walk.{positionCount}
 use Rattle.network.specs.PlanList.{bufferNeed, maxNeed, planSize, planSlots}
 use Rattle.network.specs.Accepted.{Accepted, accepted, layout-roomy, or-false}
+use Rattle.network.specs.Sums.{raised-at, raised-small, sums-length}
 use Rattle.network.specs.declared.Checked.the-variants.{Fine}
 use Rattle.network.specs.declared.Layout.{Layout}
 use Rattle.network.specs.declared.Network.{Network}
@@ -38,7 +41,7 @@ pub record NetworkFine (net : Network) : Type 0 where
   pub first-end : (i : ℕ) → i < net .m → getD (net .ends) (2 * i) 0 < net .n
   pub second-end : (i : ℕ) → i < net .m → getD (net .ends) (2 * i + 1) 0 < net .n
   pub two-ends : (i : ℕ) → i < net .m → getD (net .ends) (2 * i) 0 ≡ getD (net .ends) (2 * i + 1) 0 → ⊥
-  pub cheap : (i : ℕ) → i < net .m → getD (net .sums) i 0 ≤ maxSum
+  pub cheap : (i : ℕ) → i < net .m → getD (net .sums) i 0 ≤ maxRaised
   pub absent : (i j : ℕ) → i < net .m → j < 2 → net .p ≤ j → getD (net .costs) (2 * i + j) (pos 0) ≡ pos 0
 
 -- entry j of link i, in a column with two entries a link
@@ -54,7 +57,7 @@ absent-zero : (s : List ℕ) (at p j : ℕ) → absentCost s at p j ≡ false �
 absent-zero s at p j e h = eqb-true _ _ (not-false _ (rw (le-leb p j h) at e))
 
 pub network-fine : (s : List ℕ) (l : Layout) → Accepted s l → NetworkFine (networkWith l s (linkCount l s))
-unfolding networkWith endsIn sumsIn costsIn signed
+unfolding networkWith endsIn costsIn signed
 network-fine s l fine =
     let m = linkCount l s in
     let few : m ≤ maxLinks = fine .yard .few-links in
@@ -72,14 +75,14 @@ network-fine s l fine =
       few-links = few;
       few-ceilings = fine .yard .few-ceilings;
       ranks = fine .yard .ranks;
-      lengths = (refl, column-length (2 * maxLinks) 0 _ (2 * m), column-length maxLinks 0 _ m, column-length (maxCeilings * maxLinks) (pos 0) _ (2 * m));
+      lengths = (refl, column-length (2 * maxLinks) 0 _ (2 * m), sums-length l s m, column-length (maxCeilings * maxLinks) (pos 0) _ (2 * m));
       first-end = λ i h. rw (first i h) (fine .link i h .first-end);
       second-end = λ i h. rw (second i h) (fine .link i h .second-end);
       two-ends = λ i h e. fine .link i h .two-ends (sym (first i h) ∙ e ∙ second i h);
-      cheap = λ i h. rw (column-at maxLinks 0 (λ i. sumIn s (linkStart l i)) m i h few 0) (fine .link i h .cheap);
+      cheap = λ i h. rw (raised-at s l m few i h) (raised-small _ (fine .link i h .priced));
       absent = λ i j hi hj hp.
           pair-at (pos 0) (λ i j. costIn s (linkStart l i) j) m i j few hi hj (pos 0)
-          ∙ ap signed (absent-zero s (linkStart l i) (ceilingsIn s) j (fine .link i hi .absent j hj) hp);
+          ∙ ap (signed w16) (absent-zero s (linkStart l i) (ceilingsIn s) j (fine .link i hi .absent j hj) hp);
     }
 
 pub survey-fine : (s : List ℕ) → checkedOf s ≡ Fine → NetworkFine (networkOf s)
@@ -112,6 +115,7 @@ graph-sound net fine =
     record {
       stations = fine .some-station;
       within = λ c h. (fine .first-end c h, fine .second-end c h);
+      weighs = lowered-weighs maxSum (sumAt (net .sums));
       ranks = λ k m.
           let w = mem-getD 0 m in
           let few = fine .few-ceilings in

@@ -3,6 +3,7 @@ use mathlib.Core.List.{List, [], _∷_, _++_, map}
 use Prim.Native.Nat.{ℕ, _+_, _-_, _*_}
 use lib.IntN.{pos}
 use lib.ListN.{getD, length, replicate}
+use mir.Syntax.{w16, w32}
 use Rattle.network.specs.Limits.{maxCeilings, maxPlans, maxTree}
 use Rattle.network.specs.Bytes.{bitsOf, littleEndian}
 use Rattle.network.specs.Yard.{ceilingCosts, treeSize, treeSum}
@@ -24,7 +25,8 @@ headBytes count solved t p = headMark ++ (littleEndian 2 count ++ (littleEndian 
 
 -- a plan record: mark, sum, y1, y2, the link numbers
 abbrev pub planBytes : Costs → List ℕ → List ℕ
-planBytes v links = planMark ++ (littleEndian 4 (v .sum) ++ (littleEndian 2 (bitsOf (v .y1)) ++ (littleEndian 2 (bitsOf (v .y2)) ++ links)))
+planBytes v links =
+    planMark ++ (littleEndian 4 (bitsOf w32 (v .sum)) ++ (littleEndian 2 (bitsOf w16 (v .y1)) ++ (littleEndian 2 (bitsOf w16 (v .y2)) ++ links)))
 
 -- the size of the head
 abbrev pub headSize : ℕ

@@ -2,10 +2,12 @@
 use Prim.Native.Nat.{ℕ, _+_, _-_, _%_}
 use mathlib.Core.Bool.{Bool, false, not, _&&_, _||_}
 use mathlib.Core.List.{List, [], _∷_}
+use lib.IntN.{ℤ, pos}
 use lib.ListN.{length}
+use lib.Signed.{ltZ}
 use lib.Dec.{leb, ltb, eqb}
 use Rattle.kmax.specs.Ceilings.{slackOf}
-use Rattle.network.specs.Limits.{maxCeilings, maxLinks, maxRank, maxSlack, maxStations, maxSum}
+use Rattle.network.specs.Limits.{maxCeilings, maxLinks, maxRank, maxSlack, maxStations, maxSum, minSum}
 use Rattle.network.specs.Bytes.{markAt}
 use Rattle.network.specs.Survey.{ceilingsIn, costBitsIn, endIn, layoutOf, linkCount, linkMark, linkStart, ranksIn, stationsIn, sumIn}
 use Rattle.network.specs.Checked.{refuseIf, _orElse_, firstRefusal}
@@ -45,9 +47,13 @@ badEnds s at n = leb n (endIn s at 0) || leb n (endIn s at 1) || eqb (endIn s at
 abbrev pub absentCost : List ℕ → ℕ → ℕ → ℕ → Bool
 absentCost s at p j = leb p j && not (eqb (costBitsIn s at j) 0)
 
--- 8: s is over 1,000,000, or an absent ceiling's cost is not 0
+-- 8: s is not from -1,000,000 to 1,000,000
+unfoldable pub badSum : ℤ → Bool
+badSum s = ltZ s minSum || ltZ (pos maxSum) s
+
+-- 8: s is outside its range, or an absent ceiling's cost is not 0
 abbrev pub badCosts : List ℕ → ℕ → ℕ → Bool
-badCosts s at p = ltb maxSum (sumIn s at) || absentCost s at p 0 || absentCost s at p 1
+badCosts s at p = badSum (sumIn s at) || absentCost s at p 0 || absentCost s at p 1
 
 -- the yard record of a survey with m links: its mark, 3, 4, 5, 6, all at place 0
 unfoldable pub yardChecked : List ℕ → Layout → ℕ → Checked

@@ -1,12 +1,13 @@
 -- Document 01, "Bytes": the survey, which is one yard record and then link records only, and the network that its bytes say.
 use mathlib.Core.Bool.{cond, false, true}
 use mathlib.Core.List.{List, [], _∷_}
-use Prim.Native.Nat.{ℕ, _+_, _-_, _*_, _/_, _%_}
-use lib.IntN.{ℤ, pos}
+use Prim.Native.Nat.{ℕ, suc, _+_, _-_, _*_, _/_, _%_}
+use lib.IntN.{ℤ, negsuc, pos}
 use lib.ListN.{length}
-use Rattle.network.specs.Limits.{maxCeilings, maxLinks}
-use Rattle.network.specs.Bytes.{byteAt, markAt, signed, u16At, u32At}
+use Rattle.network.specs.Limits.{maxCeilings, maxLinks, maxSum}
+use Rattle.network.specs.Bytes.{byteAt, i32At, markAt, signed, u16At}
 use Rattle.network.specs.Column.{column}
+use mir.Syntax.{w16}
 use Rattle.network.specs.declared.Layout.{Layout}
 use Rattle.network.specs.declared.Network.{Network}
 
@@ -71,8 +72,8 @@ abbrev pub endIn : List ℕ → ℕ → ℕ → ℕ
 endIn s at j = byteAt s (at + 2 + j)
 
 -- s, its sum cost
-abbrev pub sumIn : List ℕ → ℕ → ℕ
-sumIn s at = u32At s (at + 4)
+abbrev pub sumIn : List ℕ → ℕ → ℤ
+sumIn s at = i32At s (at + 4)
 
 -- the sixteen bits of its cost by ceiling j, from 0
 abbrev pub costBitsIn : List ℕ → ℕ → ℕ → ℕ
@@ -80,7 +81,7 @@ costBitsIn s at j = u16At s (at + 8 + 2 * j)
 
 -- c1 or c2, its cost by ceiling j, from 0
 abbrev pub costIn : List ℕ → ℕ → ℕ → ℤ
-costIn s at j = signed (costBitsIn s at j)
+costIn s at j = signed w16 (costBitsIn s at j)
 
 -- ---- the network
 
@@ -88,9 +89,14 @@ costIn s at j = signed (costBitsIn s at j)
 unfoldable pub endsIn : Layout → List ℕ → ℕ → List ℕ
 endsIn l s count = column (2 * maxLinks) 0 (λ q. endIn s (linkStart l (q / 2)) (q % 2)) count
 
--- their sum costs
+-- a sum cost raised by 1,000,000: 0 for the lowest one allowed
+unfoldable pub raised : ℤ → ℕ
+raised (pos n) = n + maxSum
+raised (negsuc n) = maxSum - suc n
+
+-- their sum costs, raised
 unfoldable pub sumsIn : Layout → List ℕ → ℕ → List ℕ
-sumsIn l s count = column maxLinks 0 (λ i. sumIn s (linkStart l i)) count
+sumsIn l s count = column maxLinks 0 (λ i. raised (sumIn s (linkStart l i))) count
 
 -- their ceiling costs: entry q is cost q % 2 of link q / 2
 unfoldable pub costsIn : Layout → List ℕ → ℕ → List ℤ

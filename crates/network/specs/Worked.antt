@@ -1,12 +1,13 @@
 -- Document 01, "Yards worked through": P1 to P12 in one table, from survey bytes to list bytes, then the yards of later requests, and the theorem
 -- that every row is right. It is computed from the definitions.
 use mathlib.Core.Bool.{not}
-use mathlib.Core.List.{List, [], _∷_, _++_, List·Memᴰ·cases-cons, List·Memᴰ·not-nil}
+use mathlib.Core.List.{List, [], _∷_, _++_, map, List·Memᴰ·cases-cons, List·Memᴰ·not-nil}
 use mathlib.Core.Logic.{⊎-elim}
 use mathlib.Core.Path.{_≡_, refl, subst⁻¹}
 use Prim.Native.Nat.{ℕ, _-_}
 use lib.IntN.{ℤ, pos, negsuc}
 use lib.ListN.{length, replicate}
+use mir.Syntax.{w32}
 use Rattle.order.specs.Lists.{_∈_, filter, numbersFrom}
 use Rattle.order.specs.Order.{orderℤ}
 use Rattle.spanning.specs.Labelling.{crosses, merge}
@@ -19,10 +20,10 @@ use Rattle.network.specs.Limits.{maxPlans}
 use Rattle.network.specs.Walk.{plans, solvedCount, walked}
 use Rattle.network.specs.Bytes.{bitsOf, littleEndian, signed}
 use Rattle.network.specs.Column.{column}
-use Rattle.network.specs.Survey.{costsIn, endsIn, layoutOf, linkMark, networkOf, networkWith, sumsIn, yardMark}
+use Rattle.network.specs.Survey.{costsIn, endsIn, layoutOf, linkMark, networkOf, networkWith, raised, sumsIn, yardMark}
 use Rattle.network.specs.PlanList.{bufferNeed, headMark, join, planMark}
 use Rattle.network.specs.Checked.{firstRefusal, refuseIf, _orElse_}
-use Rattle.network.specs.Refusals.{badLength, badRanks, checkedWith, linkChecked, yardChecked}
+use Rattle.network.specs.Refusals.{badLength, badRanks, badSum, checkedWith, linkChecked, yardChecked}
 use Rattle.network.specs.Calls.{Reply, ifFine, reply, status}
 use Rattle.network.specs.Calls.{asked, askedChecked, bestTree, drawnChecked, judged, treeAfter, treeWith}
 use Rattle.network.specs.Calls.{listAfter, listChecked, listStatus, plansAfter, plansChecked, roomChecked}
@@ -45,6 +46,8 @@ pub data Row : Type 0 where
   ranks : (k : ℕ) → List ℤ → ℤ → Row
   -- the ranks k1 and k2, each from 0 to 4, that number 6 lets pass with n stations and p ceilings
   accepts : (n p : ℕ) (pairs : List (List ℕ)) → Row
+  -- bits of a sum cost, the numbers that they mean, and which of them number 8 lets pass
+  prices : (bits : List ℕ) (meant passed : List ℤ) → Row
   -- standard input, and what the program prints
   prints : (input output : List ℕ) → Row
 
@@ -69,6 +72,7 @@ Right (asks s b1 b2 buffer r after) = (asked s b1 b2 (length buffer) ≡ r) × (
 Right (draws s drawn r) = judged s drawn ≡ r
 Right (ranks k vs v) = kmax orderℤ k vs (pos 0) ≡ v
 Right (accepts n p pairs) = filter (λ ks. not (badRanks n p ks)) rankPairs ≡ pairs
+Right (prices bits meant passed) = (map (signed w32) bits ≡ meant) × (filter (λ s. not (badSum s)) meant ≡ passed)
 Right (prints input output) = printed input ≡ output
 
 -- ---- bytes as document 01 writes them
@@ -91,8 +95,12 @@ list count solved t p records = headMark ++ (littleEndian 2 count ++ (littleEndi
 abbrev plan : ℕ → ℕ → ℕ → List ℕ → List ℕ
 plan s y1 y2 links = planMark ++ (littleEndian 4 s ++ (littleEndian 2 y1 ++ littleEndian 2 y2)) ++ links
 
-abbrev costs : ℕ → ℤ → ℤ → Reply
-costs s y1 y2 = record { number = 0; place = 0; values = pos s ∷ y1 ∷ y2 ∷ [] }
+-- the bits of a sum of -n, where n is not 0
+abbrev minus : ℕ → ℕ
+minus n = bitsOf w32 (negsuc (n - 1))
+
+abbrev costs : ℤ → ℤ → ℤ → Reply
+costs s y1 y2 = record { number = 0; place = 0; values = s ∷ y1 ∷ y2 ∷ [] }
 
 abbrev refused : ℕ → ℕ → Reply
 refused number place = record { number = number; place = place; values = [] }
@@ -113,6 +121,27 @@ single = yard 1 0 0 0 []
 abbrev bare : List ℕ
 bare = yard 2 1 1 0 []
 
+-- a yard with one negative sum cost; one with negative ones alone, and k1 of 2; two links of a sum cost of -5
+abbrev solar : List ℕ
+solar = yard 3 1 1 0 (link 0 1 (minus 4) 9 0 ∷ link 1 2 3 2 0 ∷ link 0 2 2 7 0 ∷ [])
+
+abbrev sunny : List ℕ
+sunny = yard 3 1 2 0 (link 0 1 (minus 4) 7 0 ∷ link 1 2 (minus 3) 2 0 ∷ link 0 2 (minus 1) 9 0 ∷ [])
+
+abbrev panels : List ℕ
+panels = yard 2 1 1 0 (link 0 1 (minus 5) 8 0 ∷ link 0 1 (minus 5) 3 0 ∷ [])
+
+-- plans 2 solved 3 / -2 9 links 0 2 / 5 7 links 1 2
+abbrev outputSolar : List ℕ
+outputSolar =
+    0x70 ∷ 0x6C ∷ 0x61 ∷ 0x6E ∷ 0x73 ∷ 0x20 ∷ 0x32 ∷ 0x20 ∷ 0x73 ∷ 0x6F ∷ 0x6C ∷ 0x76 ∷ 0x65 ∷ 0x64 ∷ 0x20 ∷ 0x33 ∷ 0x0A
+    ∷ 0x2D ∷ 0x32 ∷ 0x20 ∷ 0x39 ∷ 0x20 ∷ 0x6C ∷ 0x69 ∷ 0x6E ∷ 0x6B ∷ 0x73 ∷ 0x20 ∷ 0x30 ∷ 0x20 ∷ 0x32 ∷ 0x0A
+    ∷ 0x35 ∷ 0x20 ∷ 0x37 ∷ 0x20 ∷ 0x6C ∷ 0x69 ∷ 0x6E ∷ 0x6B ∷ 0x73 ∷ 0x20 ∷ 0x31 ∷ 0x20 ∷ 0x32 ∷ 0x0A ∷ []
+
+-- 32 bits at the ends of their range, at the limits of s and one past them, and about 0
+abbrev sumBits : List ℕ
+sumBits = 0x80000000 ∷ 0xFFF0BDBF ∷ 0xFFF0BDC0 ∷ 0xFFFFFFFF ∷ 0 ∷ 1_000_000 ∷ 1_000_001 ∷ 0x7FFFFFFF ∷ []
+
 -- plans 2 solved 3 / 4 9 links 1 2 / 7 7 links 0 1
 abbrev outputA : List ℕ
 outputA =
@@ -125,7 +154,8 @@ abbrev listA : List ℕ
 listA = list 2 3 2 1 (two (plan 4 9 0 (two 1 2)) (plan 7 7 0 (two 0 1)))
 
 -- P1 to P12, in their order; P1 is two rows (the list in the 46 bytes that the buffer needs, and the whole output), and P12 is two. Then both
--- ranks may be 2: P13, P14 whose tree has one link above both bounds, P15 whose tree has two, one above each, and P16 in three rows
+-- ranks may be 2: P13, P14 whose tree has one link above both bounds, P15 whose tree has two, one above each, and P16 in three rows. Then sum costs may be negative: P17
+-- in two rows, P18 to P20, and P21 on the sum costs that pass
 pub table : List Row
 table =
     lists (A 1) (two (two 1 2) (two 0 1)) 3 46 listA
@@ -136,18 +166,26 @@ table =
     ∷ lists (pair 8 3) (one (one 1)) 2 32 (list 1 2 1 1 (one (plan 5 3 0 (one 1))))
     ∷ lists single (one []) 1 20 (list 1 1 0 0 (one (plan 0 0 0 [])))
     ∷ lists bare [] 0 10 (list 0 0 1 1 [])
-    ∷ asks (A 1) (pos 8) (pos 0) (two 0xFF 0xFF) (costs 7 (pos 7) (pos 0)) (two 0 1)
+    ∷ asks (A 1) (pos 8) (pos 0) (two 0xFF 0xFF) (costs (pos 7) (pos 7) (pos 0)) (two 0 1)
     ∷ asks (A 1) (pos 6) (pos 0) (two 0xFF 0xFF) (refused 14 0) (two 0xFF 0xFF)
-    ∷ draws (A 1) (two 0 2) (costs 5 (pos 9) (pos 0))
+    ∷ draws (A 1) (two 0 2) (costs (pos 5) (pos 9) (pos 0))
     ∷ ranks 2 (pos 5 ∷ negsuc 2 ∷ pos 5 ∷ []) (pos 5)
     ∷ allows (A 1) 3 46 (record { number = 0; place = 0 }) (listA ++ replicate 12 0)
     ∷ allows (A 1) 2 46 (record { number = 10; place = 0 }) (replicate 46 0)
     ∷ lists (A₂ 2 2) (two 1 2 ∷ two 0 2 ∷ two 0 1 ∷ []) 3 118 (list 3 3 2 2 (plan 4 2 3 (two 1 2) ∷ plan 5 7 1 (two 0 2) ∷ plan 7 2 1 (two 0 1) ∷ []))
-    ∷ asks (A₂ 2 2) (pos 8) (pos 2) (two 0xFF 0xFF) (costs 5 (pos 7) (pos 1)) (two 0 2)
-    ∷ asks (A₂ 2 2) (pos 8) (pos 3) (two 0xFF 0xFF) (costs 4 (pos 2) (pos 3)) (two 1 2)
+    ∷ asks (A₂ 2 2) (pos 8) (pos 2) (two 0xFF 0xFF) (costs (pos 5) (pos 7) (pos 1)) (two 0 2)
+    ∷ asks (A₂ 2 2) (pos 8) (pos 3) (two 0xFF 0xFF) (costs (pos 4) (pos 2) (pos 3)) (two 1 2)
     ∷ accepts 2 2 (one (two 1 1))
     ∷ accepts 3 2 (two 1 1 ∷ two 1 2 ∷ two 2 1 ∷ two 2 2 ∷ [])
     ∷ accepts 4 2 (two 1 1 ∷ two 1 2 ∷ two 1 3 ∷ two 2 1 ∷ two 2 2 ∷ two 3 1 ∷ [])
+    ∷ lists solar (two (two 0 2) (two 1 2)) 3 46 (list 2 3 2 1 (two (plan (minus 2) 9 0 (two 0 2)) (plan 5 7 0 (two 1 2))))
+    ∷ prints solar outputSolar
+    ∷ lists panels (one (one 1)) 2 32 (list 1 2 1 1 (one (plan (minus 5) 3 0 (one 1))))
+    ∷ asks sunny (pos 5) (pos 0) (two 0xFF 0xFF) (costs (negsuc 6) (pos 2) (pos 0)) (two 0 1)
+    ∷ draws solar (two 0 1) (costs (negsuc 0) (pos 9) (pos 0))
+    ∷ prices sumBits
+          (negsuc 2_147_483_647 ∷ negsuc 1_000_000 ∷ negsuc 999_999 ∷ negsuc 0 ∷ pos 0 ∷ pos 1_000_000 ∷ pos 1_000_001 ∷ pos 2_147_483_647 ∷ [])
+          (negsuc 999_999 ∷ negsuc 0 ∷ pos 0 ∷ pos 1_000_000 ∷ [])
     ∷ []
 
 -- ---- the theorem
@@ -164,9 +202,9 @@ every P (h ▸ r) x m = ⊎-elim (λ q. subst⁻¹ P q h) (λ n. every P r x n) 
 
 -- every row of the table is right
 pub table-right : (r : Row) → r ∈ table → Right r
-unfolding table endsIn sumsIn costsIn column layoutOf networkWith signed bitsOf
+unfolding table endsIn sumsIn costsIn column layoutOf networkWith raised signed bitsOf
     spanningTrees choose chooseFrom tree.isTree tree.isTreeFrom tree.isForest tree.isOneComponent crosses merge numbersFrom isListed
-    badLength badRanks checkedWith linkChecked yardChecked firstRefusal refuseIf _orElse_ reply status ifFine
+    badLength badRanks badSum checkedWith linkChecked yardChecked firstRefusal refuseIf _orElse_ reply status ifFine
     judged drawnChecked asked askedChecked bestTree treeAfter treeWith roomChecked plansChecked plansAfter listChecked listStatus listAfter printed
 table-right = every Right (
     record { promised = refl; by-walk = refl; counted = refl; needed = refl; succeeds = refl; bytes = refl }
@@ -179,5 +217,9 @@ table-right = every Right (
     ▸ record { promised = refl; by-walk = refl; counted = refl; needed = refl; succeeds = refl; bytes = refl }
     ▸ (refl, refl) ▸ (refl, refl) ▸ refl ▸ refl ▸ (refl, refl) ▸ (refl, refl)
     ▸ record { promised = refl; by-walk = refl; counted = refl; needed = refl; succeeds = refl; bytes = refl }
-    ▸ (refl, refl) ▸ (refl, refl) ▸ refl ▸ refl ▸ refl ▸ done
+    ▸ (refl, refl) ▸ (refl, refl) ▸ refl ▸ refl ▸ refl
+    ▸ record { promised = refl; by-walk = refl; counted = refl; needed = refl; succeeds = refl; bytes = refl }
+    ▸ refl
+    ▸ record { promised = refl; by-walk = refl; counted = refl; needed = refl; succeeds = refl; bytes = refl }
+    ▸ (refl, refl) ▸ refl ▸ (refl, refl) ▸ done
     )

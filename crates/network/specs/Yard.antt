@@ -7,7 +7,7 @@ use Prim.Native.Nat.{ℕ, _+_, _*_, _-_, _<_}
 use lib.IntN.{ℤ, pos}
 use lib.ListN.{getD, take}
 use Rattle.order.specs.Order.{orderℤ}
-use Rattle.order.specs.Perm.{sum}
+use Rattle.order.specs.Lowered.{lowered, sumℤ}
 use Rattle.spanning.specs.Labelling.{Edge}
 use Rattle.spanning.specs.Joined.{Joined, NoRing}
 use Rattle.spanning.specs.Rising.{RisingIn}
@@ -15,7 +15,7 @@ use Rattle.spanning.specs.Listing.{isListed, spanningTrees}
 use Rattle.frontier.specs.Dominance as test
 use Rattle.frontier.specs.Frontier as walk
 use Rattle.planning.specs.Graph.{Graph, costsFrom, problem}
-use Rattle.network.specs.Limits.{maxCeilings}
+use Rattle.network.specs.Limits.{maxCeilings, maxSum}
 use Rattle.network.specs.declared.Network.{Network}
 
 -- ---- stations and links
@@ -24,7 +24,7 @@ use Rattle.network.specs.declared.Network.{Network}
 abbrev pub endsAt : List ℕ → ℕ → Edge
 endsAt ends c = record { a = getD ends (2 * c) 0; b = getD ends (2 * c + 1) 0 }
 
--- s, the sum cost of link c, in the sum costs of all links
+-- the sum cost of link c raised by 1,000,000, in the raised sum costs of all links
 abbrev pub sumAt : List ℕ → ℕ → ℕ
 sumAt sums c = getD sums c 0
 
@@ -36,8 +36,9 @@ costAt costs i c = getD costs (maxCeilings * c + i) (pos 0)
 abbrev pub ends : Network → ℕ → Edge
 ends net = endsAt (net .ends)
 
-abbrev pub sumCost : Network → ℕ → ℕ
-sumCost net = sumAt (net .sums)
+-- s, the sum cost of link c
+abbrev pub sumCost : Network → ℕ → ℤ
+sumCost net = lowered maxSum (sumAt (net .sums))
 
 abbrev pub ceilingCost : Network → ℕ → ℕ → ℤ
 ceilingCost net = costAt (net .costs)
@@ -48,7 +49,8 @@ ranks net = take (net .p) (net .k)
 
 -- the yard as a graph with costs, of which the theory speaks
 abbrev pub graph : Network → Graph
-graph net = record { n = net .n; m = net .m; ends = ends net; s = sumCost net; cost = ceilingCost net; ks = ranks net }
+graph net =
+    record { n = net .n; m = net .m; ends = ends net; s = sumCost net; weight = sumAt (net .sums); cost = ceilingCost net; ks = ranks net }
 
 -- ---- trees
 
@@ -73,8 +75,8 @@ trees net = spanningTrees (ends net) (net .n) (net .m)
 -- ---- costs
 
 -- a tree's first cost: the sum of its s
-abbrev pub treeSum : Network → List ℕ → ℕ
-treeSum net ts = sum (sumCost net) ts
+abbrev pub treeSum : Network → List ℕ → ℤ
+treeSum net ts = sumℤ (sumCost net) ts
 
 -- a tree's present ceiling costs: number i is the k_i-th largest of that cost over its links, equal values counted separately (`kmax`)
 abbrev pub ceilingCosts : Network → List ℕ → List ℤ
@@ -82,7 +84,7 @@ ceilingCosts net ts = costsFrom (graph net) 0 (ranks net) ts
 
 -- the cost vector: the sum and then the present ceiling costs
 abbrev pub vector : Network → List ℕ → List ℤ
-vector net ts = pos (treeSum net ts) ∷ ceilingCosts net ts
+vector net ts = treeSum net ts ∷ ceilingCosts net ts
 
 -- v dominates w: no entry of v is above that of w, and v differs from w
 abbrev pub dominates : List ℤ → List ℤ → Bool

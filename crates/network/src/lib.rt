@@ -5,7 +5,8 @@ use crate::limits::MAX_LINKS;
 pub mod limits;
 
 // A yard: n stations, p ceilings with their ranks k, and m links. Link e joins the stations ends[2 * e] and ends[2 * e + 1], has the sum
-// cost sums[e], and costs[2 * e + i] is its cost by ceiling i. Entries past the links and ranks of absent ceilings are 0.
+// cost sums[e] - MAX_SUM, which is kept raised so that none is below 0, and costs[2 * e + i] is its cost by ceiling i. Entries past the links and
+// ranks of absent ceilings are 0.
 pub struct Network {
     pub n: u8,
     pub p: u8,
@@ -18,7 +19,7 @@ pub struct Network {
 
 // The costs of a plan: the sum, and the ceiling costs, 0 where a ceiling is absent.
 pub struct Costs {
-    pub sum: u32,
+    pub sum: i32,
     pub y1: i16,
     pub y2: i16,
 }

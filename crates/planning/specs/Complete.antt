@@ -4,7 +4,7 @@ use mathlib.Core.Bool.{Bool, true, false, _&&_, not}
 use mathlib.Core.List.{List, map, List·Memᴰ·append-cases, Memᴰ·append-left, Sublistᴰ}
 use mathlib.Core.Logic.{⊎-elim}
 use mathlib.Core.Option.{some, Option·some-injective, Option·none-ne-some}
-use mathlib.Core.Path.{_≡_, sym, subst}
+use mathlib.Core.Path.{_≡_, sym, subst, _∙_}
 use Prim.Native.Nat.{ℕ, _-_, _<_}
 use native.Mathlib.Omega.{arith}
 use lib.Dec.{eqb}
@@ -23,17 +23,17 @@ use Rattle.spanning.specs.Size.{isForest-iff}
 use Rattle.spanning.specs.Rising.{RisingIn, rising-range}
 use Rattle.spanning.specs.Ties.{tieWeight}
 use Rattle.spanning.specs.Best.{added, added-among, best-spans, best-tree, byCost, byCost-weight, forest-apart, whole, whole-below, whole-tree}
-use Rattle.spanning.specs.Listing.{ascending-listed, listing-iff, spanningTrees}
+use Rattle.spanning.specs.Listing.{ascending-listed, listing-iff, listing-length, spanningTrees}
 use Rattle.kmax.specs.Ceilings.{exceptional}
 use Rattle.kmax.specs.Search.{Completes}
-use Rattle.planning.specs.Graph.{Graph, NoWorse, Sound, completed, links, normals, sumKey, sumOrder, under}
+use Rattle.planning.specs.Graph.{Graph, NoWorse, Sound, by-weight, completed, links, normals, sumKey, sumOrder, under}
 
 -- the links that do not pass a test, by cost
 abbrev pub others : Graph → (ℕ → Bool) → List ℕ
-others G p = byCost (G .s) (filter (λ c. not (p c)) (links G))
+others G p = byCost (G .weight) (filter (λ c. not (p c)) (links G))
 
 module _ (G : Graph) (S : Sound G) where
-  open Graph G using (n, m, ends, s, cost, ks)
+  open Graph G using (n, m, ends, weight, cost, ks)
 
   -- the completion succeeds exactly where X and the added links are a spanning tree, and gives that in rising order
   module _ (cs X : List ℕ) (below-cs : (c : ℕ) → c ∈ cs → c < m) (below-X : (c : ℕ) → c ∈ X → c < m) where
@@ -69,10 +69,10 @@ module _ (G : Graph) (S : Sound G) where
         (link-below c (r .0), not-true (p c) (r .1))
 
     -- they stand by cost, then number
-    others-sorted : Sorted orderℕ (tieWeight s m) (others G p)
+    others-sorted : Sorted orderℕ (tieWeight weight m) (others G p)
     others-sorted =
         let l = filter (λ c. not (p c)) (links G) in
-        rw (byCost-weight s m l (λ c k. link-below c (filter-mem (λ c. not (p c)) (links G) k .0))) (sort-sorted orderℕ (tieWeight s m) l)
+        rw (byCost-weight weight m l (λ c k. link-below c (filter-mem (λ c. not (p c)) (links G) k .0))) (sort-sorted orderℕ (tieWeight weight m) l)
 
     module _ (ts : List ℕ) (k : ts ∈ spanningTrees ends n m) where
       listed : RisingIn 0 m ts × SpanningTree n (map ends ts)
@@ -88,19 +88,27 @@ module _ (G : Graph) (S : Sound G) where
       among x i =
           let r = filter-mem (λ c. not (p c)) ts i in
           let h = below x (r .0) in
-          mem-sort (pairs orderℕ orderℕ) (ranked s (λ c. c)) (mem-filter (λ c. not (p c)) (mem-numbers m 0 x (omega arith) (omega arith)) (r .1))
+          mem-sort (pairs orderℕ orderℕ) (ranked weight (λ c. c)) (mem-filter (λ c. not (p c)) (mem-numbers m 0 x (omega arith) (omega arith)) (r .1))
 
       -- that is a spanning tree,
       pub replaced-spans : SpanningTree n (map ends (whole ends (others G p) (filter p ts)))
       replaced-spans =
-          best-spans ends n m (S .stations) (S .within) (others G p) (filter p ts) (λ c i. other c i .0) stay-below s others-sorted
+          best-spans ends n m (S .stations) (S .within) (others G p) (filter p ts) (λ c i. other c i .0) stay-below weight others-sorted
           ts (filter (λ c. not (p c)) ts) (listed .0) (listed .1) (perm-split p ts) among
 
       -- and no worse
       pub replaced-better : NoWorse G (ascending (whole ends (others G p) (filter p ts))) ts
       replaced-better =
-          best-tree ends n m (S .stations) (S .within) (others G p) (filter p ts) (λ c i. other c i .0) stay-below s others-sorted
+          by-weight G S (ascending (whole ends (others G p) (filter p ts))) ts sizes
+          ∙ best-tree ends n m (S .stations) (S .within) (others G p) (filter p ts) (λ c i. other c i .0) stay-below weight others-sorted
           ts (filter (λ c. not (p c)) ts) (listed .0) (listed .1) (perm-split p ts) among
+        where
+          sizes : length (ascending (whole ends (others G p) (filter p ts))) ≡ length ts
+          sizes =
+              listing-length ends n m (ascending (whole ends (others G p) (filter p ts)))
+              (ascending-listed ends n m (S .stations) (S .within) (whole ends (others G p) (filter p ts))
+              (whole-below ends n m (S .stations) (S .within) (others G p) (filter p ts) (λ c i. other c i .0) stay-below) replaced-spans)
+              ∙ sym (listing-length ends n m ts k)
 
   -- the completion of `kmax`'s search, under the bounds bs
   module _ (bs : List ℤ) where
@@ -110,7 +118,7 @@ module _ (G : Graph) (S : Sound G) where
 
     -- the normal links by cost
     abbrev candidates : List ℕ
-    candidates = byCost s (normals G bs)
+    candidates = byCost weight (normals G bs)
 
     -- no candidate is exceptional
     candidate : (c : ℕ) → c ∈ candidates → (c < m) × (odd c ≡ false)

@@ -26,7 +26,7 @@ use Rattle.planning.specs.Complete.{other, others, replaced-better, repl
 use Rattle.planning.specs.Search.{base, trees-ranked}
 
 module _ (G : Graph) (S : Sound G) (bs : List ℤ) where
-  open Graph G using (n, m, ends, s)
+  open Graph G using (n, m, ends, weight)
 
   -- us does for ts: a tree that fits where ts fits, and is no worse
   pub record DoesFor (ts us : List ℕ) : Type 0 where
@@ -37,7 +37,7 @@ module _ (G : Graph) (S : Sound G) (bs : List ℤ) where
   -- it does, and its links that pass the test p are among those kept of them
   pub record Exchanged (p : ℕ → Bool) (ts us : List ℕ) : Type 0 where
     pub does : DoesFor ts us
-    pub kept : (x : ℕ) → x ∈ us → p x ≡ true → x ∈ base G (byCost s (filter p (links G)))
+    pub kept : (x : ℕ) → x ∈ us → p x ≡ true → x ∈ base G (byCost weight (filter p (links G)))
     pub stays : (x : ℕ) → x ∈ us → p x ≡ false → x ∈ ts
 
   -- the links that pass the test q stay

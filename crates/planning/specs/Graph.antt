@@ -3,19 +3,20 @@
 use mathlib.Core.Bool.{true, cond, _&&_, not}
 use mathlib.Core.List.{List, [], _∷_, map}
 use mathlib.Core.Option.{Option, none, some}
-use mathlib.Core.Path.{_≡_}
+use mathlib.Core.Path.{_≡_, sym}
 use Prim.Native.Nat.{ℕ, suc, _-_, _≤_, _<_}
-use lib.Dec.{eqb}
+use lib.Dec.{eqb, leb}
 use lib.IntN.{ℤ, pos}
 use lib.ListN.{length}
 use Rattle.order.specs.Lists.{_∈_, distinct, filter, numbersFrom}
+use Rattle.order.specs.Lowered.{sumℤ}
 use Rattle.order.specs.Perm.{sum}
 use Rattle.order.specs.Order.{TotalOrder, dictionary, equal, orderℕ, orderℤ, pairs, reverse}
 use Rattle.order.specs.Sorted.{ascending, sort}
 use Rattle.order.specs.Least.{ranked}
 use Rattle.spanning.specs.Labelling.{Edge}
 use Rattle.spanning.specs.Tree.{Within, identity, isForest}
-use Rattle.spanning.specs.Best.{byCost, whole}
+use Rattle.spanning.specs.Best.{byCost, treeKey, treeOrder, whole}
 use Rattle.spanning.specs.Listing.{spanningTrees}
 use Rattle.frontier.specs.Frontier.{Problem}
 use Rattle.kmax.specs.KMax.{kmax}
@@ -24,19 +25,22 @@ use Rattle.kmax.specs.Subsets.{subsets}
 use Rattle.kmax.specs.Search.{searchIn}
 
 -- n stations and m links, both numbered from 0. The link c joins two stations, has the sum cost s c, and costs `cost i c` by ceiling i; ks has
--- the rank k of each ceiling.
+-- the rank k of each ceiling. Kruskal's method goes by `weight`, a natural number for each link.
 pub record Graph : Type 0 where
   pub n : ℕ
   pub m : ℕ
   pub ends : ℕ → Edge
-  pub s : ℕ → ℕ
+  pub s : ℕ → ℤ
+  pub weight : ℕ → ℕ
   pub cost : ℕ → ℕ → ℤ
   pub ks : List ℕ
 
--- what a survey is checked for: there is a station, links join stations, and no rank exceeds the number of links of a tree
+-- what a survey is checked for: there is a station, links join stations, and no rank exceeds the number of links of a tree; and what weights are for
 pub record Sound (G : Graph) : Type 0 where
   pub stations : 0 < G .n
   pub within : (c : ℕ) → c < G .m → Within (G .n) (G .ends c)
+  -- the sums of equally many links compare as their weights do
+  pub weighs : (us ts : List ℕ) → length us ≡ length ts → orderℤ .le (sumℤ (G .s) us) (sumℤ (G .s) ts) ≡ leb (sum (G .weight) us) (sum (G .weight) ts)
   pub ranks : (k : ℕ) → k ∈ G .ks → (0 < k) × (k ≤ G .n - 1)
 
 -- trees by sum, then dictionary order
@@ -44,7 +48,7 @@ abbrev pub sumOrder : TotalOrder (ℤ × List ℕ)
 sumOrder = pairs orderℤ (dictionary orderℕ)
 
 module _ (G : Graph) where
-  open Graph G using (n, m, ends, s, cost, ks)
+  open Graph G using (n, m, ends, s, weight, cost, ks)
 
   -- the numbers of all links
   abbrev pub links : List ℕ
@@ -54,7 +58,7 @@ module _ (G : Graph) where
 
   -- the sum of a tree
   abbrev pub total : List ℕ → ℤ
-  total ts = pos (sum s ts)
+  total ts = sumℤ s ts
 
   -- what `sumOrder` compares of a tree: its sum, and its links
   abbrev pub sumKey : List ℕ → ℤ × List ℕ
@@ -63,6 +67,10 @@ module _ (G : Graph) where
   -- us is no worse than ts: its sum is smaller, or the same and us is not later in dictionary order
   abbrev pub NoWorse : List ℕ → List ℕ → Type 0
   NoWorse us ts = sumOrder .le (sumKey us) (sumKey ts) ≡ true
+
+  -- THE TIE RULE for signed sums: of equally many links, the smaller sum and then dictionary order is the smaller weight and then dictionary order
+  pub by-weight : Sound G → (us ts : List ℕ) → length us ≡ length ts → sumOrder .le (sumKey us) (sumKey ts) ≡ treeOrder .le (treeKey weight us) (treeKey weight ts)
+  by-weight S us ts e = rw (S .weighs us ts e, S .weighs ts us (sym e))
 
   -- the ceiling costs i, i + 1, .. of a tree, of the ranks js
   abbrev pub costsFrom : ℕ → List ℕ → List ℕ → List ℤ
@@ -115,4 +123,4 @@ module _ (G : Graph) where
 
   -- the best tree under the bounds bs: over all sets of at most Σ (k - 1) exceptional links, completed by the normal links by cost, then number
   abbrev pub searchTree : List ℤ → Option (List ℕ)
-  searchTree bs = searchSets bs (byCost s (normals bs)) (subsets (slackOf ks) (exceptionals bs))
+  searchTree bs = searchSets bs (byCost weight (normals bs)) (subsets (slackOf ks) (exceptionals bs))

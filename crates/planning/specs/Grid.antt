@@ -26,7 +26,7 @@ distinct-has {C} O l {v} m =
     first-distinct (equal O) (equal-refl O) (λ x y h. ≡→equal O y x (sym (equal→≡ O x y h))) l (w .1 ∙ ap some e)
 
 module _ (G : Graph) where
-  open Graph G using (n, m, ends, s, cost, ks)
+  open Graph G using (n, m, ends, cost, ks)
 
   -- the values of a ceiling fall strictly
   pub values-fall : (i : ℕ) → Falling orderℤ (valuesAt G i)

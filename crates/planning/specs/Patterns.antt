@@ -24,7 +24,7 @@ use Rattle.planning.specs.Search.{EnoughSets, base, trees-ranked}
 use Rattle.planning.specs.Exchange.{DoesFor, exchange}
 
 module _ (G : Graph) (bs : List ℤ) where
-  open Graph G using (n, m, ends, s)
+  open Graph G using (weight)
 
   -- the link has the pattern q
   abbrev pub has : ℕ → ℕ → Bool
@@ -32,7 +32,7 @@ module _ (G : Graph) (bs : List ℤ) where
 
   -- what Kruskal's method keeps of the links of the pattern q
   abbrev pub keeps : ℕ → List ℕ
-  keeps q = base G (byCost s (filter (has q) (links G)))
+  keeps q = base G (byCost weight (filter (has q) (links G)))
 
   -- us does for ts, and its links of the patterns qs are kept
   pub record AllExchanged (S : Sound G) (qs ts us : List ℕ) : Type 0 where

@@ -29,7 +29,7 @@ use Rattle.planning.specs.Graph.{searchSets, searchTree, sumKey, sumOrde
 use Rattle.planning.specs.Complete.{completes}
 
 module _ (G : Graph) where
-  open Graph G using (n, m, ends, s, cost, ks)
+  open Graph G using (n, m, ends, weight, cost, ks)
 
   -- to fit under bounds is to fit under the ceilings with these bounds
   pub fits-under : (i : ℕ) (js : List ℕ) (bs : List ℤ) → length bs ≡ length js → (ts : List ℕ)
@@ -73,7 +73,7 @@ module _ (G : Graph) where
   -- Whatever sets of exceptional links are tried, if they are enough, then the search finds the best tree: the one of least sum that fits, and of
   -- these the first in dictionary order
   pub search-sets : Sound G → (bs : List ℤ) → length bs ≡ length ks → (Xs : List (List ℕ)) → EnoughSets bs Xs
-      → searchSets G bs (byCost s (normals G bs)) Xs ≡ best (problem G) bs
+      → searchSets G bs (byCost weight (normals G bs)) Xs ≡ best (problem G) bs
   search-sets S bs l Xs E =
       search-leftmost orderℤ (pos 0) (under G bs) orderℤ (total G) (dictionary orderℕ) (λ ts. ts) (links G) (spanningTrees ends n m)
       (trees-ranked S bs) (completes G S bs) Xs E (listing-sorted ends n m)

@@ -1,0 +1,51 @@
+-- Sum costs are kept raised by 1,000,000. What was raised is got back, so the sum cost of a link in the network is the one that the survey says.
+use Prim.Native.Nat.{ℕ, suc, _+_, _-_, _≤_, _<_}
+use mathlib.Core.Path.{_≡_, ap, _∙_}
+use mathlib.Core.Bool.{false}
+use mathlib.Core.List.{List}
+use native.Mathlib.Omega.{arith}
+use borrow.Author.Tests.{ltb-false}
+use lib.Dec.{ltb}
+use lib.IntN.{ℤ, pos, negsuc, subℕ}
+use lib.ListN.{getD, length}
+use Rattle.order.specs.Lowered.{sub-above, sub-below}
+use Rattle.network.specs.Limits.{maxLinks, maxRaised, maxSum}
+use Rattle.network.specs.Column.{column-at, column-length}
+use Rattle.network.specs.Survey.{layoutOf, linkCount, linkStart, networkOf, networkWith, raised, sumIn, sumsIn}
+use Rattle.network.specs.Refusals.{badSum, checkedOf}
+use Rattle.network.specs.Yard.{sumCost}
+use Rattle.network.specs.Accepted.{Accepted, accepted, layout-roomy, or-false}
+use Rattle.network.specs.declared.Checked.the-variants.{Fine}
+use Rattle.network.specs.declared.Layout.{Layout}
+
+-- a sum cost in its range is at most 2,000,000 when raised,
+pub raised-small : (z : ℤ) → badSum z ≡ false → raised z ≤ maxRaised
+unfolding badSum raised
+raised-small (pos n) e = let high = ltb-false maxSum n e in omega arith
+raised-small (negsuc n) e = omega arith
+
+-- and is the raised one less 1,000,000
+pub raised-back : (z : ℤ) → badSum z ≡ false → subℕ (raised z) maxSum ≡ z
+unfolding badSum raised
+raised-back (pos n) e = sub-above (n + maxSum) maxSum (omega arith) ∙ ap pos (omega arith)
+raised-back (negsuc n) e =
+    let low = ltb-false 999_999 n (or-false (ltb 999_999 n) false e .0) in
+    sub-below (maxSum - suc n) maxSum (omega arith) ∙ ap negsuc (omega arith)
+
+-- in the column stands the raised sum cost of each link
+pub raised-at : (s : List ℕ) (l : Layout) (m : ℕ) → m ≤ maxLinks → (i : ℕ) → i < m → getD (sumsIn l s m) i 0 ≡ raised (sumIn s (linkStart l i))
+unfolding sumsIn
+raised-at s l m few i h = column-at maxLinks 0 (λ i. raised (sumIn s (linkStart l i))) m i h few 0
+
+-- which has room for all links
+pub sums-length : (l : Layout) (s : List ℕ) (m : ℕ) → length (sumsIn l s m) ≡ maxLinks
+unfolding sumsIn
+sums-length l s m = column-length maxLinks 0 (λ i. raised (sumIn s (linkStart l i))) m
+
+-- THE THEOREM: the sum cost of each link of an accepted survey is the one that its bytes say
+pub sum-said : (s : List ℕ) → checkedOf s ≡ Fine → (i : ℕ) → i < linkCount (layoutOf s) s → sumCost (networkOf s) i ≡ sumIn s (linkStart (layoutOf s) i)
+unfolding networkWith
+sum-said s e i h =
+    let l = layoutOf s in
+    let fine : Accepted s l = accepted s l (layout-roomy s) e in
+    ap (λ (n : ℕ). subℕ n maxSum) (raised-at s l (linkCount l s) (fine .yard .few-links) i h) ∙ raised-back (sumIn s (linkStart l i)) (fine .link i h .priced)

@@ -1,4 +1,4 @@
--- the ends of the range of sixteen bits
+-- the ends of the ranges of 16 and 32 bits
 pub mod Range
 -- laws of two's complement
 pub mod TwosComplement

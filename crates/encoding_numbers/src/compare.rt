@@ -8,3 +8,9 @@ pub fn le16(a: i16, b: i16) -> bool
 {
     a <= b
 }
+
+pub fn le32(a: i32, b: i32) -> bool
+    ensures { λ r. ⌜ r ≡ leZ a b ⌝ }
+{
+    a <= b
+}

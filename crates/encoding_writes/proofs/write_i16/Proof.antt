@@ -10,8 +10,8 @@ use Rattle.network.specs.Bytes.{bitsOf, littleEndian}
 use Rattle.encoding_writes.proofs.write_i16.Statement.{statement}
 use Rattle.encoding_writes.proofs.write_i16.Tie as tie
 
-bits-requires : tie.Need-bits-requires
-bits-requires c κs = search needs
+bits16-requires : tie.Need-bits16-requires
+bits16-requires c κs = search needs
 
 write-u16-requires : tie.Need-write-u16-requires
 write-u16-requires c κs = search needs
@@ -25,7 +25,7 @@ returns c =
     let start = written .before .before .before .before in
     written .write-u16 .ensures
     ∙ ap (λ (n : ℕ). overwrite (now (start .args .out)) (start .args .at) (littleEndian 2 n))
-    (written .before .bits .ensures ∙ ap bitsOf (toZ-ofZ w16 (start .args .z) (start .fits .z)))
+    (written .before .bits16 .ensures ∙ ap (bitsOf w16) (toZ-ofZ w16 (start .args .z) (start .fits .z)))
 
 pub write-i16-spec : {M : Type 1} → statement M
-write-i16-spec = tie.close (tie.spec bits-requires write-u16-requires same-length returns)
+write-i16-spec = tie.close (tie.spec bits16-requires write-u16-requires same-length returns)

@@ -10,11 +10,11 @@ use Rattle.encoding_numbers.proofs.read.read_i16.Tie as tie
 read-u16-requires : tie.Need-read-u16-requires
 read-u16-requires c κs = search needs
 
-signed-requires : tie.Need-signed-requires
-signed-requires c κs = search needs
+signed16-requires : tie.Need-signed16-requires
+signed16-requires c κs = search needs
 
 returns : tie.Need-returns
-returns c = toZ-ofZ w16 (c .signed .result) (search needs) ∙ (c .signed .ensures ∙ ap signed (c .before .read-u16 .ensures))
+returns c = toZ-ofZ w16 (c .signed16 .result) (search needs) ∙ (c .signed16 .ensures ∙ ap (signed w16) (c .before .read-u16 .ensures))
 
 pub read-i16-spec : {M : Type 1} → statement M
-read-i16-spec = tie.close (tie.spec read-u16-requires signed-requires returns)
+read-i16-spec = tie.close (tie.spec read-u16-requires signed16-requires returns)

@@ -1,11 +1,11 @@
--- `encoding_writes::bits` meets its contract. A negative number is -1 less a number of the lower half, so its bits are the complement of that one.
+-- `encoding_writes::bits16` meets its contract. A negative number is -1 less a number of the lower half, so its bits are the complement of that one.
 use mir.Syntax.{w16}
 use mir.ValLaws.{ofZ-fits}
 use native.Mathlib.Omega.{arith}
 use Rattle.network.specs.Bytes.{bitsOf}
 use Rattle.encoding_numbers.specs.TwosComplement.{Negative, negative, natural}
-use Rattle.encoding_writes.proofs.bits.Statement.{statement}
-use Rattle.encoding_writes.proofs.bits.Tie as tie
+use Rattle.encoding_writes.proofs.bits16.Statement.{statement}
+use Rattle.encoding_writes.proofs.bits16.Tie as tie
 
 known : (c : tie.Then1) → Negative w16 (c .before .args .z)
 known c = negative w16 (c .before .args .z) (c .if1 .taken) (c .before .fits .z)
@@ -30,6 +30,6 @@ returns-2 : tie.Need-returns-2
 unfolding bitsOf
 returns-2 c = rw (natural w16 (c .before .args .z) (c .if1 .left) (c .before .fits .z))
 
-pub bits-spec : {M : Type 1} → statement M
-bits-spec =
+pub bits16-spec : {M : Type 1} → statement M
+bits16-spec =
     tie.close (tie.spec sub-result cast-result sub-result-2 cast-result-2 returns returns-2)

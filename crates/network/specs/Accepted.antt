@@ -114,6 +114,10 @@ link-fine s at n p place e =
       absent = below-two _ (sum .1) (costs .1);
     }
 
+-- the sum costs of m link records are in their range
+pub record Priced (s : List ℕ) (l : Layout) (m : ℕ) : Type 0 where
+  pub each : (i : ℕ) → i < m → badSum (sumIn s (linkStart l i)) ≡ false
+
 -- where the length is right and the yard record is fine
 pub whole : (s : List ℕ) (l : Layout) → Roomy l → badLength l (length s) ≡ false → yardChecked s l (linkCount l s) ≡ Fine → Whole s l (linkCount l s)
 whole s l roomy right yard =

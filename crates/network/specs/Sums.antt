@@ -1,14 +1,14 @@
 -- Sum costs are kept raised by 1,000,000. What was raised is got back, so the sum cost of a link in the network is the one that the survey says.
-use Prim.Native.Nat.{ℕ, suc, _+_, _-_, _≤_, _<_}
-use mathlib.Core.Path.{_≡_, ap, _∙_}
+use Prim.Native.Nat.{ℕ, suc, _≤_, _<_}
+use mathlib.Core.Path.{_≡_, refl, sym, ap, _∙_}
 use mathlib.Core.Bool.{false}
 use mathlib.Core.List.{List}
 use native.Mathlib.Omega.{arith}
 use borrow.Author.Tests.{ltb-false}
 use lib.Dec.{ltb}
-use lib.IntN.{ℤ, pos, negsuc, subℕ}
+use lib.IntN.{ℤ, pos, negsuc, subℕ, _+ℤ_, _-ℤ_, +ℤ-negℤ-cancel}
 use lib.ListN.{getD, length}
-use Rattle.order.specs.Lowered.{sub-above, sub-below}
+use Rattle.order.specs.Lowered.{sub-above}
 use Rattle.network.specs.Limits.{maxLinks, maxRaised, maxSum}
 use Rattle.network.specs.Column.{column-at, column-length}
 use Rattle.network.specs.Survey.{layoutOf, linkCount, linkStart, networkOf, networkWith, raised, sumIn, sumsIn}
@@ -24,13 +24,17 @@ unfolding badSum raised
 raised-small (pos n) e = let high = ltb-false maxSum n e in omega arith
 raised-small (negsuc n) e = omega arith
 
--- and is the raised one less 1,000,000
-pub raised-back : (z : ℤ) → badSum z ≡ false → subℕ (raised z) maxSum ≡ z
+-- which is its sum with 1,000,000,
+pub raised-sum : (z : ℤ) → badSum z ≡ false → z +ℤ pos maxSum ≡ pos (raised z)
 unfolding badSum raised
-raised-back (pos n) e = sub-above (n + maxSum) maxSum (omega arith) ∙ ap pos (omega arith)
-raised-back (negsuc n) e =
+raised-sum (pos n) e = refl
+raised-sum (negsuc n) e =
     let low = ltb-false 999_999 n (or-false (ltb 999_999 n) false e .0) in
-    sub-below (maxSum - suc n) maxSum (omega arith) ∙ ap negsuc (omega arith)
+    sub-above maxSum (suc n) (omega arith)
+
+-- and is the raised one less 1,000,000
+raised-back : (z : ℤ) → badSum z ≡ false → subℕ (raised z) maxSum ≡ z
+raised-back z e = ap (λ (r : ℤ). r -ℤ pos maxSum) (sym (raised-sum z e)) ∙ +ℤ-negℤ-cancel z (pos maxSum)
 
 -- in the column stands the raised sum cost of each link
 pub raised-at : (s : List ℕ) (l : Layout) (m : ℕ) → m ≤ maxLinks → (i : ℕ) → i < m → getD (sumsIn l s m) i 0 ≡ raised (sumIn s (linkStart l i))

@@ -16,7 +16,7 @@ use Rattle.order.specs.Perm.{sum}
 -- ---- the difference of two natural numbers
 
 -- where it is below 0, and where it is not
-pub sub-below : (a c : ℕ) → a < c → subℕ a c ≡ negsuc (c - suc a)
+sub-below : (a c : ℕ) → a < c → subℕ a c ≡ negsuc (c - suc a)
 sub-below a c h = rw (lt-ltb a c h)
 
 pub sub-above : (a c : ℕ) → c ≤ a → subℕ a c ≡ pos (a - c)

@@ -1,10 +1,11 @@
 // The network that a survey's records say.
 use encoding_numbers::read::read_i16;
-use encoding_numbers::read::read_u32;
+use encoding_numbers::read::read_i32;
 use network::Layout;
 use network::Network;
 use network::limits::MAX_CEILINGS;
 use network::limits::MAX_LINKS;
+use network::limits::MAX_SUM;
 use survey_layout::fields::CEILINGS;
 use survey_layout::fields::COSTS;
 use survey_layout::fields::ENDS;
@@ -12,11 +13,14 @@ use survey_layout::fields::RANKS;
 use survey_layout::fields::STATIONS;
 use survey_layout::fields::SUM;
 use survey_layout::layout::link_start;
+ghost use mathlib.Core.Bool.{false};
 ghost use mathlib.Core.Path.{_≡_};
 ghost use Prim.Native.Nat.{_*_};
 ghost use Rattle.network.specs.Limits.{maxCeilings};
 ghost use Rattle.network.specs.Survey.{costsIn, endsIn, networkWith, sumsIn};
-ghost use Rattle.network.specs.Accepted.{Whole};
+ghost use Rattle.network.specs.Survey as spec;
+ghost use Rattle.network.specs.Refusals.{badSum};
+ghost use Rattle.network.specs.Accepted.{Priced, Whole};
 
 // The ends of the m links, two for each.
 fn decode_ends(s: &[u8], l: Layout, m: usize) -> [u8; 2 * MAX_LINKS]
@@ -33,16 +37,24 @@ fn decode_ends(s: &[u8], l: Layout, m: usize) -> [u8; 2 * MAX_LINKS]
     ends
 }
 
-// The sum costs of the m links.
+// A sum cost in its range, raised so that it is not below 0.
+fn raised(sum: i32) -> u32
+    requires { ⌜ badSum sum ≡ false ⌝ }
+    ensures { λ r. ⌜ r ≡ spec.raised sum ⌝ }
+{
+    (sum + MAX_SUM) as u32
+}
+
+// The raised sum costs of the m links.
 fn decode_sums(s: &[u8], l: Layout, m: usize) -> [u32; MAX_LINKS]
-    requires { ⌜ Whole (now s) l m ⌝ }
+    requires { ⌜ Whole (now s) l m × Priced (now s) l m ⌝ }
     ensures { λ r. ⌜ r ≡ sumsIn l (now (s .entry)) m ⌝ }
 {
     let mut sums = [0u32; MAX_LINKS];
     let mut i = 0;
     while i < m {
         let at = link_start(s, l, m, i);
-        sums[i] = read_u32(s, at + SUM);
+        sums[i] = raised(read_i32(s, at + SUM));
         i += 1;
     }
     sums
@@ -65,7 +77,7 @@ fn decode_costs(s: &[u8], l: Layout, m: usize) -> [i16; MAX_CEILINGS * MAX_LINKS
 
 // The network of a survey with m links.
 pub fn decode(s: &[u8], l: Layout, m: usize) -> Network
-    requires { ⌜ Whole (now s) l m ⌝ }
+    requires { ⌜ Whole (now s) l m × Priced (now s) l m ⌝ }
     ensures { λ r. ⌜ r ≡ networkWith l (now (s .entry)) m ⌝ }
 {
     let n = s[STATIONS];

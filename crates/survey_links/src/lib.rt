@@ -1,10 +1,11 @@
 // The rules of a survey's link records: their marks, and the numbers 7 and 8, link by link.
 use encoding_numbers::read::mark_at;
+use encoding_numbers::read::read_i32;
 use encoding_numbers::read::read_u16;
-use encoding_numbers::read::read_u32;
 use network::Checked;
 use network::Layout;
 use network::limits::MAX_SUM;
+use network::limits::MIN_SUM;
 use survey_layout::checks::or_refuse_if;
 use survey_layout::checks::refuse_if;
 use survey_layout::fields::CEILINGS;
@@ -20,7 +21,7 @@ ghost use lib.ListN.{length};
 ghost use Rattle.network.specs.Limits.{maxCeilings};
 ghost use Rattle.network.specs.Survey.{linkSize};
 ghost use Rattle.network.specs.Accepted.{Whole};
-ghost use Rattle.network.specs.Refusals.{absentCost, badCosts, badEnds, linkChecked, linksChecked};
+ghost use Rattle.network.specs.Refusals.{absentCost, badCosts, badEnds, badSum, linkChecked, linksChecked};
 
 // Whether an end of the link record at an index is no station, or both are the same.
 fn bad_ends(s: &[u8], at: usize, n: u8) -> bool
@@ -40,12 +41,19 @@ fn absent_cost(s: &[u8], at: usize, p: u8, j: u8) -> bool
     (p <= j) & (read_u16(s, at + COSTS + 2 * (j as usize)) != 0)
 }
 
+// Whether a sum cost is outside its range.
+fn bad_sum(s: i32) -> bool
+    ensures { λ r. ⌜ r ≡ badSum s ⌝ }
+{
+    (s < MIN_SUM) | (MAX_SUM < s)
+}
+
 // Whether a cost of the link record at an index is against its rule, with p ceilings.
 fn bad_costs(s: &[u8], at: usize, p: u8) -> bool
     requires { ⌜ at + linkSize ≤ length (now s) ⌝ }
     ensures { λ r. ⌜ r ≡ badCosts (now (s .entry)) at p ⌝ }
 {
-    (MAX_SUM < read_u32(s, at + SUM)) | absent_cost(s, at, p, 0) | absent_cost(s, at, p, 1)
+    bad_sum(read_i32(s, at + SUM)) | absent_cost(s, at, p, 0) | absent_cost(s, at, p, 1)
 }
 
 // The link record at an index, in a survey with n stations and p ceilings.

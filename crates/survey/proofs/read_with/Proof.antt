@@ -32,7 +32,7 @@ div-decode : tie.Need-div-decode
 div-decode c = search needs
 
 decode-requires : tie.Need-decode-requires
-decode-requires c κs = read c .records
+decode-requires c κs = (read c .records, record { each = λ i h. read c .link i h .priced })
 
 returns : tie.Need-returns
 unfolding ifFine surveyWith

@@ -1,8 +1,13 @@
 -- `survey_decode::decode_sums` meets its contract. The invariant: the sums before i stand in the column.
-use Prim.Native.Nat.{_≤_, _-_}
+use Prim.Native.Nat.{_+_, _≤_, _-_}
 use borrow.Author.Needs.{needs}
 use mathlib.Core.Path.{_≡_, refl, sym, ap, _∙_}
 use native.Mathlib.Omega.{arith}
+use denote.Ref.{now}
+use mir.Syntax.{w32}
+use mir.Val.{ofZ, toZ}
+use mir.ValLaws.{toZ-ofZ}
+use Rattle.network.specs.Bytes.{i32At}
 use Rattle.network.specs.Column.{column, column-more}
 use Rattle.network.specs.Survey.{sumsIn}
 use Rattle.survey_decode.proofs.decode_sums.Statement.{statement}
@@ -21,11 +26,22 @@ loop-holds c = (search needs, refl)
 link-start-requires : tie.Need-link-start-requires Inv-loop μ-loop
 link-start-requires c κs = search needs
 
-add-read-u32 : tie.Need-add-read-u32 Inv-loop μ-loop
-add-read-u32 c = search needs
+add-read-i32 : tie.Need-add-read-i32 Inv-loop μ-loop
+add-read-i32 c = search needs
 
-read-u32-requires : tie.Need-read-u32-requires Inv-loop μ-loop
-read-u32-requires c κs = search needs
+read-i32-requires : tie.Need-read-i32-requires Inv-loop μ-loop
+read-i32-requires c κs = search needs
+
+-- the sum cost that was read
+sum : (c : tie.After-read-i32 Inv-loop μ-loop)
+    → toZ w32 (ofZ w32 (c .read-i32 .result)) ≡ i32At (now (c .before .before .before .before .before .args .s)) (c .before .link-start .result + 4)
+sum c = toZ-ofZ w32 (c .read-i32 .result) (search needs) ∙ c .read-i32 .ensures
+
+raised-requires : tie.Need-raised-requires Inv-loop μ-loop
+raised-requires c κs =
+    let started = c .before in
+    let head = started .before .before in
+    rw (sum c, started .link-start .ensures .0) (head .before .before .pre .1 .each (head .loop .i) (started .before .loop-test .taken))
 
 mul-sums : tie.Need-mul-sums Inv-loop μ-loop
 mul-sums c = search needs
@@ -42,8 +58,9 @@ loop-less c = search needs
 loop-again : tie.Need-loop-again Inv-loop μ-loop
 unfolding sumsIn
 loop-again c =
-    let head = c .before .before .before in
-    (search needs, rw (head .loop .inv .1, c .read-u32 .ensures, c .before .link-start .ensures .0) (sym (column-more _ _ _ _)))
+    let read = c .before in
+    let head = read .before .before .before in
+    (search needs, rw (head .loop .inv .1, c .raised .ensures, sum read, read .before .link-start .ensures .0) (sym (column-more _ _ _ _)))
 
 returns : tie.Need-returns Inv-loop μ-loop
 returns c = c .before .loop .inv .1 ∙ ap (sumsIn _ _) (omega arith)
@@ -56,8 +73,9 @@ decode-sums-spec =
     μ-loop
     loop-holds
     link-start-requires
-    add-read-u32
-    read-u32-requires
+    add-read-i32
+    read-i32-requires
+    raised-requires
     mul-sums
     array-write-sums
     add-i

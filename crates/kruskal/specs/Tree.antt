@@ -8,7 +8,7 @@ use lib.ListN.{length, getD, set, replicate}
 use Rattle.order.specs.Lists.{_∈_, getD-mem}
 use Rattle.spanning.specs.Labelling.{crosses}
 use Rattle.spanning.specs.LabelList.{labelOf}
-use Rattle.network.specs.Limits.{maxLinks, maxSum}
+use Rattle.network.specs.Limits.{maxLinks, maxRaised}
 use Rattle.network.specs.Yard.{endsAt, sumAt}
 use Rattle.forest.specs.Groups.{apart, joined}
 use Rattle.kruskal.specs.declared.tree.Tree.{Tree}
@@ -41,7 +41,7 @@ pub record Columns (ends sums : List ℕ) : Type 0 where
 -- link e is one of the links, with a cost in range
 pub record Usable (sums : List ℕ) (e : ℕ) : Type 0 where
   pub below : e < maxLinks
-  pub cheap : sumAt sums e ≤ maxSum
+  pub cheap : sumAt sums e ≤ maxRaised
 
 -- a list of such links, with no more of them than a survey may have
 pub record Walkable (sums l : List ℕ) : Type 0 where
@@ -54,7 +54,7 @@ walk-usable {l = l} w k h = w .usable (getD l k 0) (getD-mem l k 0 h)
 
 -- a forest of at most j links
 pub record Light (j : ℕ) (t : Tree) : Type 0 where
-  pub sum-bound : t .sum ≤ j * maxSum
+  pub sum-bound : t .sum ≤ j * maxRaised
   pub count-bound : t .count ≤ j
 
 -- taking a link adds at most its cost, and at most 1 to the count

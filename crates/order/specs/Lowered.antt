@@ -1,14 +1,14 @@
 -- Signed costs kept as natural numbers: each raised by the same number k. Sums of equally many costs compare as the raised sums do, and the signed sum
 -- is the raised one less k for each cost.
 use mathlib.Core.List.{List, [], _∷_}
-use mathlib.Core.Path.{_≡_, ap, _∙_}
-use Prim.Native.Nat.{ℕ, suc, _+_, _-_, _*_, _≤_, _<_}
+use mathlib.Core.Path.{_≡_, refl, sym, ap, _∙_}
+use Prim.Native.Nat.{ℕ, zero, suc, _+_, _-_, _*_, _≤_, _<_}
 use native.Mathlib.Nat.{suc-mul, zero-mul}
 use native.Mathlib.Omega.{arith}
 use lib.Dec.{leb, ltb}
-use lib.IntN.{ℤ, pos, negsuc, subℕ, _+ℤ_}
+use lib.IntN.{ℤ, pos, negsuc, subℕ, _+ℤ_, _-ℤ_}
 use lib.ListN.{length}
-use lib.Signed.{leZ}
+use lib.Signed.{leZ, mag}
 use borrow.Author.Tests.{le-leb, le-ltb, leb-true, lt-leb, lt-ltb, ltb-false, ltb-true}
 use Rattle.order.specs.Test.{by-test, test-iff}
 use Rattle.order.specs.Perm.{sum}
@@ -21,6 +21,18 @@ sub-below a c h = rw (lt-ltb a c h)
 
 pub sub-above : (a c : ℕ) → c ≤ a → subℕ a c ≡ pos (a - c)
 sub-above a c h = rw (le-ltb a c h)
+
+-- it is the difference of integers
+pub sub-integers : (a b : ℕ) → pos a -ℤ pos b ≡ subℕ a b
+sub-integers a zero = ap pos (omega arith) ∙ sym (sub-above a 0 (omega arith))
+sub-integers a (suc b) = refl
+
+-- and no further from 0 than both numbers
+pub sub-small : (a b n : ℕ) → a < n → b < n → mag (subℕ a b) < n
+sub-small a b n h k =
+    by-test (ltb a b)
+    (λ p. let x = ltb-true a b p in rw (sub-below a b x) (omega arith))
+    (λ p. let x = ltb-false a b p in rw (sub-above a b x) (omega arith))
 
 -- differences from one number compare as the numbers do
 sub-order : (a b c : ℕ) → leZ (subℕ a c) (subℕ b c) ≡ leb a b

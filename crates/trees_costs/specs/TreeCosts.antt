@@ -8,19 +8,20 @@ use native.Mathlib.Numerals.{add-one}
 use native.Mathlib.Omega.{arith}
 use borrow.Author.Tests.{eqb-true, le-ltb, lt-ltb}
 use lib.Dec.{eqb, leb·suc-suc, ltb}
-use lib.IntN.{ℤ, pos}
+use lib.IntN.{ℤ, pos, subℕ}
 use lib.ListN.{drop, drop-of-length-le, getD, length, length-map, replicate, set, take}
 use lib.Seq.{drop-cons, ext-getD, getD-take, length-take-le}
 use Rattle.order.specs.Test.{left, right}
 use Rattle.order.specs.Lists.{_∈_, getD-map, getD-mem}
 use Rattle.order.specs.Order.{orderℤ}
+use Rattle.order.specs.Lowered.{sum-lowered}
 use Rattle.order.specs.Perm.{sum}
 use Rattle.kmax.specs.KMax.{kmax}
 use Rattle.planning.specs.Graph.{Graph, costsFrom}
 use Rattle.spanning.specs.Tree as tree
 use Rattle.spanning.specs.Rising.{isRisingIn, isRisingIn-iff, rising-range}
 use Rattle.spanning.specs.Listing.{isListed}
-use Rattle.network.specs.Limits.{maxCeilings, maxLinks, maxSum, maxTree}
+use Rattle.network.specs.Limits.{maxCeilings, maxLinks, maxRaised, maxSum, maxTree}
 use Rattle.network.specs.Column.{column, column-at, column-length, column-more, column-none}
 use Rattle.network.specs.NetworkFine.{NetworkFine, graph-sound}
 use Rattle.network.specs.Yard.{ceilingCosts, costAt, ends, graph, isTree, ranks, sumAt, treeSize, treeSum}
@@ -51,9 +52,13 @@ pub record CeilingFine (p k : ℕ) (costs : List ℤ) (i : ℕ) (ts : List ℕ) 
   pub figures : FiguresFine costs i ts
   pub rank : i < p → (0 < k) × (k ≤ length ts)
 
--- the sum cost of the links
+-- the raised sum costs of the links, added up
 unfoldable pub sumOf : List ℕ → List ℕ → ℕ
 sumOf sums ts = sum (sumAt sums) ts
+
+-- the sum cost of `count` links, whose raised sum costs add up to `raised`
+unfoldable pub loweredSum : ℕ → ℕ → ℤ
+loweredSum raised count = subℕ raised (count * maxSum)
 
 -- the costs of the first n links by ceiling i, with 0 after them
 unfoldable pub figuresUpTo : List ℤ → ℕ → List ℕ → ℕ → List ℤ
@@ -145,9 +150,9 @@ costs-at G j (suc p) (k ∷ ks) ts (suc i) h =
 -- ---- of a network
 
 module _ (net : Network) (fine : NetworkFine net) where
-  pub sum-at : (ts : List ℕ) → sumOf (net .sums) ts ≡ treeSum net ts
-  unfolding sumOf
-  sum-at ts = refl
+  pub sum-at : (ts : List ℕ) → loweredSum (sumOf (net .sums) ts) (length ts) ≡ treeSum net ts
+  unfolding sumOf loweredSum
+  sum-at ts = sym (sum-lowered maxSum (sumAt (net .sums)) ts)
 
   pub ceiling-at : (ts : List ℕ) (i : ℕ) → i < maxCeilings → ceilingAt (net .p) (getD (net .k) i 0) (net .costs) i ts ≡ getD (ceilingCosts net ts) i (pos 0)
   unfolding ceilingAt
@@ -164,7 +169,7 @@ module _ (net : Network) (fine : NetworkFine net) where
 
   module _ (ts : List ℕ) (links : TreeLinks net ts) where
     -- t links are few, and there is room for them
-    links-few : length ts ≤ maxTree
+    pub links-few : length ts ≤ maxTree
     links-few = let size = links .size in let few = fine .few-stations in omega arith
 
     pub links-known : Below maxLinks ts
@@ -177,12 +182,14 @@ module _ (net : Network) (fine : NetworkFine net) where
           rank = λ q. rw (links .size) (rank-at i q);
         }
 
-    -- their sum fits
-    pub sum-fits : sumOf (net .sums) ts < 4294967296
+    -- each of their raised sum costs is at most 2,000,000
+    pub sum-small : sumOf (net .sums) ts ≤ length ts * maxRaised
     unfolding sumOf
-    sum-fits =
-        let all = sum-le (sumAt (net .sums)) maxSum ts (λ c m. fine .cheap c (links .known .below c m)) in
-        omega (arith, links-few, mul-le-mul-right maxSum links-few)
+    sum-small = sum-le (sumAt (net .sums)) maxRaised ts (λ c m. fine .cheap c (links .known .below c m))
+
+    -- so their sum fits
+    pub sum-fits : sumOf (net .sums) ts < 4294967296
+    sum-fits = omega (arith, sum-small, links-few, mul-le-mul-right maxRaised links-few)
 
 -- a tree has t links of the network
 pub tree-links : (net : Network) (ts : List ℕ) → isTree net ts ≡ true → TreeLinks net ts

@@ -2,19 +2,20 @@
 use network::Costs;
 use network::Network;
 use network::limits::MAX_CEILINGS;
+use network::limits::MAX_SUM;
 use network::limits::MAX_TREE;
 use trees_kth::Figures;
 use trees_kth::kth_largest;
 ghost use mathlib.Core.Path.{_≡_};
-ghost use Prim.Native.Nat.{_*_, _<_};
+ghost use Prim.Native.Nat.{_*_, _≤_, _<_};
 ghost use lib.ListN.{length};
-ghost use Rattle.network.specs.Limits.{maxCeilings, maxLinks};
+ghost use Rattle.network.specs.Limits.{maxCeilings, maxLinks, maxRaised, maxTree};
 ghost use Rattle.network.specs.NetworkFine.{NetworkFine};
 ghost use Rattle.network.specs.PlanList.{costsOf};
 ghost use Rattle.network.specs.Yard.{costAt, sumAt};
-ghost use Rattle.trees_costs.specs.TreeCosts.{Below, CeilingFine, FiguresFine, TreeLinks, ceilingAt, figuresOf, sumOf};
+ghost use Rattle.trees_costs.specs.TreeCosts.{Below, CeilingFine, FiguresFine, TreeLinks, ceilingAt, figuresOf, loweredSum, sumOf};
 
-// The sum cost of a link.
+// The raised sum cost of a link.
 pub fn sum_at(sums: &[u32], link: u8) -> u32
     requires { ⌜ link < length (now sums) ⌝ }
     ensures { λ r. ⌜ r ≡ sumAt (now (sums .entry)) link ⌝ }
@@ -23,7 +24,7 @@ pub fn sum_at(sums: &[u32], link: u8) -> u32
     sums[number]
 }
 
-// The sum cost of the links.
+// The raised sum costs of the links, added up.
 pub fn sum_of(sums: &[u32], links: &[u8]) -> u32
     requires { ⌜ Below (length (now sums)) (now links) × (sumOf (now sums) (now links) < 4294967296) ⌝ }
     ensures { λ r. ⌜ r ≡ sumOf (now (sums .entry)) (now (links .entry)) ⌝ }
@@ -33,6 +34,14 @@ pub fn sum_of(sums: &[u32], links: &[u8]) -> u32
         sum += sum_at(sums, links[i]);
     }
     sum
+}
+
+// The sum cost of `count` links, whose raised sum costs add up to `raised`.
+fn lowered(raised: u32, count: usize) -> i32
+    requires { ⌜ (raised ≤ count * maxRaised) × (count ≤ maxTree) ⌝ }
+    ensures { λ r. ⌜ r ≡ loweredSum raised count ⌝ }
+{
+    raised as i32 - count as i32 * MAX_SUM
 }
 
 // The cost of a link by a ceiling.
@@ -79,7 +88,7 @@ pub fn tree_costs(net: Network, links: &[u8]) -> Costs
     let sums = net.sums;
     let costs = net.costs;
     Costs {
-        sum: sum_of(&sums, links),
+        sum: lowered(sum_of(&sums, links), links.len()),
         y1: ceiling_cost(p, k[0], &costs, 0, links),
         y2: ceiling_cost(p, k[1], &costs, 1, links),
     }

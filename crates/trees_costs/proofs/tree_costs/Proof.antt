@@ -1,11 +1,12 @@
 -- By what holds of a network that is fine: the sum fits, and each rank is one of t links.
-use mathlib.Core.Path.{_∙_}
+use mathlib.Core.Path.{ap, _∙_}
 use native.Mathlib.Omega.{arith}
 use borrow.Author.Needs.{needs}
-use mir.Syntax.{w16}
+use lib.ListN.{length}
+use mir.Syntax.{w16, w32}
 use mir.Val.{SFits}
 use mir.Facts.{toZ-ofZ}
-use Rattle.trees_costs.specs.TreeCosts.{ceiling-fine, ceiling-at, links-known, sum-at, sum-fits}
+use Rattle.trees_costs.specs.TreeCosts.{ceiling-fine, ceiling-at, links-few, links-known, loweredSum, sum-at, sum-fits, sum-small}
 use Rattle.trees_costs.proofs.tree_costs.Statement.{statement}
 use Rattle.trees_costs.proofs.tree_costs.Tie as tie
 
@@ -18,6 +19,12 @@ sum-of-requires c κs =
     let p = c .before .before .before .before .before .pre in
     (rw (p .0 .lengths .2) (links-known net (p .0) _ (p .1)), sum-fits net (p .0) _ (p .1))
 
+lowered-requires : tie.Need-lowered-requires
+lowered-requires c κs =
+    let start = c .before .before .before .before .before .before in
+    let p = start .pre in
+    (rw (c .sum-of .ensures) (sum-small (start .args .net) (p .0) _ (p .1)), links-few (start .args .net) (p .0) _ (p .1))
+
 array-read-ceiling-cost : tie.Need-array-read-ceiling-cost
 array-read-ceiling-cost c = search needs
 
@@ -26,7 +33,7 @@ slice-aggregate-ceiling-cost c = search needs
 
 ceiling-cost-requires : tie.Need-ceiling-cost-requires
 ceiling-cost-requires c κs =
-    let p = c .before .before .before .before .before .before .before .pre in
+    let p = c .before .before .before .before .before .before .before .before .pre in
     ceiling-fine _ (p .0) _ (p .1) 0 (omega arith)
 
 array-read-ceiling-cost-2 : tie.Need-array-read-ceiling-cost-2
@@ -37,16 +44,18 @@ slice-aggregate-ceiling-cost-2 c = search needs
 
 ceiling-cost-requires-2 : tie.Need-ceiling-cost-requires-2
 ceiling-cost-requires-2 c κs =
-    let p = c .before .before .before .before .before .before .before .before .before .pre in
+    let p = c .before .before .before .before .before .before .before .before .before .before .pre in
     ceiling-fine _ (p .0) _ (p .1) 1 (omega arith)
 
 returns : tie.Need-returns
 returns c =
-    let start = c .before .before .before .before .before .before .before .before .before .before in
+    let start = c .before .before .before .before .before .before .before .before .before .before .before in
     let net = start .args .net in
     let fine = start .pre .0 in
     let ts = start .args .links .now in
-    let s = c .before .before .before .before .sum-of .ensures ∙ sum-at net fine ts in
+    let low = c .before .before .before .before in
+    let f : SFits w32 (low .lowered .result) = search needs in
+    let s = toZ-ofZ f ∙ low .lowered .ensures ∙ ap (λ n. loweredSum n (length ts)) (low .before .sum-of .ensures) ∙ sum-at net fine ts in
     let f1 : SFits w16 (c .before .before .ceiling-cost .result) = search needs in
     let f2 : SFits w16 (c .ceiling-cost2 .result) = search needs in
     let y1 = toZ-ofZ f1 ∙ c .before .before .ceiling-cost .ensures ∙ ceiling-at net fine ts 0 (omega arith) in
@@ -59,6 +68,7 @@ tree-costs-spec =
     (tie.spec
     slice-aggregate-sum-of
     sum-of-requires
+    lowered-requires
     array-read-ceiling-cost
     slice-aggregate-ceiling-cost
     ceiling-cost-requires

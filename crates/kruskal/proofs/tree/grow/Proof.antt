@@ -8,7 +8,7 @@ use native.Mathlib.Omega.{arith}
 use borrow.Author.Needs.{needs}
 use lib.ListN.{length-set, length, take, getD}
 use lib.Seq.{take-all}
-use Rattle.network.specs.Limits.{maxLinks, maxSum}
+use Rattle.network.specs.Limits.{maxLinks, maxRaised}
 use Rattle.forest.specs.declared.Forest.{Forest}
 use Rattle.kruskal.specs.FoldTake.{foldl-turn}
 use Rattle.kruskal.specs.Tree.{Usable, added, linked, linked-adds, walk-usable}
@@ -24,7 +24,7 @@ abbrev Inv-loop : tie.InvT-loop
 Inv-loop ends sums links forest₀ taken₀ sum₀ count₀ at₀ at-end forest taken sum count at =
     (at ≤ at-end) × (at-end ≡ length links) × (length taken ≡ maxLinks)
     × (whole forest taken sum count ≡ foldl (linked ends sums) (whole forest₀ taken₀ sum₀ count₀) (take at links))
-    × (sum ≤ sum₀ + at * maxSum) × (count ≤ count₀ + at)
+    × (sum ≤ sum₀ + at * maxRaised) × (count ≤ count₀ + at)
 
 abbrev μ-loop : tie.MeasureT-loop
 μ-loop ends sums links forest₀ taken₀ sum₀ count₀ at₀ at-end forest taken sum count at = at-end - at

@@ -25,7 +25,7 @@ use Rattle.spanning.specs.Rising.{trichotomy}
 use Rattle.spanning.specs.Best.{forest-apart, whole, whole-below, whole-tree}
 use Rattle.kmax.specs.Ceilings.{admissible}
 use Rattle.kmax.specs.Search.{offer, search-snoc, searchIn, tryOne}
-use Rattle.planning.specs.Graph.{completed, searchSets, total, under}
+use Rattle.planning.specs.Graph.{by-weight, completed, searchSets, total, under}
 use Rattle.network.specs.Limits.{maxLinks}
 use Rattle.network.specs.Yard.{endsAt, graph, sumAt}
 use Rattle.network.specs.NetworkFine.{NetworkFine, graph-sound}
@@ -86,7 +86,7 @@ module _ (net : Network) (fine : NetworkFine net) where
   abbrev ends : List ℕ
   ends = net .ends
 
-  -- a link's sum cost
+  -- a link's raised sum cost
   abbrev s : ℕ → ℕ
   s = sumAt (net .sums)
 
@@ -128,7 +128,8 @@ module _ (net : Network) (fine : NetworkFine net) where
           subst (λ (v : List ℕ). dictionaryLe orderℕ v (ascending us) ≡ not (first (u .taken) (b .taken))) r
           (subst (λ (v : List ℕ). dictionaryLe orderℕ (rising 0 (b .taken)) v ≡ not (first (u .taken) (b .taken))) mine
           (first-dictionary 0 (u .taken) (b .taken) (ap length (h .flags) ∙ flags-length us ∙ sym w) sizes)) in
-          rw (lists, perm.sum-perm s (sort-perm orderℕ (λ x. x) us), ← h .total, ← q) (sum-first (u .sum) (b .sum) (first (u .taken) (b .taken)))
+          by-weight (graph net) (graph-sound net fine) ys (ascending us) (g ∙ sym l ∙ sym (perm.perm-length (sort-perm orderℕ (λ x. x) us)))
+          ∙ rw (lists, perm.sum-perm s (sort-perm orderℕ (λ x. x) us), ← h .total, ← q) (sum-first (u .sum) (b .sum) (first (u .taken) (b .taken)))
 
       go : (o : Option (List ℕ)) → Shows s goal o b → length us ≡ goal
           → Shows s goal (better o (some (ascending us))) (cond (beats u b) (record { found = true; sum = u .sum; taken = u .taken }) b)

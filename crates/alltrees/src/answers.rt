@@ -46,7 +46,7 @@ pub fn wanted(kind: u64, trees: [u64; SETS], b1: u8, b2: u8) -> u64 {
     best_of(trees, allowed(kind, 0, b1), allowed(kind, 1, b2))
 }
 
-// Whether a tree has these costs.
+// Whether a tree has these costs, the sum in two's complement.
 pub fn has_costs(tree: u64, sum: u32, c1: i16, c2: i16) -> bool {
     let s = (sum == sum_of(tree)) & (tree < NONE);
     s & (c1 == bound(y1(tree) % 8 * 2)) & (c2 == bound(y2(tree) % 8 * 2))

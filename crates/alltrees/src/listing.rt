@@ -1,12 +1,16 @@
 // All trees of a yard with their costs, first trees first. A set of links has bit 6 - e for link e, so that of two sets of one size the greater
-// is first in dictionary order. A tree is a word that holds, from the low end, 127 less its set, y2 and y1 as codes, and the sum.
+// is first in dictionary order. A tree is a word that holds, from the low end, 127 less its set, y2 and y1 as codes, and the sum from LOWEST
+// on, so that words compare as trees do.
 use crate::small::Yard;
 use crate::small::ZERO;
 use crate::small::byte;
 use crate::small::pair;
+use crate::small::sum_cost;
 use std::num::wrapping_add_u8;
+use std::num::wrapping_add_u32;
 use std::num::wrapping_add_u64;
 use std::num::wrapping_sub_u8;
+use std::num::wrapping_sub_u32;
 use std::num::wrapping_sub_u64;
 
 // How many sets of seven links there are.
@@ -14,6 +18,9 @@ pub const SETS: usize = 128;
 
 // No tree: above every tree, with no links and the least codes.
 pub const NONE: u64 = 0x100000000000007F;
+
+// Below every sum, in two's complement: -16,777,216.
+const LOWEST: u32 = 0xFF000000;
 
 pub fn set_of(tree: u64) -> u8 {
     127 - (tree % 128) as u8
@@ -27,8 +34,9 @@ pub fn y1(tree: u64) -> u8 {
     (tree / 4096 % 16) as u8
 }
 
+// The sum, in two's complement.
 pub fn sum_of(tree: u64) -> u32 {
-    (tree / 65536 % 256 * 65537) as u32
+    wrapping_add_u32((tree / 65536 % 4294967296) as u32, LOWEST)
 }
 
 // How many members a set has.
@@ -106,9 +114,26 @@ fn kth(costs: u64, set: u8, k: u8) -> u8 {
     )
 }
 
-// The costs of a set as a tree's word has them. The bytes of a column are summed by the remainder of 255.
+// What link e adds to the sum of a set.
+fn share(sums: u64, set: u8, e: u8) -> u32 {
+    if set >> (6 - e % 7) & 1 == 1 {
+        return sum_cost(byte(sums, e));
+    }
+    0
+}
+
+// How far the sum of a set is above the lowest.
+fn sum(sums: u64, set: u8) -> u32 {
+    let mut above = wrapping_sub_u32(0, LOWEST);
+    for e in 0..7u8 {
+        above = wrapping_add_u32(above, share(sums, set, e));
+    }
+    above
+}
+
+// The costs of a set as a tree's word has them.
 fn costs(yard: Yard, set: u8) -> u64 {
-    let s = (yard.sums & column(set)) % 255;
+    let s = sum(yard.sums, set) as u64;
     let c1 = kth(yard.costs1, set, byte(yard.kind, 2)) as u64;
     let c2 = kth(yard.costs2, set, byte(yard.kind, 3)) as u64;
     256 * c2 + 4096 * c1 + 65536 * s

@@ -1,5 +1,6 @@
 // Small yards, made of numbers drawn, and their surveys. A record is written as words, whose bytes are the record's, low byte first. Eight
-// ceiling costs occur; in all but the survey a cost is its code, 0 to 7 in rising order.
+// ceiling costs occur, and eight sum costs; in all but the survey a cost is its code, 0 to 7 in rising order.
+use std::num::wrapping_add_u64;
 
 // How many kinds of yards there are: n, p, k1 and k2 for up to five stations.
 pub const KINDS: usize = 31;
@@ -75,13 +76,36 @@ const COSTS: [u16; 8] = [
     0x7FFF,
 ];
 
+// The sum cost of a code, in two's complement: -1,000,000, -65,537, -2, -1, 0, 1, 65,537 and 1,000,000.
+const SUMS: [u32; 8] = [
+    0xFFF0BDC0,
+    0xFFFEFFFF,
+    0xFFFFFFFE,
+    0xFFFFFFFF,
+    0x00000000,
+    0x00000001,
+    0x00010001,
+    0x000F4240,
+];
+
+// For each link the bits of a code that are drawn, and the least code: sum costs of 0 and more, negative ones alone, small ones that often add up
+// to the same, and all of them.
+const DRAWN: [u64; 4] = [
+    0x0303030303030303,
+    0x0303030303030303,
+    0x0303030303030303,
+    0x0707070707070707,
+];
+
+const LEAST: [u64; 4] = [0x0404040404040404, 0, 0x0202020202020202, 0];
+
 // The code of the cost 0, and that for every link.
 pub const ZERO: u8 = 3;
 
 const ZEROS: u64 = 0x0303030303030303;
 
-// A yard of a kind with m links. Byte e of a column belongs to link e: a number that picks its pair of stations, its sum cost in steps of 65,537,
-// and the codes of its ceiling costs.
+// A yard of a kind with m links. Byte e of a column belongs to link e: a number that picks its pair of stations, and the codes of its sum cost
+// and of its ceiling costs.
 pub struct Yard {
     pub kind: u64,
     pub m: u8,
@@ -120,7 +144,12 @@ fn codes(x: u64, present: bool) -> u64 {
     ZEROS
 }
 
-// The yard of a number, every kind in its turn.
+// Codes of sum costs for all links, in one of four ways.
+fn sum_codes(x: u64, way: usize) -> u64 {
+    wrapping_add_u64(x & DRAWN[way % 4], LEAST[way % 4])
+}
+
+// The yard of a number, every kind in its turn, and then once more with other sum costs.
 pub fn make(i: usize, x: u64) -> Yard {
     let kind = KIND[i % KINDS];
     let p = byte(kind, 1);
@@ -131,7 +160,7 @@ pub fn make(i: usize, x: u64) -> Yard {
         kind,
         m: links(x, byte(kind, 0)),
         pairs,
-        sums: sums & 0x0303030303030303,
+        sums: sum_codes(sums, i / KINDS),
         costs1: codes(costs, p > 0),
         costs2: codes(next(costs), p > 1),
     }
@@ -147,11 +176,15 @@ pub fn cost(code: u8) -> u16 {
     COSTS[(code % 8) as usize]
 }
 
+pub fn sum_cost(code: u8) -> u32 {
+    SUMS[(code % 8) as usize]
+}
+
 // The mark, stations and sum cost of a link.
 fn link_record(yard: Yard, e: u8) -> u64 {
     let ends = pair(yard.kind, yard.pairs, e) as u64;
-    let s = byte(yard.sums, e) as u64;
-    0x4B4C + 65536 * ends + 4294967296 * 65537 * s
+    let s = sum_cost(byte(yard.sums, e)) as u64;
+    0x4B4C + 65536 * ends + 4294967296 * s
 }
 
 // The ceiling costs of a link.

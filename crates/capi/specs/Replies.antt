@@ -6,7 +6,7 @@ use Prim.Native.Nat.{ℕ, _+_, _≤_}
 use native.Mathlib.Omega.{arith}
 use borrow.Author.Tests.{eqb-false, eqb-true}
 use lib.Dec.{eqb}
-use lib.IntN.{ℤ, pos, negsuc}
+use lib.IntN.{ℤ, pos}
 use lib.ListN.{drop, getD, length, length-drop, take}
 use lib.Seq.{length-take-le}
 use Rattle.order.specs.Test.{decide}
@@ -24,20 +24,15 @@ use Rattle.capi.specs.declared.Part.{Part}
 
 -- the version of the calls that C sees
 abbrev pub version : ℕ
-version = 1
+version = 2
 
 -- value i of a reply: the plan's sum, y1 or y2; 0 where the reply is a refusal
 abbrev pub valueAt : Answered → ℕ → ℤ
 valueAt a i = getD (a .values) i (pos 0)
 
--- a sum as a number without a sign
-unfoldable pub unsigned : ℤ → ℕ
-unsigned (pos n) = n
-unsigned (negsuc n) = 0
-
 -- the reply of the judge or of the ceilings question: number, place and the plan's costs, which are 0 on a refusal
 unfoldable pub flatReply : Answered → Reply
-flatReply a = record { number = a .number; place = a .place; sum = unsigned (valueAt a 0); y1 = valueAt a 1; y2 = valueAt a 2 }
+flatReply a = record { number = a .number; place = a .place; sum = valueAt a 0; y1 = valueAt a 1; y2 = valueAt a 2 }
 
 -- the reply of fetching: the number, and where the link bytes are in the list
 unfoldable pub partOf : List ℕ → ℕ → Part
@@ -46,12 +41,12 @@ partOf list r = record { number = fetchNumber list r; start = fetchStart list r;
 -- ---- the two cases of an answer
 
 pub flat-plan : (a : Answer) (v : Costs) → a ≡ Plan v → record { number = 0; place = 0; sum = v .sum; y1 = v .y1; y2 = v .y2 } ≡ flatReply (says a)
-unfolding flatReply says unsigned
+unfolding flatReply says
 flat-plan a v e = rw e
 
 pub flat-refused : (a : Answer) (r : Refusal) → a ≡ Refused r
-    → record { number = r .number; place = r .place; sum = 0; y1 = pos 0; y2 = pos 0 } ≡ flatReply (says a)
-unfolding flatReply says unsigned
+    → record { number = r .number; place = r .place; sum = pos 0; y1 = pos 0; y2 = pos 0 } ≡ flatReply (says a)
+unfolding flatReply says
 flat-refused a r e = rw e
 
 -- ---- the part of a list

@@ -13,13 +13,13 @@ ghost use Rattle.capi.specs.Replies.{PartOf, flatReply, partOf, version}
 pub struct Reply {
     pub number: u8,
     pub place: u8,
-    pub sum: u32,
+    pub sum: i32,
     pub y1: i16,
     pub y2: i16,
 }
 
 // The version of these calls: it changes whenever a struct, a call or the meaning of a reply does.
-pub const VERSION: u32 = 1;
+pub const VERSION: u32 = 2;
 
 // A part of a plan list: `count` bytes from byte `start` on. It is empty, from 0 on, if the number is not 0.
 #[repr(C)]

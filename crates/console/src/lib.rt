@@ -1,7 +1,7 @@
 // Text and numbers for the programs: written to standard output, and read from a line. What is written is not part of any contract.
 pub mod line;
 
-use encoding_writes::bits;
+use encoding_writes::bits32;
 
 const OUTPUT: i32 = 1;
 
@@ -15,19 +15,19 @@ pub fn number(n: u64) {
     let _written = io::print_decimal(OUTPUT, n);
 }
 
-// What sixteen bits of a number that is not negative mean, and the magnitude of one that is.
-fn natural(u: u16) -> u64 {
+// What the bits of a number that is not negative mean, and the magnitude of one that is.
+fn natural(u: u32) -> u64 {
     u as u64
 }
 
-fn magnitude(u: u16) -> u64 {
-    65536 - u as u64
+fn magnitude(u: u32) -> u64 {
+    4294967296 - u as u64
 }
 
 // A signed number in decimal.
-pub fn signed(y: i16) {
-    let u = bits(y);
-    if u < 32768 {
+pub fn signed(y: i32) {
+    let u = bits32(y);
+    if u < 2147483648 {
         number(natural(u));
     } else {
         text(b"-");

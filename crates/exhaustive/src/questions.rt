@@ -6,6 +6,7 @@ use alltrees::answers::has_links;
 use alltrees::answers::wanted;
 use alltrees::listing::NONE;
 use alltrees::listing::SETS;
+use encoding_writes::bits32;
 use network::Answer;
 use planner::best;
 use std::num::wrapping_add_u64;
@@ -13,7 +14,7 @@ use std::num::wrapping_add_u64;
 // Whether a reply is a tree's costs, or number 14 where there is none.
 fn agrees(answer: Answer, tree: u64) -> bool {
     match answer {
-        Answer::Plan(costs) => has_costs(tree, costs.sum, costs.y1, costs.y2),
+        Answer::Plan(costs) => has_costs(tree, bits32(costs.sum), costs.y1, costs.y2),
         Answer::Refused(refusal) => (tree == NONE) & (refusal.number == 14) & (refusal.place == 0),
     }
 }

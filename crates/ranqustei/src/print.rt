@@ -19,14 +19,14 @@ use planner::list;
 
 // The sum and the present ceiling costs.
 fn costs(v: Costs, p: u8) {
-    number(v.sum as u64);
+    signed(v.sum);
     if 0 < p {
         text(b" ");
-        signed(v.y1);
+        signed(v.y1 as i32);
     }
     if 1 < p {
         text(b" ");
-        signed(v.y2);
+        signed(v.y2 as i32);
     }
 }
 

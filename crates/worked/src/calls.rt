@@ -6,7 +6,7 @@ use console::line::Line;
 use console::part;
 use console::row;
 use console::text;
-use encoding_numbers::read::signed;
+use encoding_numbers::read::signed16;
 use network::limits::MAX_NEED;
 use planner::best;
 use planner::fetch_links;
@@ -19,7 +19,7 @@ const DIRT: u8 = 0xFF;
 
 // The signed number whose two's complement ends a number.
 fn cost(n: u32) -> i16 {
-    signed((n % 65536) as u16)
+    signed16((n % 65536) as u16)
 }
 
 // Plan r of a list: the number and the links.

@@ -1,6 +1,5 @@
 // The replies as text.
 use console::item;
-use console::number;
 use console::refusal;
 use console::signed;
 use console::text;
@@ -11,12 +10,12 @@ use network::Status;
 // A space and a ceiling cost.
 fn ceiling(y: i16) {
     text(b" ");
-    signed(y);
+    signed(y as i32);
 }
 
 // The sum, y1 and y2.
 fn costs(v: Costs) {
-    number(v.sum as u64);
+    signed(v.sum);
     ceiling(v.y1);
     ceiling(v.y2);
 }

@@ -1,8 +1,8 @@
--- `capi::flat` meets its contract. A signed number that fits 16 bits is passed on as it is.
+-- `capi::flat` meets its contract. A signed number that fits its width is passed on as it is.
 use mathlib.Core.Path.{_∙_}
 use borrow.Author.Needs.{needs}
 use mir.Facts.{toZ-ofZ}
-use mir.Syntax.{w16}
+use mir.Syntax.{w16, w32}
 use Rattle.capi.specs.Replies.{flat-plan, flat-refused}
 use Rattle.capi.proofs.flat.Statement.{statement}
 use Rattle.capi.proofs.flat.Tie as tie
@@ -16,9 +16,10 @@ enum-known-answer-2 c = search needs
 returns : tie.Need-returns
 returns c =
     let v = c .before .before .answer .given .0 .0 in
+    let sum = toZ-ofZ {w = w32} {z = v .sum} (record { sfits = c .struct-told .given .1 .0 .1 }) in
     let y1 = toZ-ofZ {w = w16} {z = v .y1} (record { sfits = c .struct-told .given .1 .0 .1 }) in
     let y2 = toZ-ofZ {w = w16} {z = v .y2} (record { sfits = c .struct-told .given .1 .1 .0 .1 }) in
-    (λ i. record { number = 0; place = 0; sum = v .sum; y1 = y1 i; y2 = y2 i })
+    (λ i. record { number = 0; place = 0; sum = sum i; y1 = y1 i; y2 = y2 i })
     ∙ flat-plan _ v (c .before .before .answer .given .1)
 
 returns-2 : tie.Need-returns-2

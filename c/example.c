@@ -21,7 +21,7 @@ static void print_links(const uint8_t *links, size_t count)
 static void print_reply(const char *what, ranqustei_reply reply)
 {
     if (reply.number == RANQUSTEI_OK)
-        printf("%s: sum %u, ceiling cost %d\n", what, (unsigned)reply.sum, reply.y1);
+        printf("%s: sum %d, ceiling cost %d\n", what, (int)reply.sum, reply.y1);
     else
         printf("%s: refused %d at %d\n", what, reply.number, reply.place);
 }

@@ -15,7 +15,7 @@
  * Letters. n is the number of stations, m the number of links, p the number of ceilings, and t = n - 1 the number of links of a tree. M is the
  * number of positions: for each ceiling count the different costs that the links have for it, and multiply; without ceilings M is 1.
  *
- * Bytes. A number of several bytes has its low byte first. Ceiling costs are two's complement; all other numbers have no sign. Marks are
+ * Bytes. A number of several bytes has its low byte first. Sums and ceiling costs are two's complement; all other numbers have no sign. Marks are
  * hexadecimal, everything else is decimal.
  *
  * A survey is a yard record and then m link records, 6 + 12 * m bytes in all. Link i, counted from 0, begins at byte 6 + 12 * i.
@@ -33,7 +33,7 @@
  *     0       2     mark                       4C 4B
  *     2       1     one end, a station         0 to n - 1
  *     3       1     the other end              0 to n - 1, not the first
- *     4       4     sum cost                   0 to 1,000,000
+ *     4       4     sum cost                   -1,000,000 to 1,000,000
  *     8       2     cost of ceiling 1          -32,768 to 32,767; 0 if p = 0
  *     10      2     cost of ceiling 2          -32,768 to 32,767; 0 if p is below 2
  *
@@ -51,7 +51,7 @@
  *     plan record, 10 + t bytes
  *     offset  size  field                      range
  *     0       2     mark                       50 4C
- *     2       4     sum                        0 to 23,000,000
+ *     2       4     sum                        -23,000,000 to 23,000,000
  *     6       2     ceiling cost 1             -32,768 to 32,767; 0 if p = 0
  *     8       2     ceiling cost 2             -32,768 to 32,767; 0 if p is below 2
  *     10      t     link numbers, a byte each  0 to m - 1, each larger than the one before
@@ -101,7 +101,7 @@ enum {
     RANQUSTEI_BAD_RANK = 6,
     /* An end of a link (place) is no station, or both its ends are the same. */
     RANQUSTEI_BAD_ENDS = 7,
-    /* The sum cost of a link (place) is above 1,000,000, or its cost of an absent ceiling is not 0. */
+    /* The sum cost of a link (place) is not -1,000,000 to 1,000,000, or its cost of an absent ceiling is not 0. */
     RANQUSTEI_BAD_COSTS = 8,
     /* The tree buffer has fewer than t bytes, or the list buffer fewer than 10 + M * (10 + t). */
     RANQUSTEI_SHORT_BUFFER = 9,
@@ -118,7 +118,7 @@ enum {
 };
 
 /* The version of what this header declares: it changes whenever a struct, a call or the meaning of a reply changes. */
-enum { RANQUSTEI_VERSION = 1 };
+enum { RANQUSTEI_VERSION = 2 };
 
 /* The reply of the list call: RANQUSTEI_OK and place 0, or the refusal and its place. */
 typedef struct {
@@ -133,7 +133,7 @@ typedef struct {
 typedef struct {
     uint8_t number;
     uint8_t place;
-    uint32_t sum;
+    int32_t sum;
     int16_t y1;
     int16_t y2;
 } ranqustei_reply;

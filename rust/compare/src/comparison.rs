@@ -1,7 +1,9 @@
 //! One call on two planners, and what differs.
 
+use crate::fetching::plan_sums;
 use crate::listed::Listed;
 use crate::planner::Planner;
+use crate::sums::SumTally;
 use peer::{Costs, Refusal};
 use std::fmt::{self, Debug, Display, Formatter};
 
@@ -33,6 +35,8 @@ pub struct Tally {
     pub numbers: [u64; 15],
     /// What was held against a listing of all trees.
     pub listed: Listed,
+    /// Which sum costs there were.
+    pub sums: SumTally,
 }
 
 impl Tally {
@@ -42,6 +46,7 @@ impl Tally {
         self.legal += other.legal;
         self.bytes += other.bytes;
         self.listed.add(&other.listed);
+        self.sums.add(&other.sums);
         let calls = self.calls.iter_mut().zip(other.calls);
         let numbers = self.numbers.iter_mut().zip(other.numbers);
         for (count, more) in calls.chain(numbers) {
@@ -132,9 +137,13 @@ impl<'a> Comparison<'a> {
             let reply = planner.list(survey, allowance, &mut bytes);
             Outcome { reply, bytes }
         });
-        self.settle(Call::List, outcomes, || {
+        let outcome = self.settle(Call::List, outcomes, || {
             format!("list allowance {allowance} lent {} bytes", lent.len())
-        })
+        })?;
+        if outcome.reply.is_ok() {
+            self.tally.sums.count_list(&plan_sums(&outcome.bytes));
+        }
+        Ok(outcome)
     }
 
     /// Fetches a plan. The replies agree if the parts are the same place of the list.

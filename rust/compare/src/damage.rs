@@ -2,6 +2,7 @@
 
 use crate::draft::{Draft, LinkDraft};
 use crate::rng::Rng;
+use crate::sums::{HIGHEST, LOWEST, OUTSIDE};
 
 /// The kinds of damage to the fields of a survey.
 const FIELD_DAMAGES: [fn(&mut Draft, &mut Rng); 12] = [
@@ -50,6 +51,19 @@ pub fn cuts_and_flips(survey: &[u8]) -> Vec<Vec<u8>> {
         bytes
     });
     cuts.chain(flips).collect()
+}
+
+/// All surveys that differ from one by a sum cost at a limit or outside, on any link.
+pub fn sums_at_limits(draft: &Draft) -> Vec<Vec<u8>> {
+    let mut surveys = Vec::new();
+    for link in 0..draft.links.len() {
+        for sum in [LOWEST, HIGHEST].into_iter().chain(OUTSIDE) {
+            let mut draft = draft.clone();
+            draft.links[link].sum = sum;
+            surveys.push(draft.bytes());
+        }
+    }
+    surveys
 }
 
 fn wrong_byte(byte: &mut u8, rng: &mut Rng) {
@@ -103,7 +117,8 @@ fn equal_ends(draft: &mut Draft, rng: &mut Rng) {
 }
 
 fn sum(draft: &mut Draft, rng: &mut Rng) {
-    let sum = rng.pick(&[1_000_000, 1_000_001, 0x8000_0000, u32::MAX]);
+    let [below, above, first, last] = OUTSIDE;
+    let sum = rng.pick(&[LOWEST, HIGHEST, below, above, first, last]);
     if let Some(link) = any_link(draft, rng) {
         link.sum = sum;
     }

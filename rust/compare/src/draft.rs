@@ -1,9 +1,17 @@
 //! A survey in the making: any field can hold any value, legal or not.
 
+use std::ops::Range;
+
 /// The mark of a yard record.
 pub const YARD_MARK: [u8; 2] = [0x59, 0x44];
 /// The mark of a link record.
 pub const LINK_MARK: [u8; 2] = [0x4c, 0x4b];
+
+/// Where in a survey the sum cost of a link stands.
+pub fn sum_bytes(link: usize) -> Range<usize> {
+    let start = 6 + 12 * link + 4;
+    start..start + 4
+}
 
 /// The fields of a link record.
 #[derive(Clone, Copy)]
@@ -13,7 +21,7 @@ pub struct LinkDraft {
     /// The two stations.
     pub ends: [u8; 2],
     /// The sum cost.
-    pub sum: u32,
+    pub sum: i32,
     /// The ceiling costs.
     pub costs: [i16; 2],
 }

@@ -10,9 +10,21 @@ pub fn solved_count(list: &[u8]) -> u32 {
     u32::from_le_bytes([list[4], list[5], list[6], list[7]])
 }
 
+/// The sums of a list's plans.
+pub fn plan_sums(list: &[u8]) -> Vec<i32> {
+    let plans = list[HEAD_BYTES..].chunks_exact(HEAD_BYTES + usize::from(list[8]));
+    let sum = |plan: &[u8]| i32::from_le_bytes([plan[2], plan[3], plan[4], plan[5]]);
+    plans.take(plan_count(list) as usize).map(sum).collect()
+}
+
+/// The number of plans in the head of a list.
+fn plan_count(list: &[u8]) -> u32 {
+    u16::from_le_bytes([list[2], list[3]]).into()
+}
+
 /// Fetches every plan, numbers past the last, and plans of damaged lists.
 pub fn fetch_calls(c: &mut Comparison, list: &[u8], rng: &mut Rng) -> Result<(), Difference> {
-    let count = u32::from(u16::from_le_bytes([list[2], list[3]]));
+    let count = plan_count(list);
     let plan_bytes = HEAD_BYTES + usize::from(list[8]);
     let used = HEAD_BYTES + count as usize * plan_bytes;
     for plan in (0..count + 2).chain([u32::MAX, rng.bits() as u32]) {

@@ -1,13 +1,13 @@
 //! The kinds of surveys compared, each with its own seeds.
 
 use crate::comparison::{Comparison, Difference};
-use crate::damage::{cuts_and_flips, damaged};
+use crate::damage::{cuts_and_flips, damaged, sums_at_limits};
 use crate::rng::Rng;
 use crate::round::{all_calls, few_calls};
 use crate::yards::Layout::{self, Any, Connected, Disconnected};
 use crate::yards::Recipe;
 use crate::yards::Values::{self, Different, Extreme, Free, Opposed, Tied};
-use Damage::{Each, Random, Whole};
+use Damage::{Each, EachSum, Random, Whole};
 
 /// A kind of surveys.
 pub struct Kind {
@@ -29,10 +29,12 @@ enum Damage {
     Random,
     /// Each cut and each bit in turn.
     Each,
+    /// A sum cost at or past a limit on each link in turn.
+    EachSum,
 }
 
 /// All kinds, legal surveys first.
-pub const KINDS: [Kind; 20] = [
+pub const KINDS: [Kind; 21] = [
     legal(1, "small", 3000, small(Any, Free)),
     legal(2, "small, connected", 3000, small(Connected, Free)),
     legal(3, "small, opposed", 3000, small(Connected, Opposed)),
@@ -53,6 +55,7 @@ pub const KINDS: [Kind; 20] = [
     kind(12, "damaged", 250_000, small(Any, Free), Random),
     kind(13, "tied, damaged", 250_000, small(Any, Tied), Random),
     kind(14, "cut or flipped", 100, small(Connected, Tied), Each),
+    kind(21, "sums at the limits", 20, hard(40, Free), EachSum),
 ];
 
 const fn legal(number: u64, name: &'static str, seeds: u64, recipe: Recipe) -> Kind {
@@ -64,7 +67,7 @@ const fn kind(number: u64, name: &'static str, seeds: u64, recipe: Recipe, damag
         name,
         seeds,
         first_seed: number * 1_000_000,
-        recipe,
+        recipe: recipe.with_any_signs(),
         damage,
     }
 }
@@ -82,6 +85,7 @@ impl Kind {
             Whole => vec![draft.bytes()],
             Random => vec![damaged(draft, rng)],
             Each => cuts_and_flips(&draft.bytes()),
+            EachSum => sums_at_limits(&draft),
         }
     }
 
@@ -94,7 +98,7 @@ impl Kind {
     ) -> Result<(), Difference> {
         match self.damage {
             Whole => all_calls(c, survey, rng),
-            Random | Each => few_calls(c, survey, rng),
+            Random | Each | EachSum => few_calls(c, survey, rng),
         }
     }
 }

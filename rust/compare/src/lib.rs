@@ -15,4 +15,5 @@ pub mod listed;
 pub mod planner;
 pub mod rng;
 pub mod round;
+pub mod sums;
 pub mod yards;

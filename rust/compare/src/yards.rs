@@ -2,6 +2,7 @@
 
 use crate::draft::{Draft, LinkDraft, LINK_MARK, YARD_MARK};
 use crate::rng::Rng;
+use crate::sums;
 use std::ops::RangeInclusive;
 
 /// How a yard's links lie.
@@ -30,6 +31,44 @@ pub enum Values {
     Opposed,
 }
 
+/// Which signs the sum costs of a yard's links have.
+#[derive(Clone, Copy)]
+pub enum Signs {
+    /// None is below 0.
+    Plus,
+    /// All are below 0.
+    Minus,
+    /// Any.
+    Mixed,
+}
+
+impl Signs {
+    /// The sum costs of these signs that are at most `size` away from 0.
+    fn range(self, size: i64) -> RangeInclusive<i64> {
+        match self {
+            Signs::Plus => 0..=size,
+            Signs::Minus => -size..=-1,
+            Signs::Mixed => -size..=size,
+        }
+    }
+
+    /// Those of some sum costs that have these signs.
+    fn filter(self, sums: &[i64]) -> Vec<i64> {
+        let mut sums = sums.to_vec();
+        sums.retain(|sum| self.range(HIGHEST).contains(sum));
+        sums
+    }
+}
+
+/// The signs that yards of any signs draw from.
+const SIGNS: [Signs; 3] = [Signs::Plus, Signs::Minus, Signs::Mixed];
+
+/// The limits of sum costs.
+const LOWEST: i64 = sums::LOWEST as i64;
+const HIGHEST: i64 = sums::HIGHEST as i64;
+/// The sum costs at and next to the ends of the legal ranges.
+const EXTREMES: [i64; 7] = [LOWEST, LOWEST + 1, -1, 0, 1, HIGHEST - 1, HIGHEST];
+
 /// The ranks that a yard may have where they are not above t.
 const RANKS: [[u8; 2]; 10] = [
     [0, 0],
@@ -50,10 +89,13 @@ pub struct Recipe {
     links: RangeInclusive<i64>,
     layout: Layout,
     values: Values,
+    /// The signs of every yard; without them each yard draws its own.
+    signs: Option<Signs>,
 }
 
 impl Recipe {
-    /// Yards of so many stations and links. A connected yard has at least a tree's links.
+    /// Yards of so many stations and links, without a sum cost below 0. A connected yard has at
+    /// least a tree's links.
     pub const fn new(
         stations: RangeInclusive<i64>,
         links: RangeInclusive<i64>,
@@ -65,7 +107,20 @@ impl Recipe {
             links,
             layout,
             values,
+            signs: Some(Signs::Plus),
         }
+    }
+
+    /// The recipe with other signs.
+    pub const fn with_signs(self, signs: Signs) -> Recipe {
+        let signs = Some(signs);
+        Recipe { signs, ..self }
+    }
+
+    /// The recipe with signs that differ from yard to yard, and limits among the sum costs.
+    pub const fn with_any_signs(self) -> Recipe {
+        let signs = None;
+        Recipe { signs, ..self }
     }
 
     /// A yard with any legal number of ceilings and any legal ranks.
@@ -80,15 +135,19 @@ impl Recipe {
     pub fn draft_with(&self, stations: u8, ranks: [u8; 2], rng: &mut Rng) -> Draft {
         let ceilings = ranks.iter().filter(|&&rank| rank > 0).count();
         let ends = self.ends(stations, rng);
-        let sums = self.sums(ends.len(), rng);
-        let mut costs = self.costs(&sums, rng);
+        let signs = self.signs.unwrap_or_else(|| rng.pick(&SIGNS));
+        let mut sums = self.sums(ends.len(), signs, rng);
+        if self.signs.is_none() && rng.once_in(4) {
+            put_limit(&mut sums, signs, rng);
+        }
+        let mut costs = self.costs(&sums, signs, rng);
         costs[ceilings..]
             .iter_mut()
             .for_each(|absent| absent.fill(0));
         let link = |i: usize| LinkDraft {
             mark: LINK_MARK,
             ends: ends[i],
-            sum: sums[i] as u32,
+            sum: sums[i] as i32,
             costs: [costs[0][i] as i16, costs[1][i] as i16],
         };
         Draft {
@@ -126,20 +185,23 @@ impl Recipe {
         ends
     }
 
-    fn sums(&self, count: usize, rng: &mut Rng) -> Vec<i64> {
-        let scale = rng.pick(&[9, 1000, 1_000_000]);
+    fn sums(&self, count: usize, signs: Signs, rng: &mut Rng) -> Vec<i64> {
+        let scale = rng.pick(&[9, 1000, HIGHEST]);
         match self.values {
-            Values::Different | Values::Opposed => different(count, 0..=1_000_000, rng),
-            Values::Free => numbers(count, || rng.within(0..=scale)),
-            Values::Tied => numbers(count, || rng.within(0..=2)),
-            Values::Extreme => numbers(count, || rng.pick(&[0, 1, 999_999, 1_000_000])),
+            Values::Different | Values::Opposed => different(count, signs.range(HIGHEST), rng),
+            Values::Free => numbers(count, || rng.within(signs.range(scale))),
+            Values::Tied => numbers(count, || rng.within(signs.range(2))),
+            Values::Extreme => {
+                let extremes = signs.filter(&EXTREMES);
+                numbers(count, || rng.pick(&extremes))
+            }
         }
     }
 
     /// The costs of both ceilings, for links with these sums.
-    fn costs(&self, sums: &[i64], rng: &mut Rng) -> [Vec<i64>; 2] {
+    fn costs(&self, sums: &[i64], signs: Signs, rng: &mut Rng) -> [Vec<i64>; 2] {
         if let Values::Opposed = self.values {
-            return opposed(sums, rng);
+            return opposed(sums, *signs.range(HIGHEST).start(), rng);
         }
         let legal = i64::from(i16::MIN)..=i64::from(i16::MAX);
         [0, 1].map(|_| match self.values {
@@ -151,10 +213,21 @@ impl Recipe {
     }
 }
 
-/// Costs that share out between the ceilings what a link lacks of the greatest sum.
-fn opposed(sums: &[i64], rng: &mut Rng) -> [Vec<i64>; 2] {
+/// Puts a limit of these signs on some link, if there is one.
+fn put_limit(sums: &mut [i64], signs: Signs, rng: &mut Rng) {
+    let limit = rng.pick(&signs.filter(&[LOWEST, HIGHEST]));
+    let count = sums.len();
+    if let Some(sum) = sums.get_mut(rng.below(count.max(1))) {
+        *sum = limit;
+    }
+}
+
+/// Costs that share out between the ceilings what a link lacks of the highest sum, which is most
+/// for the least sum.
+fn opposed(sums: &[i64], least: i64, rng: &mut Rng) -> [Vec<i64>; 2] {
     let shares = numbers(sums.len(), || rng.within(0..=1000));
-    let cost = |(sum, share): (&i64, i64)| (1_000_000 - sum) * share / 31_000 - 16_000;
+    let unit = (HIGHEST - least) * 31 / 1000;
+    let cost = |(sum, share): (&i64, i64)| (HIGHEST - sum) * share / unit - 16_000;
     let firsts = sums.iter().zip(shares.iter().copied()).map(cost);
     let seconds = sums.iter().zip(shares.iter().map(|share| 1000 - share));
     [firsts.collect(), seconds.map(cost).collect()]

@@ -153,9 +153,9 @@ impl<'a> Solver<'a> {
 struct Search<'a> {
     base: &'a [Link],
     /// At i the sum of the cheapest i links of the base.
-    cheapest: [u32; MAX_STATIONS],
+    cheapest: [i32; MAX_STATIONS],
     tree_len: usize,
-    best: Option<(u32, LinkSet)>,
+    best: Option<(i32, LinkSet)>,
 }
 
 impl<'a> Search<'a> {
@@ -194,7 +194,7 @@ impl<'a> Search<'a> {
     /// Tries one set; false if no dearer set of its size can win either.
     fn try_set(&mut self, set: &[&Link]) -> bool {
         let from_base = self.tree_len - set.len();
-        let set_sum: u32 = set.iter().map(|link| link.sum).sum();
+        let set_sum: i32 = set.iter().map(|link| link.sum).sum();
         if from_base > self.base.len() {
             return false;
         }
@@ -203,7 +203,7 @@ impl<'a> Search<'a> {
             return false;
         }
         if let Some((sum, tree)) = self.complete(set) {
-            let wins = |(best_sum, best_tree): (u32, LinkSet)| {
+            let wins = |(best_sum, best_tree): (i32, LinkSet)| {
                 sum < best_sum || sum == best_sum && tree.is_before(best_tree)
             };
             if self.best.is_none_or(wins) {
@@ -215,7 +215,7 @@ impl<'a> Search<'a> {
 
     /// The cheapest tree with all of a set, by Kruskal over the base. If the set is a ring, its
     /// second link is left out: the tree is that of the first alone.
-    fn complete(&self, set: &[&Link]) -> Option<(u32, LinkSet)> {
+    fn complete(&self, set: &[&Link]) -> Option<(i32, LinkSet)> {
         let mut groups = Groups::apart();
         let (mut sum, mut tree, mut missing) = (0, LinkSet::default(), self.tree_len);
         let mut take = |link: &Link| {

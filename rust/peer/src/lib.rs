@@ -32,7 +32,7 @@ pub fn judge(survey: &[u8], drawn: &[u8]) -> Result<Costs, Refusal> {
 }
 
 /// The tree that was drawn and its sum, if the links are a tree's, strictly rising.
-fn tree_of(yard: &Yard, drawn: &[u8]) -> Option<(LinkSet, u32)> {
+fn tree_of(yard: &Yard, drawn: &[u8]) -> Option<(LinkSet, i32)> {
     if drawn.len() != yard.tree_len() || !drawn.is_sorted_by(|a, b| a < b) {
         return None;
     }

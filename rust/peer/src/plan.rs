@@ -15,7 +15,7 @@ pub struct Plan {
 
 impl Plan {
     /// The plan of a tree whose sum is known.
-    pub fn of(yard: &Yard, tree: LinkSet, sum: u32) -> Plan {
+    pub fn of(yard: &Yard, tree: LinkSet, sum: i32) -> Plan {
         let mut ceilings = [0; 2];
         for (i, ceiling) in ceilings.iter_mut().enumerate().take(yard.ceilings) {
             let costs = tree

@@ -20,7 +20,7 @@ impl Refusal {
 #[derive(Clone, Copy, PartialEq, Eq, PartialOrd, Ord, Debug, Default)]
 pub struct Costs {
     /// The sum of the links' sum costs.
-    pub sum: u32,
+    pub sum: i32,
     /// The ceiling costs.
     pub ceilings: [i16; 2],
 }

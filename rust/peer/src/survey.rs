@@ -1,13 +1,14 @@
 //! The reader of surveys.
 
 use crate::reply::Refusal;
+use std::ops::RangeInclusive;
 
 /// The most stations of a yard.
 pub const MAX_STATIONS: usize = 24;
 /// The most links of a yard.
 pub const MAX_LINKS: usize = 40;
-/// The greatest sum cost of a link.
-pub const MAX_SUM: u32 = 1_000_000;
+/// The sum costs that a link may have.
+pub const SUMS: RangeInclusive<i32> = -1_000_000..=1_000_000;
 /// The most links above a bound that the ranks allow a tree.
 pub const MAX_EXCEPTIONS: usize = 2;
 /// The greatest rank of a ceiling.
@@ -26,7 +27,7 @@ pub struct Link {
     /// The two stations it joins.
     pub ends: [u8; 2],
     /// Its sum cost.
-    pub sum: u32,
+    pub sum: i32,
     /// Its ceiling costs; 0 where the ceiling is absent.
     pub costs: [i16; 2],
 }
@@ -107,7 +108,7 @@ impl Yard {
     /// One link of this yard, or the number of the refusal.
     fn read_link(&self, number: u8, record: &[u8; LINK_BYTES]) -> Result<Link, u8> {
         let [mark0, mark1, a, b, s0, s1, s2, s3, c0, c1, d0, d1] = *record;
-        let sum = u32::from_le_bytes([s0, s1, s2, s3]);
+        let sum = i32::from_le_bytes([s0, s1, s2, s3]);
         let costs = [[c0, c1], [d0, d1]].map(i16::from_le_bytes);
         if [mark0, mark1] != LINK_MARK {
             return Err(2);
@@ -115,7 +116,7 @@ impl Yard {
         if usize::from(a.max(b)) >= self.stations || a == b {
             return Err(7);
         }
-        if sum > MAX_SUM || costs[self.ceilings..].iter().any(|&cost| cost != 0) {
+        if !SUMS.contains(&sum) || costs[self.ceilings..].iter().any(|&cost| cost != 0) {
             return Err(8);
         }
         Ok(Link {

@@ -1,11 +1,12 @@
-//! The yards worked through in document 01, and yards with two ranks above 1.
+//! The yards worked through in document 01, yards with two ranks above 1, and yards with sums
+//! below 0.
 
 use peer::listing::Listing;
 use peer::plan_list;
 use peer::survey::Yard;
 use peer::{best, fetch, judge, list, Costs, Refusal};
 
-type LinkRow = (u8, u8, u32, i16, i16);
+type LinkRow = (u8, u8, i32, i16, i16);
 
 /// The bytes of a survey.
 fn survey(n: u8, ranks: &[u8], links: &[LinkRow]) -> Vec<u8> {
@@ -47,9 +48,10 @@ fn head(count: u8, solved: u8, t: u8, p: u8) -> Vec<u8> {
     vec![0x50, 0x48, count, 0, solved, 0, 0, 0, t, p]
 }
 
-/// A plan of small costs.
-fn plan(sum: u8, y1: u8, y2: u8, links: &[u8]) -> Vec<u8> {
-    [&[0x50, 0x4c, sum, 0, 0, 0, y1, 0, y2, 0], links].concat()
+/// A plan of small ceiling costs.
+fn plan(sum: i32, y1: u8, y2: u8, links: &[u8]) -> Vec<u8> {
+    let [s0, s1, s2, s3] = sum.to_le_bytes();
+    [&[0x50, 0x4c, s0, s1, s2, s3, y1, 0, y2, 0], links].concat()
 }
 
 #[test]
@@ -149,12 +151,25 @@ fn limits_of_a_survey() {
     assert_eq!(number(&survey(24, &[], &links(40))), Refusal::whole(11));
     assert_eq!(number(&survey(25, &[], &links(40))), Refusal::whole(3));
     assert_eq!(number(&survey(24, &[], &links(41))), Refusal::whole(4));
-    let dear = [(0, 1, 1_000_000, 0, 0), (0, 1, 1_000_001, 0, 0)];
-    let eighth = Refusal {
-        number: 8,
-        place: 2,
+}
+
+#[test]
+fn limits_of_sums() {
+    let reply = |sums: [i32; 2]| judge(&survey(2, &[], &sums.map(|sum| (0, 1, sum, 0, 0))), &[0]);
+    let only = |sum| {
+        Ok(Costs {
+            sum,
+            ceilings: [0, 0],
+        })
     };
-    assert_eq!(number(&survey(2, &[], &dear)), eighth);
+    let eighth = |place| Err(Refusal { number: 8, place });
+    let [low, high] = [-1_000_000, 1_000_000];
+    assert_eq!(reply([low, high]), only(low));
+    assert_eq!(reply([high, low]), only(high));
+    for outside in [low - 1, high + 1, i32::MIN, i32::MAX] {
+        assert_eq!(reply([outside, low]), eighth(1));
+        assert_eq!(reply([high, outside]), eighth(2));
+    }
 }
 
 #[test]
@@ -189,7 +204,7 @@ fn both_second_largest() {
 
 /// The best tree of a yard of four stations with ranks (2, 2) under bounds of 5. Links 0, 1 and 2
 /// are above both bounds, the first and the second; the sum of link 3, a normal one, is given.
-fn best_with_exceptions(sum: u32) -> [u8; 3] {
+fn best_with_exceptions(sum: i32) -> [u8; 3] {
     let links = [
         (0, 1, 1, 9, 9),
         (0, 1, 2, 9, 1),
@@ -217,4 +232,77 @@ fn one_exception_above_both_bounds() {
 #[test]
 fn an_exception_above_each_bound() {
     assert_eq!(best_with_exceptions(3), [1, 2, 4]);
+}
+
+/// A with sums below 0 on links 0 and 2.
+const SOLAR: [LinkRow; 3] = [(0, 1, -4, 7, 0), (1, 2, 3, 2, 0), (0, 2, -1, 9, 0)];
+
+#[test]
+fn sums_on_both_sides_of_0() {
+    let bytes = listed(&survey(3, &[1], &SOLAR), 46, 34);
+    let first = [0x50, 0x4c, 0xfb, 0xff, 0xff, 0xff, 9, 0, 0, 0, 0, 2];
+    let second = [0x50, 0x4c, 0xff, 0xff, 0xff, 0xff, 7, 0, 0, 0, 0, 1];
+    assert_eq!(bytes, [&head(2, 3, 2, 1)[..], &first, &second].concat());
+}
+
+#[test]
+fn plans_rise_across_0() {
+    let links = [(0, 1, 1, 1, 0), (0, 1, -1, 9, 0), (0, 1, 0, 5, 0)];
+    let bytes = listed(&survey(2, &[1], &links), 43, 43);
+    let plans = [
+        plan(-1, 9, 0, &[1]),
+        plan(0, 5, 0, &[2]),
+        plan(1, 1, 0, &[0]),
+    ];
+    assert_eq!(bytes, [head(3, 3, 1, 1), plans.concat()].concat());
+}
+
+#[test]
+fn all_sums_below_0() {
+    // The tree of links 0 and 1 is the cheapest and has the least ceiling cost.
+    let links = [(0, 1, -4, 7, 0), (1, 2, -3, 2, 0), (0, 2, -1, 9, 0)];
+    let bytes = listed(&survey(3, &[1], &links), 46, 22);
+    assert_eq!(bytes, [head(1, 2, 2, 1), plan(-7, 7, 0, &[0, 1])].concat());
+}
+
+#[test]
+fn equal_sums_below_0() {
+    let [low, high] = [(0, 1, -5, 3, 0), (0, 1, -5, 8, 0)];
+    let bytes = listed(&survey(2, &[1], &[low, high]), 32, 21);
+    assert_eq!(bytes, [head(1, 1, 1, 1), plan(-5, 3, 0, &[0])].concat());
+    let bytes = listed(&survey(2, &[1], &[high, low]), 32, 21);
+    assert_eq!(bytes, [head(1, 2, 1, 1), plan(-5, 3, 0, &[1])].concat());
+}
+
+#[test]
+fn two_ceilings_and_sums_below_0() {
+    let links = [(0, 1, -4, 7, 1), (1, 2, -3, 2, 6), (0, 2, -1, 9, 3)];
+    let bytes = listed(&survey(3, &[1, 1], &links), 118, 34);
+    let plans = [plan(-7, 7, 6, &[0, 1]), plan(-5, 9, 3, &[0, 2])];
+    assert_eq!(bytes, [head(2, 5, 2, 2), plans.concat()].concat());
+}
+
+/// An exception that costs more than the best tree without it has a place beside a link that gives
+/// charge back.
+#[test]
+fn a_dear_exception_beside_a_link_below_0() {
+    let links = [(0, 1, -10, 1, 0), (1, 2, 5, 1, 0), (0, 2, 1, 9, 0)];
+    let bytes = listed(&survey(3, &[2], &links), 34, 22);
+    assert_eq!(bytes, [head(1, 1, 2, 1), plan(-9, 1, 0, &[0, 2])].concat());
+    let mut tree = [0; 2];
+    let costs = best(&survey(3, &[2], &links), [1, 0], &mut tree);
+    assert_eq!((costs.map(|costs| costs.sum), tree), (Ok(-9), [0, 2]));
+}
+
+#[test]
+fn the_longest_tree_at_the_limits() {
+    for sum in [-1_000_000, 1_000_000] {
+        let links: Vec<LinkRow> = (0..23).map(|end| (end, end + 1, sum, 0, 0)).collect();
+        let all: Vec<u8> = (0..23).collect();
+        let bytes = listed(&survey(24, &[], &links), 43, 43);
+        assert_eq!(
+            bytes,
+            [head(1, 1, 23, 0), plan(23 * sum, 0, 0, &all)].concat()
+        );
+    }
 }

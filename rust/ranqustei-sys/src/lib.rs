@@ -5,7 +5,7 @@
 #![allow(unsafe_code)]
 
 /// The version of what is declared here; [`ranqustei_version`] is the archive's own.
-pub const VERSION: u32 = 1;
+pub const VERSION: u32 = 2;
 
 /// The reply of the list call: number 0 and place 0, or the refusal and its place.
 #[repr(C)]
@@ -27,7 +27,7 @@ pub struct Reply {
     /// The place.
     pub place: u8,
     /// The plan's sum.
-    pub sum: u32,
+    pub sum: i32,
     /// The first ceiling cost.
     pub y1: i16,
     /// The second ceiling cost.

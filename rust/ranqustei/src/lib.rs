@@ -5,8 +5,8 @@
 //! [`Survey`], [`Plan`] and [`PlanList`] are the same calls on figures.
 //!
 //! A yard has stations and links between them. A plan is a tree: it connects all stations without
-//! a ring. Its sum is taken over its links; each of its ceiling costs is the k-th largest of that
-//! cost over its links.
+//! a ring. Its sum is taken over its links, of which some may give charge back and count below 0;
+//! each of its ceiling costs is the k-th largest of that cost over its links.
 //!
 //! ```
 //! use ranqustei::{Cause, Link, Yard};

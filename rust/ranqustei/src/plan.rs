@@ -6,8 +6,8 @@ use std::fmt;
 #[derive(Clone, Copy, PartialEq, Eq, Debug)]
 #[non_exhaustive]
 pub struct Costs {
-    /// The sum over the links.
-    pub sum: u32,
+    /// The sum over the links; below 0 if they give back more charge than they take.
+    pub sum: i32,
     /// The first ceiling cost.
     pub y1: i16,
     /// The second ceiling cost.

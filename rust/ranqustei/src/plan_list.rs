@@ -59,7 +59,7 @@ impl PlanList {
         let record = part(&self.bytes, record_start(plan, self.tree_links)).ok_or(DAMAGED)?;
         let [_, _, s0, s1, s2, s3, a0, a1, b0, b1] = record;
         let costs = Costs {
-            sum: u32::from_le_bytes([s0, s1, s2, s3]),
+            sum: i32::from_le_bytes([s0, s1, s2, s3]),
             y1: i16::from_le_bytes([a0, a1]),
             y2: i16::from_le_bytes([b0, b1]),
         };

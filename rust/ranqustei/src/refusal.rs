@@ -37,7 +37,7 @@ pub enum Cause {
     Rank,
     /// 7: a link end is no station, or both ends are equal.
     Ends,
-    /// 8: a sum is over 1,000,000, or an absent ceiling has a cost.
+    /// 8: a sum is not -1,000,000 to 1,000,000, or an absent ceiling has a cost.
     Figures,
     /// 9: the list buffer or the tree buffer is too short.
     Buffer,
@@ -97,7 +97,10 @@ impl Cause {
                  beside a rank of 3 the other is 1, and an absent ceiling has rank 0"
             }
             Cause::Ends => "joins a station that the yard does not have, or joins a station to itself",
-            Cause::Figures => "has a sum above 1,000,000, or a cost for a ceiling that the yard does not have",
+            Cause::Figures => {
+                "has a sum outside -1,000,000 to 1,000,000, \
+                 or a cost for a ceiling that the yard does not have"
+            }
             Cause::Buffer => "the buffer is too short",
             Cause::Allowance => "the walk would solve more positions than the allowance",
             Cause::Drawn => {

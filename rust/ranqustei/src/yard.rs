@@ -23,8 +23,8 @@ pub struct Yard {
 pub struct Link {
     /// The two stations.
     pub ends: [u8; 2],
-    /// The sum cost.
-    pub sum: u32,
+    /// The sum cost; below 0 if the link gives charge back.
+    pub sum: i32,
     /// The cost for each present ceiling.
     pub costs: Vec<i16>,
 }
@@ -142,7 +142,17 @@ impl Yard {
 
 impl Link {
     /// A link between two stations, with its sum cost and a cost for each present ceiling.
-    pub fn new(ends: [u8; 2], sum: u32, costs: impl Into<Vec<i16>>) -> Link {
+    ///
+    /// ```
+    /// use ranqustei::{Link, Yard};
+    ///
+    /// // Link 1 has a solar relay: it gives charge back.
+    /// let links = [Link::new([0, 1], 4, [7]), Link::new([1, 2], -6, [2])];
+    /// let plans = Yard::new(3, [1], links).survey()?.plans()?;
+    /// assert_eq!(plans.get(0)?.to_string(), "-2 7 links 0 1");
+    /// # Ok::<(), Box<dyn std::error::Error>>(())
+    /// ```
+    pub fn new(ends: [u8; 2], sum: i32, costs: impl Into<Vec<i16>>) -> Link {
         Link {
             ends,
             sum,
@@ -153,7 +163,7 @@ impl Link {
     fn read(record: &[u8], ceilings: usize) -> Link {
         let [c1, c2] =
             [8, 10].map(|start| i16::from_le_bytes(part(record, start).unwrap_or_default()));
-        let sum = u32::from_le_bytes(part(record, 4).unwrap_or_default());
+        let sum = i32::from_le_bytes(part(record, 4).unwrap_or_default());
         let costs: Vec<i16> = [c1, c2].into_iter().take(ceilings).collect();
         Link::new(part(record, 2).unwrap_or_default(), sum, costs)
     }

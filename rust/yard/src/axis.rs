@@ -27,6 +27,11 @@ impl Axis {
         (0..=self.steps).map(|tick| self.first + tick * self.step)
     }
 
+    /// Whether there are ticks on both sides of 0. There is one at 0 then too.
+    pub fn spans_zero(&self) -> bool {
+        self.first < 0 && self.first + self.steps * self.step > 0
+    }
+
     /// Where a value lies: 0 at the first tick, 1 at the last.
     pub fn part(&self, value: i64) -> f64 {
         (value - self.first) as f64 / (self.steps * self.step) as f64
@@ -74,9 +79,39 @@ mod tests {
     }
 
     #[test]
+    fn ticks_below_0_are_round_and_cover_all_values() {
+        assert_eq!(ticks(&[-7, -4]), [-7, -6, -5, -4]);
+        assert_eq!(
+            ticks(&[-160, -103]),
+            [-160, -150, -140, -130, -120, -110, -100]
+        );
+        assert_eq!(ticks(&[-9, 31]), [-10, 0, 10, 20, 30, 40]);
+        assert_eq!(
+            ticks(&[-23_000_000, 23_000_000]),
+            [-3, -2, -1, 0, 1, 2, 3].map(|tick| tick * 10_000_000)
+        );
+    }
+
+    #[test]
     fn one_value_or_none_still_has_an_axis() {
         assert_eq!(ticks(&[9]), [9, 10]);
+        assert_eq!(ticks(&[-9]), [-9, -8]);
         assert_eq!(ticks(&[]), [0, 1]);
+    }
+
+    #[test]
+    fn an_axis_spans_0_with_a_tick_at_it() {
+        let spans_zero = |values: &[i64]| {
+            let axis = Axis::covering(values.iter().copied(), 6);
+            assert!(!axis.spans_zero() || axis.ticks().any(|tick| tick == 0));
+            axis.spans_zero()
+        };
+        for values in [[-1, 1], [-1, 1_000_000], [-1_000_000, 1], [-23_000_000, 7]] {
+            assert!(spans_zero(&values));
+        }
+        for values in [&[0, 7][..], &[-7, 0], &[3, 9], &[-9, -3], &[0], &[-1], &[]] {
+            assert!(!spans_zero(values));
+        }
     }
 
     #[test]

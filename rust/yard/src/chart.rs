@@ -122,19 +122,40 @@ impl Panel {
         self.corner.y + PANEL_HEIGHT - INSET - self.sums.part(sum) * (PANEL_HEIGHT - 2.0 * INSET)
     }
 
+    /// The line through the panel at a ceiling cost.
+    fn cost_line(&self, cost: i64) -> [Point; 2] {
+        let top = at(self.x(cost), self.corner.y);
+        [top, top.moved(0.0, PANEL_HEIGHT)]
+    }
+
+    /// The line through the panel at a sum.
+    fn sum_line(&self, sum: i64) -> [Point; 2] {
+        let left = at(self.corner.x, self.y(sum));
+        [left, left.moved(PANEL_WIDTH, 0.0)]
+    }
+
+    /// The lines at a ceiling cost of 0 and a sum of 0, where there are plans on both sides.
+    fn zero_lines(&self) -> Vec<[Point; 2]> {
+        let cost_line = self.costs.spans_zero().then(|| self.cost_line(0));
+        let sum_line = self.sums.spans_zero().then(|| self.sum_line(0));
+        cost_line.into_iter().chain(sum_line).collect()
+    }
+
     fn draw_axes(&self, svg: &mut Svg) {
-        let Point { x: left, y: top } = self.corner;
-        let foot = self.corner.moved(0.0, PANEL_HEIGHT);
         for cost in self.costs.ticks() {
-            let x = self.x(cost);
-            svg.line("grid", at(x, top), at(x, foot.y));
-            svg.text("tick", at(x, foot.y + 18.0), &grouped(cost));
+            let [top, foot] = self.cost_line(cost);
+            svg.line("grid", top, foot);
+            svg.text("tick", foot.moved(0.0, 18.0), &grouped(cost));
         }
         for sum in self.sums.ticks() {
-            let y = self.y(sum);
-            svg.line("grid", at(left, y), at(left + PANEL_WIDTH, y));
-            svg.text("sum-tick", at(left - 8.0, y + 4.0), &grouped(sum));
+            let [left, right] = self.sum_line(sum);
+            svg.line("grid", left, right);
+            svg.text("sum-tick", left.moved(-8.0, 4.0), &grouped(sum));
         }
+        for [from, to] in self.zero_lines() {
+            svg.line("axis", from, to);
+        }
+        let foot = self.corner.moved(0.0, PANEL_HEIGHT);
         svg.polyline("axis", &[self.corner, foot, foot.moved(PANEL_WIDTH, 0.0)]);
     }
 
@@ -154,7 +175,10 @@ impl Panel {
         for &point in &points {
             svg.circle("dot", point, DOT);
         }
-        for (number, area) in label_areas(&points, &steps) {
+        let segments = steps.iter().zip(steps.iter().skip(1));
+        let segments = segments.map(|(&from, &to)| [from, to]);
+        let lines: Vec<[Point; 2]> = segments.chain(self.zero_lines()).collect();
+        for (number, area) in label_areas(&points, &lines) {
             svg.text("number", area.centre.moved(0.0, 4.5), &number);
         }
     }
@@ -173,13 +197,13 @@ fn steps(points: &[Point]) -> Vec<Point> {
     corners
 }
 
-/// The numbers of the plans for which there is a clear place, each with it.
-fn label_areas(points: &[Point], steps: &[Point]) -> Vec<(String, Area)> {
+/// The numbers of the plans for which there is a place clear of points and lines, each with it.
+fn label_areas(points: &[Point], lines: &[[Point; 2]]) -> Vec<(String, Area)> {
     let mut taken = Taken::default();
     for &point in points {
         taken.take(Area::of_circle(point, DOT));
     }
-    for (&from, &to) in steps.iter().zip(steps.iter().skip(1)) {
+    for &[from, to] in lines {
         taken.take(Area::between(from, to));
     }
     let mut placed = Vec::new();

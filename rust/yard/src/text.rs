@@ -121,7 +121,7 @@ fn read_link(words: &[&str], ceilings: usize) -> Result<Link, String> {
     let end = |word| figure(word, "a station is a number from 0 to 23");
     let cost = |word: &&str| figure(word, "a ceiling cost is a number from -32768 to 32767");
     let ends = [end(a)?, end(b)?];
-    let sum = figure(sum, "a sum is a number from 0 to 1000000")?;
+    let sum = figure(sum, "a sum is a number from -1000000 to 1000000")?;
     let costs: Vec<i16> = costs.iter().map(cost).collect::<Result<_, _>>()?;
     Ok(Link::new(ends, sum, costs))
 }

@@ -4,7 +4,7 @@ use compare::fetching::solved_count;
 use compare::kinds::{hard, large};
 use compare::planner::{Archive, Peer, Planner};
 use compare::rng::Rng;
-use compare::yards::{Layout, Values};
+use compare::yards::{Layout, Recipe, Signs, Values};
 use peer::plan_list;
 use peer::survey::{Yard, MAX_LINKS};
 use peer::walk::Positions;
@@ -20,6 +20,8 @@ const QUESTIONS: usize = 64;
 const STATIONS: [u8; 7] = [6, 8, 10, 12, 16, 20, 24];
 const RANKS: [[u8; 2]; 5] = [[1, 1], [2, 1], [3, 1], [1, 3], [2, 2]];
 const HARD_LINKS: i64 = MAX_LINKS as i64;
+/// The stations of the yards with signed sums.
+const SIGNED_STATIONS: u8 = 16;
 
 fn main() {
     println!(
@@ -29,7 +31,9 @@ fn main() {
     println!("is of exactly its need and is not cleared between calls.");
     println!("Sets: large, any connected yard; hard, {HARD_LINKS} links and no value twice;");
     println!("opposed, {HARD_LINKS} links, the lower the sum the higher the ceiling costs.");
+    println!("Their sums are not below 0; signed is hard with sums on both sides of 0.");
     compare_planners();
+    compare_signed();
     growth();
 }
 
@@ -39,7 +43,7 @@ fn compare_planners() {
     for (set, values) in [("hard", Values::Different), ("opposed", Values::Opposed)] {
         for stations in STATIONS {
             for ranks in RANKS {
-                let surveys = hard_yards(HARD_LINKS, stations, ranks, values);
+                let surveys = yards_of(&hard(HARD_LINKS, values), stations, ranks);
                 rows.push(Row::new(label(set, stations, ranks), &surveys));
             }
         }
@@ -60,6 +64,23 @@ fn compare_planners() {
     }
 }
 
+/// The table of both calls on yards with signed sums.
+fn compare_signed() {
+    println!("\n## Signed sums: the list call, then the ceilings question\n");
+    println!("| set | n | k | solved | archive | peer | ratio | archive | peer | ratio |");
+    println!("|---|---|---|---|---|---|---|---|---|---|");
+    let recipe = hard(HARD_LINKS, Values::Different).with_signs(Signs::Mixed);
+    for ranks in RANKS {
+        let surveys = yards_of(&recipe, SIGNED_STATIONS, ranks);
+        let row = Row::new(label("signed", SIGNED_STATIONS, ranks), &surveys);
+        let (label, solved) = (&row.label, row.solved);
+        let ([list, peer_list], [best, peer_best]) = (row.list, row.best);
+        let [list_ratio, best_ratio] = [list / peer_list, best / peer_best];
+        print!("| {label} | {solved:.0} | {list:.1} | {peer_list:.1} | {list_ratio:.2} ");
+        println!("| {best:.2} | {peer_best:.2} | {best_ratio:.2} |");
+    }
+}
+
 /// The table of the list call's time for a solved position, by links and by stations.
 fn growth() {
     println!("\n## Growth of the list call, hard set: microseconds for a solved position\n");
@@ -68,7 +89,7 @@ fn growth() {
     let by_stations = STATIONS.map(|stations| (HARD_LINKS, stations));
     for ranks in RANKS {
         for (links, stations) in by_links.into_iter().chain(by_stations) {
-            let surveys = hard_yards(links, stations, ranks, Values::Different);
+            let surveys = yards_of(&hard(links, Values::Different), stations, ranks);
             let row = Row::new(label(&links.to_string(), stations, ranks), &surveys);
             let [archive, peer] = row.list.map(|time| time / row.solved);
             let (label, solved) = (&row.label, row.solved);
@@ -87,8 +108,7 @@ fn large_yards() -> Vec<Vec<u8>> {
     (0..YARDS * 10).map(survey).collect()
 }
 
-fn hard_yards(links: i64, stations: u8, ranks: [u8; 2], values: Values) -> Vec<Vec<u8>> {
-    let recipe = hard(links, values);
+fn yards_of(recipe: &Recipe, stations: u8, ranks: [u8; 2]) -> Vec<Vec<u8>> {
     let draft = |seed| recipe.draft_with(stations, ranks, &mut Rng::new(seed));
     (0..YARDS).map(|seed| draft(seed).bytes()).collect()
 }

@@ -1,18 +1,21 @@
 //! Wrong planners, each with one flaw, are told from the right one by the surveys and calls
 //! that the proved planner is held to.
 
+mod signed_sums;
 mod two_ranks;
 
 use compare::comparison::{Comparison, Tally};
-use compare::kinds::KINDS;
+use compare::kinds::{Kind, KINDS};
 use compare::planner::{Peer, Planner};
 use compare::rng::Rng;
+use compare::sums::LOWEST;
 use peer::listing::Listing;
 use peer::plan::Plan;
 use peer::plan_list;
 use peer::survey::Yard;
 use peer::walk::Positions;
 use peer::{Costs, Refusal};
+use signed_sums::{none_below_0, Misreading, Pruning, UnsignedOrder};
 use std::cell::RefCell;
 use std::collections::{HashMap, HashSet};
 use two_ranks::{Admitting, ThreeForTwo};
@@ -22,16 +25,28 @@ const SEEDS: u64 = 200;
 
 /// Whether some call on surveys of small yards, whole or damaged, tells a planner from the peer.
 fn is_noticed(planner: &dyn Planner) -> bool {
-    is_noticed_among(|_| true, planner)
+    is_noticed_among(is_small, |_| true, planner)
 }
 
-/// Whether some call tells them apart on surveys of some sort.
-fn is_noticed_among(sort: fn(&[u8]) -> bool, planner: &dyn Planner) -> bool {
-    let mut kinds = KINDS
-        .iter()
-        .filter(|kind| kind.name.starts_with("small") || kind.name == "damaged");
+/// Whether the surveys are of small yards, whole or damaged.
+fn is_small(kind: &Kind) -> bool {
+    kind.name.starts_with("small") || kind.name == "damaged"
+}
+
+/// Whether the surveys are of small yards, or have sums at the limits on all links.
+fn is_small_or_at_limits(kind: &Kind) -> bool {
+    is_small(kind) || kind.name == "sums at the limits"
+}
+
+/// Whether some call tells them apart on surveys of some kinds and some sort.
+fn is_noticed_among(
+    kinds: fn(&Kind) -> bool,
+    sort: fn(&[u8]) -> bool,
+    planner: &dyn Planner,
+) -> bool {
+    let mut kinds = KINDS.iter().filter(|kind| kinds(kind));
     kinds.any(|kind| {
-        (kind.first_seed..kind.first_seed + SEEDS).any(|seed| {
+        (kind.first_seed..kind.first_seed + SEEDS.min(kind.seeds)).any(|seed| {
             let (mut rng, mut tally) = (Rng::new(seed), Tally::default());
             let mut surveys = kind.surveys(&mut rng);
             surveys.retain(|survey| sort(survey));
@@ -248,6 +263,8 @@ fn right_planners_are_not_noticed() {
     assert!(!is_noticed(&Peer));
     assert!(!is_noticed(&Walking::default()));
     assert!(!is_noticed(&Admitting(two_ranks::fit)));
+    assert!(!is_noticed(&Misreading(|sum| sum)));
+    assert!(!is_noticed(&Pruning { least: LOWEST }));
 }
 
 #[test]
@@ -302,8 +319,42 @@ fn flaws_of_two_ranks_are_noticed() {
     let with_other_ranks = |survey: &[u8]| !matches!(survey, [_, _, _, _, 2..=3, 2..=3, ..]);
     for (flaw, planner) in flawed {
         assert!(is_noticed(planner), "not noticed: {flaw}");
-        let elsewhere = is_noticed_among(with_other_ranks, planner);
+        let elsewhere = is_noticed_among(is_small, with_other_ranks, planner);
         assert!(!elsewhere, "noticed by other ranks: {flaw}");
+        println!("noticed: {flaw}");
+    }
+}
+
+#[test]
+fn flaws_of_signed_sums_are_noticed() {
+    let readings: [fn(i32) -> i32; 6] = [
+        |sum| if sum < 0 { i32::MAX } else { sum },
+        i32::wrapping_abs,
+        |sum| sum.max(0),
+        |sum| if sum == LOWEST { LOWEST - 1 } else { sum },
+        |sum| if sum == LOWEST - 1 { LOWEST } else { sum },
+        |sum| sum.max(LOWEST),
+    ];
+    let [unsigned, without_sign, at_least_0, lowest_refused, next_accepted, all_accepted] =
+        readings.map(Misreading);
+    let flawed: [(&str, &dyn Planner); 8] = [
+        ("a sum below 0 read as above the limit", &unsigned),
+        ("a sum read without its sign", &without_sign),
+        ("a sum below 0 taken for 0", &at_least_0),
+        ("the lowest sum refused", &lowest_refused),
+        ("one below the lowest sum accepted", &next_accepted),
+        ("no lowest sum", &all_accepted),
+        ("plans in unsigned order", &UnsignedOrder),
+        (
+            "further links taken to cost 0 at least",
+            &Pruning { least: 0 },
+        ),
+    ];
+    for (flaw, planner) in flawed {
+        let noticed = is_noticed_among(is_small_or_at_limits, |_| true, planner);
+        assert!(noticed, "not noticed: {flaw}");
+        let elsewhere = is_noticed_among(is_small_or_at_limits, none_below_0, planner);
+        assert!(!elsewhere, "noticed without a sum below 0: {flaw}");
         println!("noticed: {flaw}");
     }
 }

@@ -91,7 +91,7 @@ fn random_yard(random: &mut Random) -> Yard {
     let ends = usize::from(stations) + 1;
     let links = (0..4).map(|_| {
         let link_ends = [random.below(ends) as u8, random.below(ends) as u8];
-        let sum = random.below(1_000_100) as u32;
+        let sum = random.below(2_000_200) as i32 - 1_000_100;
         let costs = ranks.iter().map(|_| random.below(65_536) as u16 as i16);
         Link::new(link_ends, sum, costs.collect::<Vec<_>>())
     });

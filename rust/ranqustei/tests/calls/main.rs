@@ -4,4 +4,5 @@ mod any_bytes;
 mod random;
 mod refusals;
 mod samples;
+mod signed_sums;
 mod yards;

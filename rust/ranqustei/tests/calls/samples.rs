@@ -3,7 +3,7 @@
 use ranqustei::{Link, Refusal, Yard};
 
 /// A yard from its stations, its ranks and its links: two ends, a sum, ceiling costs.
-pub fn yard(stations: u8, ranks: &[u8], links: &[(u8, u8, u32, &[i16])]) -> Yard {
+pub fn yard(stations: u8, ranks: &[u8], links: &[(u8, u8, i32, &[i16])]) -> Yard {
     let links = links
         .iter()
         .map(|&(a, b, sum, costs)| Link::new([a, b], sum, costs));
@@ -28,9 +28,9 @@ pub fn bytes_a() -> Vec<u8> {
         .to_vec()
 }
 
-/// A chain of stations, one link from each to the next.
-pub fn chain(stations: u8) -> Yard {
-    let links = (0..stations - 1).map(|end| Link::new([end, end + 1], 1, []));
+/// A chain of stations, one link of this sum from each to the next.
+pub fn chain(stations: u8, sum: i32) -> Yard {
+    let links = (0..stations - 1).map(|end| Link::new([end, end + 1], sum, []));
     Yard::new(stations, [], links.collect::<Vec<_>>())
 }
 

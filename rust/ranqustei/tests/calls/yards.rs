@@ -15,7 +15,8 @@ fn listed(yard: &Yard) -> (Vec<String>, u32) {
     )
 }
 
-fn check(yard: &Yard, plans: &[&str], solved: u32) {
+/// Holds the plans of a yard and its solved count against what they should be.
+pub fn check(yard: &Yard, plans: &[&str], solved: u32) {
     assert_eq!(
         listed(yard),
         (plans.iter().map(|plan| plan.to_string()).collect(), solved)
@@ -104,8 +105,8 @@ fn stored_lists() {
 
 #[test]
 fn limits_of_a_yard() {
-    assert_eq!(listed(&chain(24)).0.len(), 1);
-    assert_eq!(refused(&chain(25)), Some(Cause::Stations));
+    assert_eq!(listed(&chain(24, 1)).0.len(), 1);
+    assert_eq!(refused(&chain(25, 1)), Some(Cause::Stations));
     let parallel = |links| yard(2, &[], &vec![(0, 1, 1, &[][..]); links]);
     check(&parallel(40), &["1 links 0"], 1);
     assert_eq!(refused(&parallel(41)), Some(Cause::Links));
@@ -137,7 +138,7 @@ fn ranks_beside_each_other() {
 
 #[test]
 fn the_longest_list_buffer() {
-    let mut yard = chain(24);
+    let mut yard = chain(24, 1);
     yard.ranks = vec![1, 1];
     let more = (0..17).map(|end| Link::new([end, end + 1], 2, []));
     yard.links.extend(more);

@@ -6,9 +6,9 @@ use crate::tool::{run_bytes, scratch};
 const COMMANDS: [&str; 9] = [
     "plans", "best", "judge", "text", "survey", "list", "fetch", "draw", "frontier",
 ];
-const WORDS: [&str; 18] = [
-    "stations", "ceilings", "0", "1", "2", "3", "24", "-1", "255", "1000001", "32768", "#", "\n",
-    "\n", "–", "x", "\t", "\r\n",
+const WORDS: [&str; 20] = [
+    "stations", "ceilings", "0", "1", "2", "3", "24", "-1", "255", "1000001", "-1000000",
+    "-1000001", "32768", "#", "\n", "\n", "–", "x", "\t", "\r\n",
 ];
 
 /// Runs a command; a failure has a sentence and status 1 or 2.

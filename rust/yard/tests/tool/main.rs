@@ -7,5 +7,6 @@ mod process;
 #[path = "../../../ranqustei/tests/calls/random.rs"]
 mod random;
 mod readme;
+mod signed_sums;
 mod tool;
 mod yard_text;

@@ -88,11 +88,10 @@ fn links() {
         3,
         "a station is a number from 0 to 23: found `256`",
     );
-    check(
-        &format!("{head}1 2 -3 4"),
-        3,
-        "a sum is a number from 0 to 1000000: found `-3`",
-    );
+    for sum in ["x", "2147483648", "-2147483649"] {
+        let words = format!("a sum is a number from -1000000 to 1000000: found `{sum}`");
+        check(&format!("{head}1 2 {sum} 4"), 3, &words);
+    }
     let cost = "a ceiling cost is a number from -32768 to 32767: found `32768`";
     check(&format!("{head}1 2 3 32768"), 3, cost);
 }
@@ -107,12 +106,16 @@ fn refusals_name_the_line_of_the_record() {
         2,
         &format!("link 0 {ends} (number 7, place 1)"),
     );
-    let sum = "has a sum above 1,000,000, or a cost for a ceiling that the yard does not have";
-    check(
-        "stations 3\n0 1 1000001\n",
-        2,
-        &format!("link 0 {sum} (number 8, place 1)"),
-    );
+    let figures =
+        "has a sum outside -1,000,000 to 1,000,000, or a cost for a ceiling that the yard \
+                   does not have";
+    for sum in ["1000001", "-1000001", "2147483647", "-2147483648"] {
+        check(
+            &format!("stations 3\n0 1 {sum}\n"),
+            2,
+            &format!("link 0 {figures} (number 8, place 1)"),
+        );
+    }
     check(
         "\nstations 25\n",
         2,
@@ -150,6 +153,8 @@ fn forms_of_the_same_yard() {
     ] {
         assert_eq!(run(&["text", "-"], text), plain);
     }
-    let full = "stations 3 ceilings 2 1\n0 1 1000000 -32768 32767  # link 0\n";
-    assert_eq!(run(&["text", "-"], full), Ok(full.to_string()));
+    for sum in ["1000000", "-1000000", "-1"] {
+        let full = format!("stations 3 ceilings 2 1\n0 1 {sum} -32768 32767  # link 0\n");
+        assert_eq!(run(&["text", "-"], &full), Ok(full));
+    }
 }

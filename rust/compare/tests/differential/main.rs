@@ -2,6 +2,9 @@
 //!
 //! It runs all kinds of surveys, or with a seed as its argument the surveys of that seed alone.
 
+mod reached;
+mod report;
+
 use compare::by_listing::ByListing;
 use compare::comparison::{Comparison, Difference, Tally};
 use compare::kinds::{Kind, KINDS};
@@ -9,14 +12,16 @@ use compare::listed::is_listed;
 use compare::planner::{Archive, Peer};
 use compare::rng::Rng;
 use peer::survey::Yard;
+use reached::unreached;
+use report::{print_listed, print_numbers, print_row, print_sums};
 use std::process::ExitCode;
 
 fn main() -> ExitCode {
     let seed: Option<u64> = std::env::args().find_map(|argument| argument.parse().ok());
     match compare_all(seed) {
-        Ok(total) if seed.is_some() || !total.numbers.contains(&0) => ExitCode::SUCCESS,
-        Ok(_) => {
-            println!("\nA number was never replied: the surveys do not reach it.");
+        Ok(missing) if seed.is_some() || missing.is_empty() => ExitCode::SUCCESS,
+        Ok(missing) => {
+            println!("\nThe surveys do not reach: {}.", missing.join("; "));
             ExitCode::FAILURE
         }
         Err(report) => {
@@ -26,8 +31,8 @@ fn main() -> ExitCode {
     }
 }
 
-/// Compares on all seeds, or on one.
-fn compare_all(seed: Option<u64>) -> Result<Tally, String> {
+/// Compares on all seeds, or on one; gives what was not reached.
+fn compare_all(seed: Option<u64>) -> Result<Vec<String>, String> {
     println!("| kind | surveys | judge | best | list | fetch | bytes compared | differences |");
     println!("|---|---|---|---|---|---|---|---|");
     let mut tallies = Vec::new();
@@ -43,6 +48,7 @@ fn compare_all(seed: Option<u64>) -> Result<Tally, String> {
     let total = sum(tallies.iter());
     print_row("all", &total);
     print_listed(&tallies, &total);
+    print_sums(&tallies, &total);
     print_numbers(&total);
     let legal = sum(tallies.iter().filter(|(kind, _)| kind.is_legal()));
     let damaged = sum(tallies.iter().filter(|(kind, _)| !kind.is_legal()));
@@ -50,45 +56,13 @@ fn compare_all(seed: Option<u64>) -> Result<Tally, String> {
         "\n{} surveys: {} made legal and {} made damaged, of which {} are legal all the same.",
         total.surveys, legal.surveys, damaged.surveys, damaged.legal
     );
-    Ok(total)
+    Ok(unreached(&tallies, &total))
 }
 
 fn sum<'a>(tallies: impl Iterator<Item = &'a (&'a Kind, Tally)>) -> Tally {
     let mut sum = Tally::default();
     tallies.for_each(|(_, tally)| sum.add(tally));
     sum
-}
-
-fn print_row(name: &str, tally: &Tally) {
-    let [judge, best, list, fetch] = tally.calls;
-    let (surveys, bytes) = (tally.surveys, tally.bytes);
-    println!("| {name} | {surveys} | {judge} | {best} | {list} | {fetch} | {bytes} | 0 |");
-}
-
-/// The yards that were held against a listing of all trees too.
-fn print_listed(tallies: &[(&Kind, Tally)], total: &Tally) {
-    println!(
-        "\n| held against all trees | yards | trees | p = 0 | p = 1 | p = 2 \
-         | rank above 1 | both above 1 | tied plans |"
-    );
-    println!("|---|---|---|---|---|---|---|---|---|");
-    let rows = tallies.iter().map(|(kind, tally)| (kind.name, tally));
-    let rows = rows.filter(|(_, tally)| tally.listed.yards > 0);
-    for (name, tally) in rows.chain([("all", total)]) {
-        let listed = tally.listed;
-        let [none, one, two] = listed.ceilings;
-        println!(
-            "| {name} | {} | {} | {none} | {one} | {two} | {} | {} | {} |",
-            listed.yards, listed.trees, listed.ranked, listed.both_ranked, listed.tied
-        );
-    }
-}
-
-fn print_numbers(total: &Tally) {
-    println!("\n| number replied | calls |\n|---|---|");
-    for (number, calls) in total.numbers.iter().enumerate() {
-        println!("| {number} | {calls} |");
-    }
 }
 
 /// Compares on the surveys of a seed; a difference is reported with all it takes to repeat it.
@@ -117,10 +91,15 @@ fn compare_survey(
     tally: &mut Tally,
 ) -> Result<(), Difference> {
     kind.calls(&mut Comparison::new(&Archive, &Peer, tally), survey, rng)?;
-    let Ok(yard) = Yard::read(survey) else {
-        return Ok(());
+    let yard = match Yard::read(survey) {
+        Ok(yard) => yard,
+        Err(refusal) => {
+            tally.sums.count_refused(survey, refusal);
+            return Ok(());
+        }
     };
     tally.legal += 1;
+    tally.sums.count_legal(&yard);
     if is_listed(&yard) {
         let by_listing = ByListing::of(&yard);
         tally.listed.count(&yard, &by_listing);

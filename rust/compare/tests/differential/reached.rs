@@ -1,0 +1,38 @@
+//! What the surveys have to reach, so that agreement on them means something.
+
+use compare::comparison::Tally;
+use compare::kinds::Kind;
+use compare::sums::{OUTSIDE, SORTS};
+
+/// What was not reached.
+pub fn unreached(tallies: &[(&Kind, Tally)], total: &Tally) -> Vec<String> {
+    let legal = tallies.iter().filter(|(kind, _)| kind.is_legal());
+    let sorts = legal.flat_map(|(kind, tally)| unreached_sorts(kind, tally));
+    let mut missing: Vec<String> = sorts.collect();
+    for (number, &calls) in total.numbers.iter().enumerate() {
+        if calls == 0 {
+            missing.push(format!("the reply {number}"));
+        }
+    }
+    for (sum, refused) in OUTSIDE.iter().zip(&total.sums.refused) {
+        if !refused.is_everywhere() {
+            missing.push(format!("a sum of {sum} refused on every link"));
+        }
+    }
+    if total.sums.repeated == 0 {
+        missing.push("a sum below 0 on several links".to_string());
+    }
+    if total.sums.across == 0 {
+        missing.push("a list with plans on both sides of 0".to_string());
+    }
+    missing
+}
+
+/// The sorts of yards that a kind of legal surveys lacks.
+fn unreached_sorts(kind: &Kind, tally: &Tally) -> Vec<String> {
+    let sorts = SORTS.iter().zip(tally.sums.sorts);
+    let lacking = sorts.filter(|(_, count)| *count == 0);
+    lacking
+        .map(|((sort, _), _)| format!("sums {sort} in {}", kind.name))
+        .collect()
+}

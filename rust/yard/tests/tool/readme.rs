@@ -38,7 +38,7 @@ fn folder() -> PathBuf {
     for part in ["examples/yards", "docs/pictures"] {
         fs::create_dir_all(folder.join(part)).expect("the scratch folder can be written");
     }
-    for yard in ["survey-a", "orchard", "heather"] {
+    for yard in ["survey-a", "orchard", "heather", "solar"] {
         let name = format!("examples/yards/{yard}.txt");
         fs::copy(repository(&name), folder.join(&name)).expect("the example is there");
     }

@@ -66,7 +66,7 @@ const SIGNS: [Signs; 3] = [Signs::Plus, Signs::Minus, Signs::Mixed];
 /// The limits of sum costs.
 const LOWEST: i64 = sums::LOWEST as i64;
 const HIGHEST: i64 = sums::HIGHEST as i64;
-/// The sum costs at and next to the ends of the legal ranges.
+/// The ends of the legal sum costs and the values around 0.
 const EXTREMES: [i64; 7] = [LOWEST, LOWEST + 1, -1, 0, 1, HIGHEST - 1, HIGHEST];
 
 /// The ranks that a yard may have where they are not above t.

@@ -76,8 +76,10 @@ fn compare_signed() {
         let (label, solved) = (&row.label, row.solved);
         let ([list, peer_list], [best, peer_best]) = (row.list, row.best);
         let [list_ratio, best_ratio] = [list / peer_list, best / peer_best];
-        print!("| {label} | {solved:.0} | {list:.1} | {peer_list:.1} | {list_ratio:.2} ");
-        println!("| {best:.2} | {peer_best:.2} | {best_ratio:.2} |");
+        println!(
+            "| {label} | {solved:.0} | {list:.1} | {peer_list:.1} | {list_ratio:.2} \
+             | {best:.2} | {peer_best:.2} | {best_ratio:.2} |"
+        );
     }
 }
 

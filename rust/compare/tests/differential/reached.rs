@@ -7,7 +7,9 @@ use compare::sums::{OUTSIDE, SORTS};
 /// What was not reached.
 pub fn unreached(tallies: &[(&Kind, Tally)], total: &Tally) -> Vec<String> {
     let legal = tallies.iter().filter(|(kind, _)| kind.is_legal());
-    let sorts = legal.flat_map(|(kind, tally)| unreached_sorts(kind, tally));
+    let sorts = legal
+        .clone()
+        .flat_map(|(kind, tally)| unreached_sorts(kind, tally));
     let mut missing: Vec<String> = sorts.collect();
     for (number, &calls) in total.numbers.iter().enumerate() {
         if calls == 0 {
@@ -19,10 +21,10 @@ pub fn unreached(tallies: &[(&Kind, Tally)], total: &Tally) -> Vec<String> {
             missing.push(format!("a sum of {sum} refused on every link"));
         }
     }
-    if total.sums.repeated == 0 {
+    if legal.clone().all(|(_, tally)| tally.sums.repeated == 0) {
         missing.push("a sum below 0 on several links".to_string());
     }
-    if total.sums.across == 0 {
+    if legal.clone().all(|(_, tally)| tally.sums.across == 0) {
         missing.push("a list with plans on both sides of 0".to_string());
     }
     missing

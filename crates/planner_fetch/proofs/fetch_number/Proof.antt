@@ -1,8 +1,8 @@
 -- The number is fetching's, and so keeps what the archive relies on.
-use Rattle.planner.specs.Archive.{number-kept}
+use Rattle.planner_fetch.specs.Archive.{number-kept}
 use borrow.Author.Needs.{needs}
-use Rattle.planner.proofs.fetch_number.Statement.{statement}
-use Rattle.planner.proofs.fetch_number.Tie as tie
+use Rattle.planner_fetch.proofs.fetch_number.Statement.{statement}
+use Rattle.planner_fetch.proofs.fetch_number.Tie as tie
 
 fetch-number-requires : tie.Need-fetch-number-requires
 fetch-number-requires c κs = search needs

@@ -4,10 +4,10 @@ use native.Mathlib.Omega.{arith}
 use mir.Facts.{toZ-ofZ}
 use denote.Ref.{now}
 use Rattle.survey.specs.Survey.{Read, read-accepted, read-checked}
-use Rattle.planner.specs.Best.{answer-after, asked-answer, asked-refused, asked-short, refused-after, short-after}
+use Rattle.planner_best.specs.Best.{answer-after, asked-answer, asked-refused, asked-short, refused-after, short-after}
 use borrow.Author.Needs.{needs}
-use Rattle.planner.proofs.best.Statement.{statement}
-use Rattle.planner.proofs.best.Tie as tie
+use Rattle.planner_best.proofs.best.Statement.{statement}
+use Rattle.planner_best.proofs.best.Tie as tie
 
 read-survey-requires : tie.Need-read-survey-requires
 read-survey-requires c κs = search needs

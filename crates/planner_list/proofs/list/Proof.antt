@@ -3,10 +3,10 @@ use mathlib.Core.Path.{sym, _∙_}
 use denote.Ref.{now}
 use Rattle.network.specs.Promise.{promised}
 use Rattle.survey.specs.Survey.{Read, read-accepted, read-checked}
-use Rattle.planner.specs.Listing.{list-accepted, list-refused}
+use Rattle.planner_list.specs.Listing.{list-accepted, list-refused}
 use borrow.Author.Needs.{needs}
-use Rattle.planner.proofs.list.Statement.{statement}
-use Rattle.planner.proofs.list.Tie as tie
+use Rattle.planner_list.proofs.list.Statement.{statement}
+use Rattle.planner_list.proofs.list.Tie as tie
 
 read-survey-requires : tie.Need-read-survey-requires
 read-survey-requires c κs = search needs

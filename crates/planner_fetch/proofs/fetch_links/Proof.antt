@@ -1,8 +1,8 @@
 -- The part is fetching's, and so keeps what the archive relies on.
-use Rattle.planner.specs.Archive.{links-kept}
+use Rattle.planner_fetch.specs.Archive.{links-kept}
 use borrow.Author.Needs.{needs}
-use Rattle.planner.proofs.fetch_links.Statement.{statement}
-use Rattle.planner.proofs.fetch_links.Tie as tie
+use Rattle.planner_fetch.proofs.fetch_links.Statement.{statement}
+use Rattle.planner_fetch.proofs.fetch_links.Tie as tie
 
 fetch-links-requires : tie.Need-fetch-links-requires
 fetch-links-requires c κs = search needs

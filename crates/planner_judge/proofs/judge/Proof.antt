@@ -4,9 +4,9 @@ use mathlib.Core.Path.{sym, _∙_}
 use denote.Ref.{now}
 use Rattle.survey.specs.Survey.{Read, read-accepted, read-checked}
 use Rattle.trees_costs.specs.TreeCosts.{tree-links}
-use Rattle.planner.specs.Judge.{judged-no-tree, judged-refused, judged-tree}
-use Rattle.planner.proofs.judge.Statement.{statement}
-use Rattle.planner.proofs.judge.Tie as tie
+use Rattle.planner_judge.specs.Judge.{judged-no-tree, judged-refused, judged-tree}
+use Rattle.planner_judge.proofs.judge.Statement.{statement}
+use Rattle.planner_judge.proofs.judge.Tie as tie
 
 read-survey-requires : tie.Need-read-survey-requires
 read-survey-requires c κs = search needs

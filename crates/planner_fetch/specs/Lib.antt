@@ -1,0 +1,2 @@
+-- what the archive relies on
+pub mod Archive

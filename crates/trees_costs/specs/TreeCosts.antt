@@ -183,13 +183,11 @@ module _ (net : Network) (fine : NetworkFine net) where
         }
 
     -- each of their raised sum costs is at most 2,000,000
-    pub sum-small : sumOf (net .sums) ts ≤ length ts * maxRaised
+    pub sum-small : sumOf (net .sums) ts ≤ maxLinks * maxRaised
     unfolding sumOf
-    sum-small = sum-le (sumAt (net .sums)) maxRaised ts (λ c m. fine .cheap c (links .known .below c m))
-
-    -- so their sum fits
-    pub sum-fits : sumOf (net .sums) ts < 4294967296
-    sum-fits = omega (arith, sum-small, links-few, mul-le-mul-right maxRaised links-few)
+    sum-small =
+        let all = sum-le (sumAt (net .sums)) maxRaised ts (λ c m. fine .cheap c (links .known .below c m)) in
+        omega (arith, links-few, mul-le-mul-right maxRaised links-few)
 
 -- a tree has t links of the network
 pub tree-links : (net : Network) (ts : List ℕ) → isTree net ts ≡ true → TreeLinks net ts

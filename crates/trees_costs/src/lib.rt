@@ -9,7 +9,7 @@ use trees_kth::kth_largest;
 ghost use mathlib.Core.Path.{_≡_};
 ghost use Prim.Native.Nat.{_*_, _≤_, _<_};
 ghost use lib.ListN.{length};
-ghost use Rattle.network.specs.Limits.{maxCeilings, maxLinks, maxRaised, maxTree};
+ghost use Rattle.network.specs.Limits.{maxCeilings, maxLinks, maxRaised};
 ghost use Rattle.network.specs.NetworkFine.{NetworkFine};
 ghost use Rattle.network.specs.PlanList.{costsOf};
 ghost use Rattle.network.specs.Yard.{costAt, sumAt};
@@ -38,7 +38,7 @@ pub fn sum_of(sums: &[u32], links: &[u8]) -> u32
 
 // The sum cost of `count` links, whose raised sum costs add up to `raised`.
 fn lowered(raised: u32, count: usize) -> i32
-    requires { ⌜ (raised ≤ count * maxRaised) × (count ≤ maxTree) ⌝ }
+    requires { ⌜ (raised ≤ maxLinks * maxRaised) × (count ≤ maxLinks) ⌝ }
     ensures { λ r. ⌜ r ≡ loweredSum raised count ⌝ }
 {
     raised as i32 - count as i32 * MAX_SUM

@@ -1,5 +1,5 @@
 -- `trees_costs::lowered` meets its contract. Both numbers are in the lower half of 32 bits, and so is their difference.
-use Prim.Native.Nat.{_^_, _*_, _≤_, _<_}
+use Prim.Native.Nat.{_^_, _*_, _<_}
 use borrow.Author.Needs.{needs}
 use mathlib.Core.Path.{_≡_, refl, ap, ap₂, _∙_}
 use native.Mathlib.Nat.{mul-le-mul-right}
@@ -9,14 +9,14 @@ use mir.Syntax.{w32}
 use mir.Val.{SFits, hbits, ofZ, toZ}
 use mir.ValLaws.{toZ-ofZ, toZ-pos}
 use Rattle.order.specs.Lowered.{sub-integers, sub-small}
-use Rattle.network.specs.Limits.{maxRaised, maxSum}
+use Rattle.network.specs.Limits.{maxSum}
 use Rattle.trees_costs.specs.TreeCosts.{loweredSum}
 use Rattle.trees_costs.proofs.lowered.Statement.{statement}
 use Rattle.trees_costs.proofs.lowered.Tie as tie
 
 -- both numbers are in the lower half of 32 bits
 low : (c : tie.Start) → (c .args .raised < 2 ^ hbits w32) × (c .args .count * maxSum < 2 ^ hbits w32)
-low c = let few = c .pre .1 in (omega (arith, mul-le-mul-right maxRaised few), omega (arith, mul-le-mul-right maxSum few))
+low c = (omega (arith, c .pre .0), omega (arith, mul-le-mul-right maxSum (c .pre .1)))
 
 -- what is taken off
 product : (c : tie.Start) → toZ w32 (c .args .count) *ℤ toZ w32 1_000_000 ≡ pos (c .args .count * maxSum)

@@ -6,7 +6,7 @@ use lib.ListN.{length}
 use mir.Syntax.{w16, w32}
 use mir.Val.{SFits}
 use mir.Facts.{toZ-ofZ}
-use Rattle.trees_costs.specs.TreeCosts.{ceiling-fine, ceiling-at, links-few, links-known, loweredSum, sum-at, sum-fits, sum-small}
+use Rattle.trees_costs.specs.TreeCosts.{ceiling-fine, ceiling-at, links-few, links-known, loweredSum, sum-at, sum-small}
 use Rattle.trees_costs.proofs.tree_costs.Statement.{statement}
 use Rattle.trees_costs.proofs.tree_costs.Tie as tie
 
@@ -17,13 +17,14 @@ sum-of-requires : tie.Need-sum-of-requires
 sum-of-requires c κs =
     let net = c .before .before .before .before .before .args .net in
     let p = c .before .before .before .before .before .pre in
-    (rw (p .0 .lengths .2) (links-known net (p .0) _ (p .1)), sum-fits net (p .0) _ (p .1))
+    (rw (p .0 .lengths .2) (links-known net (p .0) _ (p .1)), omega (arith, sum-small net (p .0) _ (p .1)))
 
 lowered-requires : tie.Need-lowered-requires
 lowered-requires c κs =
     let start = c .before .before .before .before .before .before in
     let p = start .pre in
-    (rw (c .sum-of .ensures) (sum-small (start .args .net) (p .0) _ (p .1)), links-few (start .args .net) (p .0) _ (p .1))
+    let few = links-few (start .args .net) (p .0) _ (p .1) in
+    (rw (c .sum-of .ensures) (sum-small (start .args .net) (p .0) _ (p .1)), omega (arith, few))
 
 array-read-ceiling-cost : tie.Need-array-read-ceiling-cost
 array-read-ceiling-cost c = search needs

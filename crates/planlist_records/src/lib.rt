@@ -1,7 +1,7 @@
 // The records of a plan list, a head and then one for each plan: their marks, and where their fields stand. The size of a plan record, and its bytes.
 use encoding_copies::copy_in;
 use encoding_writes::write_i16;
-use encoding_writes::write_u32;
+use encoding_writes::write_i32;
 use network::Costs;
 use network::limits::COSTS_SIZE;
 ghost use mathlib.Core.Path.{_≡_};
@@ -44,7 +44,7 @@ pub fn write_plan(out: &mut [u8], at: usize, v: Costs, links: &[u8])
     ensures { λ _. ⌜ now (out .exit) ≡ overwrite (now (out .entry)) at (planBytes v (now (links .entry))) ⌝ }
 {
     copy_in(out, at, &PLAN_MARK);
-    write_u32(out, at + SUM_AT, v.sum);
+    write_i32(out, at + SUM_AT, v.sum);
     write_i16(out, at + Y1_AT, v.y1);
     write_i16(out, at + Y2_AT, v.y2);
     copy_in(out, at + COSTS_SIZE, links);

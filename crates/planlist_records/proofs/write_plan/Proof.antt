@@ -1,17 +1,17 @@
 -- `planlist_records::write_plan` meets its contract. Writes one after the other are one write.
-use mathlib.Core.Path.{refl, ap, _∙_}
+use mathlib.Core.Path.{refl}
 use mathlib.Core.List.{List, _++_}
 use Prim.Native.Nat.{ℕ, _+_, _≤_}
 use native.Mathlib.Omega.{arith}
 use lib.IntN.{ℤ}
 use lib.ListN.{length}
-use mir.Syntax.{w16}
+use mir.Syntax.{w16, w32}
 use mir.Val.{SFits}
 use mir.ValLaws.{toZ-ofZ}
 use denote.Ref.{now}
 use Rattle.network.specs.Bytes.{bitsOf, littleEndian}
 use Rattle.network.specs.PlanList.{planMark, planSize, planSlots}
-use Rattle.encoding_overwrite.specs.Overwrite.{overwrite, overwrite-chain}
+use Rattle.encoding_overwrite.specs.Overwrite.{overwrite-chain}
 use borrow.Author.Needs.{needs}
 use Rattle.planlist_records.proofs.write_plan.Statement.{statement}
 use Rattle.planlist_records.proofs.write_plan.Tie as tie
@@ -22,11 +22,11 @@ slice-aggregate-copy-in c = search needs
 copy-in-requires : tie.Need-copy-in-requires
 copy-in-requires c κs = search needs
 
-add-write-u32 : tie.Need-add-write-u32
-add-write-u32 c = search needs
+add-write-i32 : tie.Need-add-write-i32
+add-write-i32 c = search needs
 
-write-u32-requires : tie.Need-write-u32-requires
-write-u32-requires c κs = search needs
+write-i32-requires : tie.Need-write-i32-requires
+write-i32-requires c κs = search needs
 
 add-write-i16 : tie.Need-add-write-i16
 add-write-i16 c = search needs
@@ -49,7 +49,10 @@ copy-in-requires-2 c κs = search needs
 same-length : tie.Need-same-length
 same-length c = search needs
 
--- the ceiling costs are numbers of two bytes
+-- the costs are numbers of four and of two bytes
+sum-fits : (s : tie.Start) → SFits w32 (s .args .v .sum)
+sum-fits s = search needs
+
 y1-fits : (s : tie.Start) → SFits w16 (s .args .v .y1)
 y1-fits s = search needs
 
@@ -62,17 +65,18 @@ returns c =
     let third = last .before .before .before .before in
     let second = third .before .before .before .before .before in
     let first = second .before .before .before .before .before in
-    let mark = first .before .before .before .before in
+    let mark = first .before .before .before .before .before in
     let start = mark .before .before .before .before .before in
     let a = start .args in
     let d = now (a .out) in
     let i = a .at in
     let fits : i ≤ length d = omega (arith, start .pre) in
-    let n = littleEndian 4 (a .v .sum) in
-    let y : ℤ → List ℕ = λ z. littleEndian 2 (bitsOf z) in
-    let y1 = second .write-i16 .ensures ∙ ap (λ (z : ℤ). overwrite (first .write-u32 .last .0) (i + 6) (y z)) (toZ-ofZ w16 (a .v .y1) (y1-fits start)) in
-    let y2 = third .write-i162 .ensures ∙ ap (λ (z : ℤ). overwrite (second .write-i16 .last .0) (i + 8) (y z)) (toZ-ofZ w16 (a .v .y2) (y2-fits start)) in
-    let e2 = overwrite-chain d i planMark (i + 2) n (first .write-u32 .ensures) (mark .copy-in .ensures) refl fits in
+    let n = littleEndian 4 (bitsOf w32 (a .v .sum)) in
+    let y : ℤ → List ℕ = λ z. littleEndian 2 (bitsOf w16 z) in
+    let sum = rw (toZ-ofZ w32 (a .v .sum) (sum-fits start)) at (first .write-i32 .ensures) in
+    let y1 = rw (toZ-ofZ w16 (a .v .y1) (y1-fits start)) at (second .write-i16 .ensures) in
+    let y2 = rw (toZ-ofZ w16 (a .v .y2) (y2-fits start)) at (third .write-i162 .ensures) in
+    let e2 = overwrite-chain d i planMark (i + 2) n sum (mark .copy-in .ensures) refl fits in
     let e3 = overwrite-chain d i (planMark ++ n) (i + 6) (y (a .v .y1)) y1 e2 refl fits in
     let e4 = overwrite-chain d i (planMark ++ n ++ y (a .v .y1)) (i + 8) (y (a .v .y2)) y2 e3 refl fits in
     overwrite-chain d i (planMark ++ n ++ y (a .v .y1) ++ y (a .v .y2)) (i + planSize planSlots 0) (now (a .links)) (last .copy-in2 .ensures) e4 refl fits
@@ -83,8 +87,8 @@ write-plan-spec =
     (tie.spec
     slice-aggregate-copy-in
     copy-in-requires
-    add-write-u32
-    write-u32-requires
+    add-write-i32
+    write-i32-requires
     add-write-i16
     write-i16-requires
     add-write-i16-2

@@ -1,5 +1,5 @@
 -- `planlist_records::write_plan` meets its contract. Writes one after the other are one write.
-use mathlib.Core.Path.{refl}
+use mathlib.Core.Path.{refl, ap, _∙_}
 use mathlib.Core.List.{List, _++_}
 use Prim.Native.Nat.{ℕ, _+_, _≤_}
 use native.Mathlib.Omega.{arith}
@@ -11,7 +11,7 @@ use mir.ValLaws.{toZ-ofZ}
 use denote.Ref.{now}
 use Rattle.network.specs.Bytes.{bitsOf, littleEndian}
 use Rattle.network.specs.PlanList.{planMark, planSize, planSlots}
-use Rattle.encoding_overwrite.specs.Overwrite.{overwrite-chain}
+use Rattle.encoding_overwrite.specs.Overwrite.{overwrite, overwrite-chain}
 use borrow.Author.Needs.{needs}
 use Rattle.planlist_records.proofs.write_plan.Statement.{statement}
 use Rattle.planlist_records.proofs.write_plan.Tie as tie
@@ -71,11 +71,12 @@ returns c =
     let d = now (a .out) in
     let i = a .at in
     let fits : i ≤ length d = omega (arith, start .pre) in
-    let n = littleEndian 4 (bitsOf w32 (a .v .sum)) in
+    let x : ℤ → List ℕ = λ z. littleEndian 4 (bitsOf w32 z) in
     let y : ℤ → List ℕ = λ z. littleEndian 2 (bitsOf w16 z) in
-    let sum = rw (toZ-ofZ w32 (a .v .sum) (sum-fits start)) at (first .write-i32 .ensures) in
-    let y1 = rw (toZ-ofZ w16 (a .v .y1) (y1-fits start)) at (second .write-i16 .ensures) in
-    let y2 = rw (toZ-ofZ w16 (a .v .y2) (y2-fits start)) at (third .write-i162 .ensures) in
+    let sum = first .write-i32 .ensures ∙ ap (λ (z : ℤ). overwrite (mark .copy-in .last .0) (i + 2) (x z)) (toZ-ofZ w32 (a .v .sum) (sum-fits start)) in
+    let n = x (a .v .sum) in
+    let y1 = second .write-i16 .ensures ∙ ap (λ (z : ℤ). overwrite (first .write-i32 .last .0) (i + 6) (y z)) (toZ-ofZ w16 (a .v .y1) (y1-fits start)) in
+    let y2 = third .write-i162 .ensures ∙ ap (λ (z : ℤ). overwrite (second .write-i16 .last .0) (i + 8) (y z)) (toZ-ofZ w16 (a .v .y2) (y2-fits start)) in
     let e2 = overwrite-chain d i planMark (i + 2) n sum (mark .copy-in .ensures) refl fits in
     let e3 = overwrite-chain d i (planMark ++ n) (i + 6) (y (a .v .y1)) y1 e2 refl fits in
     let e4 = overwrite-chain d i (planMark ++ n ++ y (a .v .y1)) (i + 8) (y (a .v .y2)) y2 e3 refl fits in

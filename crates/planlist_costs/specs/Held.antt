@@ -3,23 +3,23 @@ use mathlib.Core.Path.{_≡_, sym, ap, _∙_}
 use mathlib.Core.List.{List, _∷_}
 use Prim.Native.Nat.{ℕ, _+_, _-_, _≤_, _<_}
 use native.Mathlib.Omega.{arith}
-use mir.Syntax.{w16}
+use mir.Syntax.{w16, w32}
 use mir.Val.{SFits}
 use lib.ListN.{take, drop}
 use lib.Seq.{getD-take, getD-drop}
-use Rattle.network.specs.Bytes.{byteAt, u32At, i16At}
+use Rattle.network.specs.Bytes.{byteAt, i16At, i32At}
 use Rattle.network.specs.PlanList.{planBytes, planSize, planSlots}
 use Rattle.network.specs.declared.Costs.{Costs}
-use Rattle.encoding_numbers.specs.RoundTrip.{i16-bytes, u32-bytes}
+use Rattle.encoding_numbers.specs.RoundTrip.{i16-bytes, i32-bytes}
 use Rattle.planlist_records.specs.Blocks.{blocks, blocks-turn}
 
 -- the costs that the plan record at an index holds
 unfoldable pub costsAt : List ℕ → ℕ → Costs
-costsAt bs i = record { sum = u32At bs (i + 2); y1 = i16At bs (i + 6); y2 = i16At bs (i + 8) }
+costsAt bs i = record { sum = i32At bs (i + 2); y1 = i16At bs (i + 6); y2 = i16At bs (i + 8) }
 
 -- costs that a record can hold
 pub record Writable (v : Costs) : Type 0 where
-  pub sum-fits : v .sum < 4294967296
+  pub sum-fits : SFits w32 (v .sum)
   pub y1-fits : SFits w16 (v .y1)
   pub y2-fits : SFits w16 (v .y2)
 
@@ -27,7 +27,7 @@ pub record Writable (v : Costs) : Type 0 where
 pub costs-encoded : (v : Costs) (links : List ℕ) → Writable v → costsAt (planBytes v links) 0 ≡ v
 unfolding costsAt
 costs-encoded v links w =
-    let sum = u32-bytes (v .sum) (w .sum-fits) in
+    let sum = i32-bytes (v .sum) (w .sum-fits) in
     let y1 = i16-bytes (v .y1) (w .y1-fits) in
     let y2 = i16-bytes (v .y2) (w .y2-fits) in
     λ i. record { sum = sum i; y1 = y1 i; y2 = y2 i }

@@ -1,7 +1,8 @@
 // The costs in a plan record, and their two orders.
 use encoding_numbers::compare::le16;
+use encoding_numbers::compare::le32;
 use encoding_numbers::read::read_i16;
-use encoding_numbers::read::read_u32;
+use encoding_numbers::read::read_i32;
 use network::Costs;
 use planlist_records::SUM_AT;
 use planlist_records::Y1_AT;
@@ -17,17 +18,17 @@ ghost use Rattle.planlist_costs.specs.Orders.{atMost, inOrder};
 pub fn at_most(v: Costs, w: Costs) -> bool
     ensures { λ r. ⌜ r ≡ atMost v w ⌝ }
 {
-    (v.sum <= w.sum) & (le16(v.y1, w.y1) & le16(v.y2, w.y2))
+    le32(v.sum, w.sum) & (le16(v.y1, w.y1) & le16(v.y2, w.y2))
 }
 
 // v stands before w in dictionary order, or is the same.
 pub fn in_order(v: Costs, w: Costs) -> bool
     ensures { λ r. ⌜ r ≡ inOrder v w ⌝ }
 {
-    if v.sum == w.sum {
-        return le16(v.y1, w.y1) & (!le16(w.y1, v.y1) | le16(v.y2, w.y2));
+    if le32(w.sum, v.sum) {
+        return le32(v.sum, w.sum) & (le16(v.y1, w.y1) & (!le16(w.y1, v.y1) | le16(v.y2, w.y2)));
     }
-    v.sum < w.sum
+    true
 }
 
 // The costs that the plan record at an index holds.
@@ -36,7 +37,7 @@ pub fn costs_at(s: &[u8], at: usize) -> Costs
     ensures { λ r. ⌜ r ≡ costsAt (now (s .entry)) at ⌝ }
 {
     Costs {
-        sum: read_u32(s, at + SUM_AT),
+        sum: read_i32(s, at + SUM_AT),
         y1: read_i16(s, at + Y1_AT),
         y2: read_i16(s, at + Y2_AT),
     }

@@ -1,4 +1,5 @@
 // The place of a new plan among the records of the frontier, in one pass by their sums.
+use encoding_numbers::compare::le32;
 use network::Costs;
 use planlist_costs::at_most;
 use planlist_costs::costs_at;
@@ -19,16 +20,16 @@ pub fn free_place(plans: &[u8], count: usize, size: usize, v: Costs) -> usize
     let mut left = count;
     while 0 < left {
         let w = costs_at(plans, at);
-        if w.sum < v.sum {
-            at += size;
-            left -= 1;
-        } else {
+        if le32(v.sum, w.sum) {
             if at_most(w, v) {
                 return count + 1;
             }
             if in_order(v, w) {
                 return count - left;
             }
+            at += size;
+            left -= 1;
+        } else {
             at += size;
             left -= 1;
         }

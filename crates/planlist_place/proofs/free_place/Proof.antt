@@ -1,19 +1,21 @@
 -- `planlist_place::free_place` meets its contract. The invariant: the answer is behind the records passed so far, by that for those from `at` on.
 use mathlib.Core.Path.{_≡_, refl, sym, ap, _∙_}
-use mathlib.Core.Bool.{Bool, cond, false}
+use mathlib.Core.Bool.{Bool, cond}
 use Prim.Native.Nat.{suc, _+_, _*_, _-_, _≤_}
 use native.Mathlib.Nat.{mul-le-mul-left, mul-one}
 use native.Mathlib.Omega.{arith}
-use borrow.Author.Tests.{le-ltb, lt-ltb}
-use lib.Dec.{ltb}
 use lib.ListN.{length, drop}
+use lib.Signed.{leZ}
+use mir.Syntax.{w32}
 use denote.Ref.{now}
 use Rattle.network.specs.PlanList.{planSize, planSlots}
 use Rattle.network.specs.declared.Costs.{Costs}
+use Rattle.encoding_numbers.specs.Compared.{tested}
 use Rattle.planlist_records.specs.Blocks.{blocks, blocks-none, mul-step}
 use Rattle.planlist_costs.specs.Orders.{atMost, inOrder}
 use Rattle.planlist_costs.specs.Held.{costsAt}
 use Rattle.planlist_place.specs.Place.{freePlace, free-none, free-turn}
+use borrow.Author.Needs.{needs}
 use Rattle.planlist_place.proofs.free_place.Statement.{statement}
 use Rattle.planlist_place.proofs.free_place.Tie as tie
 
@@ -25,8 +27,8 @@ Inv-loop plans count size v at₀ left₀ at left =
 abbrev μ-loop : tie.MeasureT-loop
 μ-loop plans count size v at₀ left₀ at left = left
 
--- the turn of the loop in which the sum in the record is no lower than that of v
-abbrev turn : tie.Else1 Inv-loop μ-loop → tie.In-loop Inv-loop μ-loop
+-- the turn of the loop in which the sums are compared
+abbrev turn : tie.After-le32 Inv-loop μ-loop → tie.In-loop Inv-loop μ-loop
 turn c = c .before .before .before .before
 
 -- v, and the costs in the record at `at`
@@ -43,21 +45,23 @@ step : (k : tie.In-loop Inv-loop μ-loop)
 step k = mul-step (k .before .loop .left) (k .before .before .before .args .size) (k .loop-test .taken)
 
 -- what the tests of a turn say of the two: the sums, whether the record's costs are at most v, and whether v stands before them
-no-lower : (c : tie.Else1 Inv-loop μ-loop) → ltb (held (turn c) .sum) (new (turn c) .sum) ≡ false
-no-lower c =
-    let e = ap (λ (w : Costs). w .sum) (c .before .before .before .costs-at .ensures) in
-    le-ltb (held (turn c) .sum) (new (turn c) .sum) (omega (arith, c .if1 .left))
+no-lower : (c : tie.After-le32 Inv-loop μ-loop) → {b : Bool} → c .le32 .result ≡ b → leZ (new (turn c) .sum) (held (turn c) .sum) ≡ b
+no-lower c e =
+    let v = new (turn c) in
+    let w = c .before .before .before .costs-at in
+    sym (tested w32 (v .sum) (w .result .sum) (search needs) (search needs) (c .le32 .ensures) ∙ ap (λ (w : Costs). leZ (v .sum) (w .sum)) (w .ensures)) ∙ e
 
-compared : (c : tie.After-at-most Inv-loop μ-loop) → {b : Bool} → c .at-most .result ≡ b → atMost (held (turn (c .before))) (new (turn (c .before))) ≡ b
+compared : (c : tie.After-at-most Inv-loop μ-loop) → {b : Bool} → c .at-most .result ≡ b
+    → let k = turn (c .before .before) in atMost (held k) (new k) ≡ b
 compared c e =
-    let w = c .before .before .before .before .costs-at .ensures in
-    sym (c .at-most .ensures ∙ ap (λ (w : Costs). atMost w (new (turn (c .before)))) w) ∙ e
+    let w = c .before .before .before .before .before .costs-at .ensures in
+    sym (c .at-most .ensures ∙ ap (λ (w : Costs). atMost w (new (turn (c .before .before)))) w) ∙ e
 
 ordered : (c : tie.After-in-order Inv-loop μ-loop) → {b : Bool} → c .in-order .result ≡ b
-    → let k = turn (c .before .before .before) in inOrder (new k) (held k) ≡ b
+    → let k = turn (c .before .before .before .before) in inOrder (new k) (held k) ≡ b
 ordered c e =
-    let w = c .before .before .before .before .before .before .costs-at .ensures in
-    sym (c .in-order .ensures ∙ ap (inOrder (new (turn (c .before .before .before)))) w) ∙ e
+    let w = c .before .before .before .before .before .before .before .costs-at .ensures in
+    sym (c .in-order .ensures ∙ ap (inOrder (new (turn (c .before .before .before .before)))) w) ∙ e
 
 loop-holds : tie.Need-loop-holds Inv-loop μ-loop
 loop-holds c = (omega arith, omega arith, omega arith, omega arith)
@@ -65,42 +69,26 @@ loop-holds c = (omega arith, omega arith, omega arith, omega arith)
 costs-at-requires : tie.Need-costs-at-requires Inv-loop μ-loop
 costs-at-requires c κs = omega (arith, step c)
 
-add-at : tie.Need-add-at Inv-loop μ-loop
-add-at c = omega (arith, step (c .before .before .before .before))
-
-sub-left : tie.Need-sub-left Inv-loop μ-loop
-sub-left c = omega arith
-
-loop-less : tie.Need-loop-less Inv-loop μ-loop
-loop-less c = omega arith
-
-loop-again : tie.Need-loop-again Inv-loop μ-loop
-loop-again c =
-    let k = c .before .before .before .before in
-    let l = k .before .loop in
-    let a = k .before .before .before .args in
-    let less = step k in
-    let sum = ap (λ (w : Costs). w .sum) (c .before .before .before .costs-at .ensures) in
-    let lower = lt-ltb (held k .sum) (a .v .sum) (omega (arith, c .if1 .taken)) in
-    let e = free-turn (a .v) (now (a .plans)) (l .at) (l .left) (a .size) (k .loop-test .taken) (l .inv .2) lower refl refl in
-    (omega arith, omega arith, omega arith, omega arith)
+le32-requires : tie.Need-le32-requires Inv-loop μ-loop
+le32-requires c κs = tt
 
 at-most-requires : tie.Need-at-most-requires Inv-loop μ-loop
 at-most-requires c κs = tt
 
 add-result : tie.Need-add-result Inv-loop μ-loop
 add-result c =
-    let s = turn (c .before .before) .before .before .before in
+    let s = turn (c .before .before .before) .before .before .before in
     let wide : 1 ≤ s .args .size = omega (arith, s .pre .0) in
     omega (arith, mul-one (s .args .count), mul-le-mul-left (s .args .count) wide, s .pre .1, s .good)
 
 returns : tie.Need-returns Inv-loop μ-loop
 returns c =
-    let k = turn (c .before .before) in
+    let k = turn (c .before .before .before) in
     let l = k .before .loop in
     let a = k .before .before .before .args in
+    let high = no-lower (c .before .before .before) (c .before .before .if1 .taken) in
     let below = compared (c .before) (c .if2 .taken) in
-    let e = free-turn (a .v) (now (a .plans)) (l .at) (l .left) (a .size) (k .loop-test .taken) (l .inv .2) (no-lower (c .before .before)) below refl in
+    let e = free-turn (a .v) (now (a .plans)) (l .at) (l .left) (a .size) (k .loop-test .taken) (l .inv .2) high below refl in
     omega arith
 
 in-order-requires : tie.Need-in-order-requires Inv-loop μ-loop
@@ -111,23 +99,39 @@ sub-result c = omega arith
 
 -- v is compared with the record, and the record is not at most v
 passed : (c : tie.After-in-order Inv-loop μ-loop) → {b : Bool} → c .in-order .result ≡ b
-    → let k = turn (c .before .before .before) in
+    → let k = turn (c .before .before .before .before) in
     let l = k .before .loop in
     let a = k .before .before .before .args in
     freePlace (a .v) (blocks (a .size) (l .left) (drop (l .at) (now (a .plans))))
     ≡ cond b 0 (suc (freePlace (a .v) (blocks (a .size) (l .left - 1) (drop (l .at + a .size) (now (a .plans))))))
 passed c e =
-    let k = turn (c .before .before .before) in
+    let then = c .before .before .before in
+    let k = turn (then .before) in
     let l = k .before .loop in
     let a = k .before .before .before .args in
-    free-turn (a .v) (now (a .plans)) (l .at) (l .left) (a .size) (k .loop-test .taken) (l .inv .2) (no-lower (c .before .before .before))
+    free-turn (a .v) (now (a .plans)) (l .at) (l .left) (a .size) (k .loop-test .taken) (l .inv .2) (no-lower (then .before) (then .if1 .taken))
     (compared (c .before .before) (c .before .if2 .left)) (ordered c e)
 
 returns-2 : tie.Need-returns-2 Inv-loop μ-loop
 returns-2 c = omega (arith, passed (c .before) (c .if3 .taken))
 
+add-at : tie.Need-add-at Inv-loop μ-loop
+add-at c = omega (arith, step (turn (c .before .before .before .before .before)))
+
+sub-left : tie.Need-sub-left Inv-loop μ-loop
+sub-left c = omega arith
+
+loop-less : tie.Need-loop-less Inv-loop μ-loop
+loop-less c = omega arith
+
+loop-again : tie.Need-loop-again Inv-loop μ-loop
+loop-again c =
+    let less = step (turn (c .before .before .before .before .before)) in
+    let e = passed (c .before) (c .if3 .left) in
+    (omega arith, omega arith, omega arith, omega arith)
+
 add-at-2 : tie.Need-add-at-2 Inv-loop μ-loop
-add-at-2 c = omega (arith, step (turn (c .before .before .before .before)))
+add-at-2 c = omega (arith, step (turn (c .before)))
 
 sub-left-2 : tie.Need-sub-left-2 Inv-loop μ-loop
 sub-left-2 c = omega arith
@@ -137,8 +141,12 @@ loop-less-2 c = omega arith
 
 loop-again-2 : tie.Need-loop-again-2 Inv-loop μ-loop
 loop-again-2 c =
-    let less = step (turn (c .before .before .before .before)) in
-    let e = passed (c .before) (c .if3 .left) in
+    let k = turn (c .before) in
+    let l = k .before .loop in
+    let a = k .before .before .before .args in
+    let less = step k in
+    let low = no-lower (c .before) (c .if1 .left) in
+    let e = free-turn (a .v) (now (a .plans)) (l .at) (l .left) (a .size) (k .loop-test .taken) (l .inv .2) low refl refl in
     (omega arith, omega arith, omega arith, omega arith)
 
 returns-3 : tie.Need-returns-3 Inv-loop μ-loop
@@ -156,16 +164,17 @@ free-place-spec =
     μ-loop
     loop-holds
     costs-at-requires
-    add-at
-    sub-left
-    loop-less
-    loop-again
+    le32-requires
     at-most-requires
     add-result
     returns
     in-order-requires
     sub-result
     returns-2
+    add-at
+    sub-left
+    loop-less
+    loop-again
     add-at-2
     sub-left-2
     loop-less-2

@@ -3,8 +3,8 @@ use mathlib.Core.Path.{_≡_, refl, sym, _∙_}
 use mathlib.Core.Bool.{Bool, cond}
 use mathlib.Core.List.{List, [], _∷_}
 use Prim.Native.Nat.{ℕ, _+_, _-_, _≤_, _<_}
-use lib.Dec.{ltb}
 use lib.ListN.{take, drop}
+use lib.Signed.{leZ}
 use Rattle.network.specs.PlanList.{planSize, planSlots}
 use Rattle.network.specs.declared.Costs.{Costs}
 use Rattle.planlist_records.specs.Blocks.{blocks, blocks-turn}
@@ -14,18 +14,18 @@ use Rattle.planlist_costs.specs.Orders.{atMost}
 -- the records whose costs v is not at most, and all from the first with a higher sum on
 unfoldable pub prunedLevel : Costs → List (List ℕ) → List (List ℕ)
 prunedLevel v [] = []
-prunedLevel v (b ∷ bs) = let r = prunedLevel v bs in cond (ltb (v .sum) (costsAt b 0 .sum)) (b ∷ bs) (cond (atMost v (costsAt b 0)) r (b ∷ r))
+prunedLevel v (b ∷ bs) = let r = prunedLevel v bs in cond (leZ (costsAt b 0 .sum) (v .sum)) (cond (atMost v (costsAt b 0)) r (b ∷ r)) (b ∷ bs)
 
 -- of no records none are left
 pub pruned-none : (v : Costs) → prunedLevel v [] ≡ []
 unfolding prunedLevel
 pruned-none v = refl
 
--- a turn of the loop, at the record at index `at`: by whether its sum is higher, and whether v is at most it
+-- a turn of the loop, at the record at index `at`: by whether its sum is no higher, and whether v is at most it
 module _ (v : Costs) (bs : List ℕ) (at left z : ℕ) (more : 0 < left) (wide : planSize planSlots 0 ≤ z) where
-  pub pruned-turn : {p q : Bool} → ltb (v .sum) (costsAt bs at .sum) ≡ p → atMost v (costsAt bs at) ≡ q
+  pub pruned-turn : {p q : Bool} → leZ (costsAt bs at .sum) (v .sum) ≡ p → atMost v (costsAt bs at) ≡ q
       → let rest = prunedLevel v (blocks z (left - 1) (drop (at + z) bs)) in
-      prunedLevel v (blocks z left (drop at bs)) ≡ cond p (blocks z left (drop at bs)) (cond q rest (take z (drop at bs) ∷ rest))
+      prunedLevel v (blocks z left (drop at bs)) ≡ cond p (cond q rest (take z (drop at bs) ∷ rest)) (blocks z left (drop at bs))
   unfolding prunedLevel
   pruned-turn e f =
       let x = take z (drop at bs) in
@@ -33,5 +33,5 @@ module _ (v : Costs) (bs : List ℕ) (at left z : ℕ) (more : 0 < left) (wide :
       let rest = prunedLevel v others in
       let same = sym (blocks-turn z left at bs more) in
       costs-turn bs at left z more wide (prunedLevel v)
-      (λ w. cond (ltb (v .sum) (w .sum)) (x ∷ others) (cond (atMost v w) rest (x ∷ rest))) refl
-      ∙ (λ i. cond (e i) (same i) (cond (f i) rest (x ∷ rest)))
+      (λ w. cond (leZ (w .sum) (v .sum)) (cond (atMost v w) rest (x ∷ rest)) (x ∷ others)) refl
+      ∙ (λ i. cond (e i) (cond (f i) rest (x ∷ rest)) (same i))

@@ -1,5 +1,6 @@
 // The plans of the frontier that a new one replaces, dropped in one pass by their sums.
 use encoding_copies::move_down;
+use encoding_numbers::compare::le32;
 use network::Costs;
 use planlist_costs::at_most;
 use planlist_costs::costs_at;
@@ -21,19 +22,20 @@ pub fn prune(plans: &mut [u8], count: usize, size: usize, v: Costs) -> usize
     let mut left = count;
     while 0 < left {
         let w = costs_at(plans, from);
-        if v.sum < w.sum {
+        if le32(w.sum, v.sum) {
+            if at_most(v, w) {
+                from += size;
+                left -= 1;
+            } else {
+                move_down(plans, from, to, size);
+                to += size;
+                kept += 1;
+                from += size;
+                left -= 1;
+            }
+        } else {
             move_down(plans, from, to, left * size);
             return kept + left;
-        }
-        if at_most(v, w) {
-            from += size;
-            left -= 1;
-        } else {
-            move_down(plans, from, to, size);
-            to += size;
-            kept += 1;
-            from += size;
-            left -= 1;
         }
     }
     kept

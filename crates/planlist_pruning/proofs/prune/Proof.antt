@@ -1,23 +1,25 @@
 -- `planlist_pruning::prune` meets its contract. The invariant: what is to be kept is the records in front, `kept` of them, and what is to be kept
 -- of those from `from` on.
 use mathlib.Core.Path.{_≡_, refl, sym, ap, ap₂, _∙_}
-use mathlib.Core.Bool.{Bool, cond, false}
+use mathlib.Core.Bool.{Bool, cond}
 use mathlib.Core.List.{List, _∷_, _++_, append-nil}
 use Prim.Native.Nat.{ℕ, _+_, _*_, _-_, _≤_}
 use native.Mathlib.Omega.{arith}
 use native.Mathlib.Nat.{zero-mul, suc-mul}
 use native.Mathlib.Numerals.{add-one}
-use borrow.Author.Tests.{le-ltb, lt-ltb}
-use lib.Dec.{ltb}
 use lib.ListN.{length, take, drop}
+use lib.Signed.{leZ}
+use mir.Syntax.{w32}
 use lib.Seq.{append-snoc}
 use denote.Ref.{now}
 use Rattle.network.specs.PlanList.{planSize, planSlots}
 use Rattle.network.specs.declared.Costs.{Costs}
+use Rattle.encoding_numbers.specs.Compared.{tested}
 use Rattle.planlist_records.specs.Blocks.{blocks, blocks-none, mul-step, blocks-joined, blocks-moved, behind-moved}
 use Rattle.planlist_costs.specs.Orders.{atMost}
 use Rattle.planlist_costs.specs.Held.{costsAt}
 use Rattle.planlist_pruning.specs.Pruned.{prunedLevel, pruned-turn, pruned-none}
+use borrow.Author.Needs.{needs}
 use Rattle.planlist_pruning.proofs.prune.Statement.{statement}
 use Rattle.planlist_pruning.proofs.prune.Tie as tie
 
@@ -30,14 +32,14 @@ Inv-loop plans₀ count size v from₀ to₀ kept₀ left₀ plans from to kept 
 abbrev μ-loop : tie.MeasureT-loop
 μ-loop plans₀ count size v from₀ to₀ kept₀ left₀ plans from to kept left = left
 
--- the turn of the loop in which the costs are read, in which the sum in the record is no higher than that of v, and in which the record is kept
-abbrev turn : tie.After-struct-known2 Inv-loop μ-loop → tie.In-loop Inv-loop μ-loop
-turn c = c .before .before .before .before
+-- the turn of the loop in which the sums are compared, in which the sum in the record is no higher than that of v, and in which the record is kept
+abbrev turn : tie.After-le32 Inv-loop μ-loop → tie.In-loop Inv-loop μ-loop
+turn c = c .before .before .before .before .before
 
 abbrev turn-low : tie.After-at-most Inv-loop μ-loop → tie.In-loop Inv-loop μ-loop
 turn-low c = turn (c .before .before)
 
-abbrev turn-kept : tie.After-slice-known3 Inv-loop μ-loop → tie.In-loop Inv-loop μ-loop
+abbrev turn-kept : tie.After-slice-known2 Inv-loop μ-loop → tie.In-loop Inv-loop μ-loop
 turn-kept c = turn-low (c .before .before .before .before .before)
 
 -- v, and the costs in the record at `from`
@@ -54,13 +56,14 @@ step : (k : tie.In-loop Inv-loop μ-loop)
 step k = mul-step (k .before .loop .left) (k .before .before .before .args .size) (k .loop-test .taken)
 
 -- what the tests of a turn say of the two: the sums, and whether v is at most the record's costs
-no-higher : (c : tie.Else1 Inv-loop μ-loop) → ltb (new (turn (c .before)) .sum) (held (turn (c .before)) .sum) ≡ false
-no-higher c =
-    let e = ap (λ (w : Costs). w .sum) (c .before .before .before .costs-at .ensures) in
-    le-ltb (new (turn (c .before)) .sum) (held (turn (c .before)) .sum) (omega (arith, c .if1 .left))
+no-higher : (c : tie.After-le32 Inv-loop μ-loop) → {b : Bool} → c .le32 .result ≡ b → leZ (held (turn c) .sum) (new (turn c) .sum) ≡ b
+no-higher c e =
+    let v = new (turn c) in
+    let w = c .before .before .before .costs-at in
+    sym (tested w32 (w .result .sum) (v .sum) (search needs) (search needs) (c .le32 .ensures) ∙ ap (λ (w : Costs). leZ (w .sum) (v .sum)) (w .ensures)) ∙ e
 
 compared : (c : tie.After-at-most Inv-loop μ-loop) → {b : Bool} → c .at-most .result ≡ b → atMost (new (turn-low c)) (held (turn-low c)) ≡ b
-compared c e = sym (c .at-most .ensures ∙ ap (atMost (new (turn-low c))) (c .before .before .before .before .costs-at .ensures)) ∙ e
+compared c e = sym (c .at-most .ensures ∙ ap (atMost (new (turn-low c))) (c .before .before .before .before .before .costs-at .ensures)) ∙ e
 
 -- what is to be kept, once the record's sum is no higher: by whether v is at most its costs
 passed : (c : tie.After-at-most Inv-loop μ-loop) → {b : Bool} → c .at-most .result ≡ b
@@ -75,7 +78,7 @@ passed c e =
     let a = k .before .before .before .args in
     l .inv .6
     ∙ ap (λ (r : List (List ℕ)). blocks (a .size) (l .kept) (l .plans) ++ r)
-    (pruned-turn (a .v) (l .plans) (l .from) (l .left) (a .size) (k .loop-test .taken) (l .inv .1) (no-higher (c .before)) (compared c e))
+    (pruned-turn (a .v) (l .plans) (l .from) (l .left) (a .size) (k .loop-test .taken) (l .inv .1) (no-higher (c .before .before) (c .before .if1 .taken)) (compared c e))
 
 loop-holds : tie.Need-loop-holds Inv-loop μ-loop
 loop-holds c =
@@ -87,39 +90,8 @@ loop-holds c =
 costs-at-requires : tie.Need-costs-at-requires Inv-loop μ-loop
 costs-at-requires c κs = omega (arith, step (c .before))
 
-mul-move-down : tie.Need-mul-move-down Inv-loop μ-loop
-mul-move-down c =
-    let at = turn (c .before .before) .before in
-    omega (arith, at .loop .inv .0, at .loop .inv .3, at .before .before .good)
-
-move-down-requires : tie.Need-move-down-requires Inv-loop μ-loop
-move-down-requires c κs = (omega arith, omega arith)
-
-add-result : tie.Need-add-result Inv-loop μ-loop
-add-result c =
-    let at = turn (c .before .before .before .before .before) .before in
-    omega (arith, at .loop .inv .5, at .before .before .fits .count)
-
-same-length : tie.Need-same-length Inv-loop μ-loop
-same-length c = omega (arith, turn (c .before .before .before .before .before) .before .loop .inv .0, c .before .before .move-down .kept .0)
-
-returns : tie.Need-returns Inv-loop μ-loop
-returns c =
-    let then = c .before .before .before .before in
-    let k = turn (then .before) in
-    let l = k .before .loop in
-    let a = k .before .before .before .args in
-    let size = a .size in
-    let sum = ap (λ (w : Costs). w .sum) (then .before .before .before .costs-at .ensures) in
-    let higher = lt-ltb (a .v .sum) (held k .sum) (omega (arith, then .if1 .taken)) in
-    let down : l .to ≤ l .from = omega arith in
-    let fits : l .from + l .left * size ≤ length (l .plans) = omega arith in (
-      omega arith,
-      ap (blocks size (l .kept + l .left)) (c .before .before .move-down .ensures)
-          ∙ blocks-joined size (l .plans) (l .from) (l .to) (l .kept) (l .left) (l .inv .4) down fits
-          ∙ sym (l .inv .6 ∙ ap (λ (r : List (List ℕ)). blocks size (l .kept) (l .plans) ++ r)
-          (pruned-turn (a .v) (l .plans) (l .from) (l .left) size (k .loop-test .taken) (l .inv .1) higher refl)),
-    )
+le32-requires : tie.Need-le32-requires Inv-loop μ-loop
+le32-requires c κs = tt
 
 at-most-requires : tie.Need-at-most-requires Inv-loop μ-loop
 at-most-requires c κs = tt
@@ -138,8 +110,8 @@ loop-again c =
     let less = step (turn-low (c .before)) in
     (omega arith, omega arith, omega arith, omega arith, omega arith, omega arith, passed (c .before) (c .if2 .taken))
 
-move-down-requires-2 : tie.Need-move-down-requires-2 Inv-loop μ-loop
-move-down-requires-2 c κs = let less = step (turn-low (c .before .before)) in (omega arith, omega arith)
+move-down-requires : tie.Need-move-down-requires Inv-loop μ-loop
+move-down-requires c κs = let less = step (turn-low (c .before .before)) in (omega arith, omega arith)
 
 add-to : tie.Need-add-to Inv-loop μ-loop
 add-to c = omega (arith, step (turn-kept c))
@@ -166,7 +138,7 @@ loop-again-2 c =
     let old = l .plans in
     let part = take size (drop (l .from) old) in
     let others : List ℕ → List (List ℕ) = λ t. prunedLevel (a .v) (blocks size (l .left - 1) t) in
-    let moved = c .before .before .move-down2 in
+    let moved = c .before .before .move-down in
     let same = moved .kept .0 in
     let fits : l .from + size ≤ length old = omega arith in
     let down : l .to ≤ l .from = omega arith in
@@ -183,6 +155,39 @@ loop-again-2 c =
           (blocks-moved size old (l .from) (l .to) (l .kept) (l .inv .4) down fits)
           (behind-moved size old (l .from) (l .to) (l .kept) (l .inv .4) down fits))
           ∙ ap (λ (o : List ℕ). blocks size (l .kept + 1) o ++ others (drop (l .from + size) o)) (sym (moved .ensures)),
+    )
+
+mul-move-down : tie.Need-mul-move-down Inv-loop μ-loop
+mul-move-down c =
+    let at = turn (c .before .before) .before in
+    omega (arith, at .loop .inv .0, at .loop .inv .3, at .before .before .good)
+
+move-down-requires-2 : tie.Need-move-down-requires-2 Inv-loop μ-loop
+move-down-requires-2 c κs = (omega arith, omega arith)
+
+add-result : tie.Need-add-result Inv-loop μ-loop
+add-result c =
+    let at = turn (c .before .before .before .before .before) .before in
+    omega (arith, at .loop .inv .5, at .before .before .fits .count)
+
+same-length : tie.Need-same-length Inv-loop μ-loop
+same-length c = omega (arith, turn (c .before .before .before .before .before) .before .loop .inv .0, c .before .before .move-down2 .kept .0)
+
+returns : tie.Need-returns Inv-loop μ-loop
+returns c =
+    let then = c .before .before .before .before in
+    let k = turn (then .before) in
+    let l = k .before .loop in
+    let a = k .before .before .before .args in
+    let size = a .size in
+    let higher = no-higher (then .before) (then .if1 .left) in
+    let down : l .to ≤ l .from = omega arith in
+    let fits : l .from + l .left * size ≤ length (l .plans) = omega arith in (
+      omega arith,
+      ap (blocks size (l .kept + l .left)) (c .before .before .move-down2 .ensures)
+          ∙ blocks-joined size (l .plans) (l .from) (l .to) (l .kept) (l .left) (l .inv .4) down fits
+          ∙ sym (l .inv .6 ∙ ap (λ (r : List (List ℕ)). blocks size (l .kept) (l .plans) ++ r)
+          (pruned-turn (a .v) (l .plans) (l .from) (l .left) size (k .loop-test .taken) (l .inv .1) higher refl)),
     )
 
 same-length-2 : tie.Need-same-length-2 Inv-loop μ-loop
@@ -204,22 +209,23 @@ prune-spec =
     μ-loop
     loop-holds
     costs-at-requires
-    mul-move-down
-    move-down-requires
-    add-result
-    same-length
-    returns
+    le32-requires
     at-most-requires
     add-from
     sub-left
     loop-less
     loop-again
-    move-down-requires-2
+    move-down-requires
     add-to
     add-kept
     add-from-2
     sub-left-2
     loop-less-2
     loop-again-2
+    mul-move-down
+    move-down-requires-2
+    add-result
+    same-length
+    returns
     same-length-2
     returns-2)

@@ -4,7 +4,7 @@ use mathlib.Core.Bool.{Bool, true, false, not, cond}
 use mathlib.Core.List.{List, [], _∷_, _++_, List·Memᴰ·cases-cons, List·Memᴰ·head as here}
 use mathlib.Core.Logic.{_⊎_, inl, inr, ⊎-elim}
 use Prim.Native.Nat.{ℕ, suc}
-use lib.IntN.{ℤ, pos}
+use lib.IntN.{ℤ}
 use lib.ListN.{take, drop}
 use Rattle.order.specs.Test.{by-test, clash, refute}
 use Rattle.order.specs.Lists.{_∈_, any, filter, filter-mem}
@@ -21,7 +21,7 @@ abbrev pub records : Problem ℤ (List ℕ)
 records = record {
   order = orderℤ;
   solutions = [];
-  objective = λ b. pos (costsAt b 0 .sum);
+  objective = λ b. costsAt b 0 .sum;
   ceilings = λ b. costsAt b 0 .y1 ∷ costsAt b 0 .y2 ∷ [];
   values = [];
 }

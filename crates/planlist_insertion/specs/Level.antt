@@ -4,26 +4,25 @@ use mathlib.Core.Bool.{Bool, true, false, not, cond}
 use mathlib.Core.List.{List, [], _∷_, List·Memᴰ·head as here, List·Memᴰ·tail as there}
 use Prim.Native.Nat.{ℕ, zero, suc, _≤_, _<_}
 use native.Mathlib.Omega.{arith}
-use borrow.Author.Tests.{le-ltb, ltb-false, ltb-true}
-use lib.Dec.{ltb}
 use lib.ListN.{length, drop}
-use Rattle.order.specs.Test.{by-test, clash, fails, refute}
+use lib.Signed.{leZ}
+use Rattle.order.specs.Test.{by-test, clash, refute}
 use Rattle.order.specs.Lists.{_∈_, filter, none-any}
-use Rattle.order.specs.Order.{TotalOrder, dictionary-trans, orderℤ}
+use Rattle.order.specs.Order.{TotalOrder, dictionary-trans, le-refl, leZ-trans, orderℤ}
 use Rattle.order.specs.Sorted.{Rising}
 use Rattle.frontier.specs.Frontier.{vector, vectorOrder}
 use Rattle.network.specs.Calls.{costValues}
 use Rattle.network.specs.declared.Costs.{Costs}
 use Rattle.planlist_costs.specs.Held.{costsAt}
-use Rattle.planlist_costs.specs.Orders.{atMost, inOrder, at-most-before, in-order-apart}
+use Rattle.planlist_costs.specs.Orders.{atMost, inOrder, at-most-before, in-order-higher, in-order-lower}
 use Rattle.planlist_place.specs.Place.{freePlace}
 use Rattle.planlist_pruning.specs.Pruned.{prunedLevel}
 use Rattle.planlist_insertion.specs.Insertion.{RecordsRise, coveredBy, leading, placeOf, prunedBy, records}
 
 -- records that are at most v, or that v is at most, have its sum
 pub record Level (v : Costs) (bs : List (List ℕ)) : Type 0 where
-  pub none-lower : (b : List ℕ) → b ∈ bs → atMost (costsAt b 0) v ≡ true → v .sum ≤ costsAt b 0 .sum
-  pub none-higher : (b : List ℕ) → b ∈ bs → atMost v (costsAt b 0) ≡ true → costsAt b 0 .sum ≤ v .sum
+  pub none-lower : (b : List ℕ) → b ∈ bs → atMost (costsAt b 0) v ≡ true → leZ (v .sum) (costsAt b 0 .sum) ≡ true
+  pub none-higher : (b : List ℕ) → b ∈ bs → atMost v (costsAt b 0) ≡ true → leZ (costsAt b 0 .sum) (v .sum) ≡ true
 
 -- no more members stand before the first that passes than there are
 leading-few : {A : Type 0} (p : A → Bool) (l : List A) → leading p l ≤ length l
@@ -54,15 +53,11 @@ suc-cond false m n = refl
 
 -- from a record on the sums are no lower
 sums-rise : (b : List ℕ) (bs : List (List ℕ)) → Rising (vectorOrder records) (vector records) (b ∷ bs) → (c : List ℕ) → c ∈ b ∷ bs
-    → costsAt b 0 .sum ≤ costsAt c 0 .sum
+    → leZ (costsAt b 0 .sum) (costsAt c 0 .sum) ≡ true
 unfolding inOrder
-sums-rise b bs r c (here q) = rw q (omega arith)
+sums-rise b bs r c (here q) = rw q (le-refl orderℤ (costsAt b 0 .sum))
 sums-rise b bs r c (there m) =
-    by-test (ltb (costsAt c 0 .sum) (costsAt b 0 .sum))
-    (λ d.
-    let l = ltb-true (costsAt c 0 .sum) (costsAt b 0 .sum) d in
-    clash (sym (in-order-apart (costsAt c 0) (costsAt b 0) (λ q. omega arith)) ∙ d) (r .0 c m))
-    (λ d. ltb-false (costsAt c 0 .sum) (costsAt b 0 .sum) d)
+    by-test (leZ (costsAt b 0 .sum) (costsAt c 0 .sum)) (λ d. d) (λ d. clash (in-order-lower (costsAt c 0) (costsAt b 0) d) (r .0 c m))
 
 module _ (v : Costs) where
   -- from a record on that v stands before, none is at most v
@@ -76,36 +71,32 @@ module _ (v : Costs) where
 
   -- the pass finds whether a record is at most v, and v's place
   by-one-pass : (bs : List (List ℕ)) → Rising (vectorOrder records) (vector records) bs
-      → ((b : List ℕ) → b ∈ bs → atMost (costsAt b 0) v ≡ true → v .sum ≤ costsAt b 0 .sum)
+      → ((b : List ℕ) → b ∈ bs → atMost (costsAt b 0) v ≡ true → leZ (v .sum) (costsAt b 0 .sum) ≡ true)
       → freePlace v bs ≡ cond (coveredBy v bs) (suc (length bs)) (placeOf v bs)
   unfolding freePlace coveredBy placeOf
   by-one-pass [] r h = refl
   by-one-pass (b ∷ bs) r h =
       let w = costsAt b 0 in
       let ih = ap suc (by-one-pass bs (r .1) (λ c m. h c (there m))) ∙ suc-cond (coveredBy v bs) (suc (length bs)) (placeOf v bs) in
-      by-test (ltb (w .sum) (v .sum))
-      (λ d.
-      let l = ltb-true (w .sum) (v .sum) d in
-      let e : atMost w v ≡ false = fails (atMost w v) (λ k. let g = h b (here refl) k in omega arith) in
-      let f : inOrder v w ≡ false = sym (in-order-apart v w (λ q. omega arith)) ∙ le-ltb (v .sum) (w .sum) (omega arith) in
-      rw (d, e, f) ih)
+      by-test (leZ (v .sum) (w .sum))
       (λ d. by-test (atMost w v)
       (λ e. rw (d, e) refl)
       (λ e. by-test (inOrder v w) (λ f. rw (d, e, f, free-from b bs r f)) (λ f. rw (d, e, f) ih)))
+      (λ d. rw (d, refute (atMost w v) (leZ (v .sum) (w .sum)) (h b (here refl)) d, in-order-higher v w d) ih)
 
   -- the pass that stops at a higher sum keeps what v is not at most
   pruned-early : (bs : List (List ℕ)) → Rising (vectorOrder records) (vector records) bs
-      → ((b : List ℕ) → b ∈ bs → atMost v (costsAt b 0) ≡ true → costsAt b 0 .sum ≤ v .sum) → prunedLevel v bs ≡ prunedBy v bs
+      → ((b : List ℕ) → b ∈ bs → atMost v (costsAt b 0) ≡ true → leZ (costsAt b 0 .sum) (v .sum) ≡ true) → prunedLevel v bs ≡ prunedBy v bs
   unfolding prunedLevel prunedBy
   pruned-early [] r h = refl
   pruned-early (b ∷ bs) r h =
       let ih = pruned-early bs (r .1) (λ c m. h c (there m)) in
-      by-test (ltb (v .sum) (costsAt b 0 .sum))
-      (λ d.
-      let l = ltb-true (v .sum) (costsAt b 0 .sum) d in
-      rw d (sym (filter-all (λ c. not (atMost v (costsAt c 0))) (b ∷ bs)
-      (λ c m. ap not (fails (atMost v (costsAt c 0)) (λ k. let g = h c m k in let u = sums-rise b bs r c m in omega arith))))))
-      (λ d. by-test (atMost v (costsAt b 0)) (λ e. rw (d, e) ih) (λ e. rw (d, e) (ap (λ (l : List (List ℕ)). b ∷ l) ih)))
+      let w = costsAt b 0 in
+      by-test (leZ (w .sum) (v .sum))
+      (λ d. by-test (atMost v w) (λ e. rw (d, e) ih) (λ e. rw (d, e) (ap (λ (l : List (List ℕ)). b ∷ l) ih)))
+      (λ d. rw d (sym (filter-all (λ c. not (atMost v (costsAt c 0))) (b ∷ bs)
+      (λ c m. ap not (refute (atMost v (costsAt c 0)) (leZ (w .sum) (v .sum))
+      (λ k. leZ-trans (w .sum) (costsAt c 0 .sum) (v .sum) (sums-rise b bs r c m) (h c m k)) d)))))
 
   module _ (bs : List (List ℕ)) (r : RecordsRise bs) (h : Level v bs) where
     one-pass : {t : Bool} → coveredBy v bs ≡ t → freePlace v bs ≡ cond t (suc (length bs)) (placeOf v bs)

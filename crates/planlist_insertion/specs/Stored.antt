@@ -7,6 +7,7 @@ use Prim.Native.Nat.{ℕ, suc, _-_, _≤_}
 use native.Mathlib.Omega.{arith}
 use lib.IntN.{ℤ, pos}
 use lib.ListN.{getD, length, length-append, length-map, replicate}
+use lib.Signed.{leZ}
 use Rattle.order.specs.Lists.{_∈_, map-mem}
 use Rattle.order.specs.Order.{TotalOrder, dictionaryLe, orderℤ}
 use Rattle.order.specs.Sorted.{Rising}
@@ -93,8 +94,8 @@ module _ {S : Type 0} (P : Problem ℤ S) (costs : S → Costs) (links : S → L
 
     -- the records of plans that compare with t only where they have its sum
     pub holds-level : {z n : ℕ} {bs : List ℕ} (l : List S) → Holds z n bs l → (t : S) → Padded t
-        → ((s : S) → s ∈ l → leAll (P .order) (vector P s) (vector P t) ≡ true → costs t .sum ≤ costs s .sum)
-        → ((s : S) → s ∈ l → leAll (P .order) (vector P t) (vector P s) ≡ true → costs s .sum ≤ costs t .sum)
+        → ((s : S) → s ∈ l → leAll (P .order) (vector P s) (vector P t) ≡ true → leZ (costs t .sum) (costs s .sum) ≡ true)
+        → ((s : S) → s ∈ l → leAll (P .order) (vector P t) (vector P s) ≡ true → leZ (costs s .sum) (costs t .sum) ≡ true)
         → Level (costs t) (blocks z n bs)
     holds-level l h t k low high =
         subst⁻¹ (Level (costs t)) (h .records-are)
@@ -159,5 +160,5 @@ two-entries (x ∷ y ∷ z ∷ cs) h = absurd (omega arith)
 pub costs-padded : (net : Network) (ts : List ℕ) → length (ranks net) ≤ maxCeilings → costValues (costsOf net ts) ≡ vector (yard net) ts ++ absent net
 costs-padded net ts h =
     let e = costs-length (graph net) 0 (ranks net) ts in
-    ap (λ (l : List ℤ). pos (treeSum net ts) ∷ l) (two-entries (ceilingCosts net ts) (omega arith))
+    ap (λ (l : List ℤ). treeSum net ts ∷ l) (two-entries (ceilingCosts net ts) (omega arith))
     ∙ ap (λ (k : ℕ). vector (yard net) ts ++ replicate (maxCeilings - k) (pos 0)) e

@@ -28,7 +28,7 @@ counted s = length-blocks (planSize planSlots (length (now (s .args .links)))) (
 
 -- the plan's record holds its costs
 holds : (s : tie.Start) → costsAt (planBytes (s .args .v) (now (s .args .links))) 0 ≡ s .args .v
-holds s = costs-encoded (s .args .v) (now (s .args .links)) (record { sum-fits = omega arith; y1-fits = search needs; y2-fits = search needs })
+holds s = costs-encoded (s .args .v) (now (s .args .links)) (record { sum-fits = search needs; y1-fits = search needs; y2-fits = search needs })
 
 -- the start, from where the plan's place is free
 abbrev entry : tie.Else1 → tie.Start

@@ -4,5 +4,3 @@ pub mod Range
 pub mod TwosComplement
 -- what was written is read back
 pub mod RoundTrip
--- numbers compared after they went through their bits
-pub mod Compared

@@ -3,9 +3,9 @@ use mathlib.Core.Bool.{Bool}
 use mathlib.Core.Path.{_≡_, sym, _∙_}
 use lib.Signed.{leZ}
 use mir.Syntax.{w16, w32}
-use Rattle.encoding_numbers.specs.Compared.{tested}
 use Rattle.planlist_costs.specs.Held.{Writable}
 use Rattle.planlist_costs.specs.Orders.{in-order-by, in-order-lower}
+use Rattle.planlist_costs.specs.Signed.{tested}
 use borrow.Author.Needs.{needs}
 use Rattle.planlist_costs.proofs.in_order.Statement.{statement}
 use Rattle.planlist_costs.proofs.in_order.Tie as tie

@@ -6,7 +6,6 @@ use mathlib.Core.Option.{Option, none, some}
 use mathlib.Core.Path.{_≡_, refl, sym, ap, _∙_, subst, subst⁻¹}
 use Prim.Native.Nat.{ℕ, _+_, _*_, _≤_, _<_}
 use native.Mathlib.Omega.{arith}
-use borrow.Author.Tests.{leb-true}
 use lib.IntN.{ℤ}
 use lib.ListN.{drop, getD, getD-replicate, length, length-append, replicate}
 use Rattle.order.specs.Lists.{_∈_, any-snoc}
@@ -87,10 +86,8 @@ module _ (net : Network) where
       rise = holds-rise (yard net) (costsOf net) (λ ts. ts) (absent net) refl plans (p .records) (front .rising);
       level = λ ts e.
           holds-level (yard net) (costsOf net) (λ ts. ts) (absent net) refl plans (p .records) ts (padded fine ts)
-          (λ s m h. let w = best-at s m in
-          leb-true (costsOf net ts .sum) (costsOf net s .sum) (no-lower (yard net) (getD (positions net) n []) (w .0) s ts e (w .1) h))
-          (λ s m h. let w = best-at s m in
-          leb-true (costsOf net s .sum) (costsOf net ts .sum) (no-lower (yard net) (w .0) (getD (positions net) n []) ts s (w .1) e h));
+          (λ s m h. let w = best-at s m in no-lower (yard net) (getD (positions net) n []) (w .0) s ts e (w .1) h)
+          (λ s m h. let w = best-at s m in no-lower (yard net) (w .0) (getD (positions net) n []) ts s (w .1) e h);
     }
       where
         found : List (List ℕ)

@@ -41,7 +41,8 @@ returns-2 c =
     let fits = plan .known-told .given .0 .1 .1 in
     let new = c .before .before .insert-plan .ensures in
     plan-taken (plan .before .answer .given .1)
-    (record { sum-fits = fits .0 .1; y1-fits = record { sfits = fits .1 .0 .1 }; y2-fits = record { sfits = fits .1 .1 .0 .1 } }) (new .few) (new .records-are)
+    (record { sum-fits = record { sfits = fits .0 .1 }; y1-fits = record { sfits = fits .1 .0 .1 }; y2-fits = record { sfits = fits .1 .1 .0 .1 } })
+    (new .few) (new .records-are)
 
 pub take-in-spec : {M : Type 1} → statement M
 take-in-spec =

@@ -25,7 +25,7 @@ fn magnitude(u: u32) -> u64 {
 }
 
 // A signed number in decimal.
-pub fn signed(y: i32) {
+pub fn signed32(y: i32) {
     let u = bits32(y);
     if u < 2147483648 {
         number(natural(u));
@@ -33,6 +33,10 @@ pub fn signed(y: i32) {
         text(b"-");
         number(magnitude(u));
     }
+}
+
+pub fn signed16(y: i16) {
+    signed32(y as i32);
 }
 
 // A word and a number.

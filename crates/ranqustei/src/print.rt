@@ -2,7 +2,8 @@
 use console::number;
 use console::refusal;
 use console::row;
-use console::signed;
+use console::signed16;
+use console::signed32;
 use console::text;
 use encoding_numbers::read::read_u16;
 use encoding_numbers::read::read_u32;
@@ -19,14 +20,14 @@ use planner::list;
 
 // The sum and the present ceiling costs.
 fn costs(v: Costs, p: u8) {
-    signed(v.sum);
+    signed32(v.sum);
     if 0 < p {
         text(b" ");
-        signed(v.y1 as i32);
+        signed16(v.y1);
     }
     if 1 < p {
         text(b" ");
-        signed(v.y2 as i32);
+        signed16(v.y2);
     }
 }
 

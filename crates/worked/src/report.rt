@@ -1,7 +1,8 @@
 // The replies as text.
 use console::item;
 use console::refusal;
-use console::signed;
+use console::signed16;
+use console::signed32;
 use console::text;
 use network::Answer;
 use network::Costs;
@@ -10,12 +11,12 @@ use network::Status;
 // A space and a ceiling cost.
 fn ceiling(y: i16) {
     text(b" ");
-    signed(y as i32);
+    signed16(y);
 }
 
 // The sum, y1 and y2.
 fn costs(v: Costs) {
-    signed(v.sum);
+    signed32(v.sum);
     ceiling(v.y1);
     ceiling(v.y2);
 }

@@ -16,7 +16,7 @@ enum-known-answer-2 c = search needs
 returns : tie.Need-returns
 returns c =
     let v = c .before .before .answer .given .0 .0 in
-    let sum = toZ-ofZ {w = w32} {z = v .sum} (record { sfits = c .struct-told .given .1 .0 .1 }) in
+    let sum = toZ-ofZ {w = w32} {z = v .sum} (record { sfits = c .struct-told .given .0 .1 }) in
     let y1 = toZ-ofZ {w = w16} {z = v .y1} (record { sfits = c .struct-told .given .1 .0 .1 }) in
     let y2 = toZ-ofZ {w = w16} {z = v .y2} (record { sfits = c .struct-told .given .1 .1 .0 .1 }) in
     (λ i. record { number = 0; place = 0; sum = sum i; y1 = y1 i; y2 = y2 i })

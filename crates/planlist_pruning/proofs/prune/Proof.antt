@@ -8,9 +8,9 @@ use native.Mathlib.Omega.{arith}
 use native.Mathlib.Nat.{zero-mul, suc-mul}
 use native.Mathlib.Numerals.{add-one}
 use lib.ListN.{length, take, drop}
+use lib.Seq.{append-snoc}
 use lib.Signed.{leZ}
 use mir.Syntax.{w32}
-use lib.Seq.{append-snoc}
 use denote.Ref.{now}
 use Rattle.network.specs.PlanList.{planSize, planSlots}
 use Rattle.network.specs.declared.Costs.{Costs}
@@ -78,7 +78,8 @@ passed c e =
     let a = k .before .before .before .args in
     l .inv .6
     ∙ ap (λ (r : List (List ℕ)). blocks (a .size) (l .kept) (l .plans) ++ r)
-    (pruned-turn (a .v) (l .plans) (l .from) (l .left) (a .size) (k .loop-test .taken) (l .inv .1) (no-higher (c .before .before) (c .before .if1 .taken)) (compared c e))
+    (pruned-turn (a .v) (l .plans) (l .from) (l .left) (a .size) (k .loop-test .taken) (l .inv .1)
+    (no-higher (c .before .before) (c .before .if1 .taken)) (compared c e))
 
 loop-holds : tie.Need-loop-holds Inv-loop μ-loop
 loop-holds c =

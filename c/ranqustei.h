@@ -101,7 +101,7 @@ enum {
     RANQUSTEI_BAD_RANK = 6,
     /* An end of a link (place) is no station, or both its ends are the same. */
     RANQUSTEI_BAD_ENDS = 7,
-    /* The sum cost of a link (place) is not -1,000,000 to 1,000,000, or its cost of an absent ceiling is not 0. */
+    /* The sum cost of a link (place) is outside -1,000,000 to 1,000,000, or its cost of an absent ceiling is not 0. */
     RANQUSTEI_BAD_COSTS = 8,
     /* The tree buffer has fewer than t bytes, or the list buffer fewer than 10 + M * (10 + t). */
     RANQUSTEI_SHORT_BUFFER = 9,

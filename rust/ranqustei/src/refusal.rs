@@ -37,7 +37,7 @@ pub enum Cause {
     Rank,
     /// 7: a link end is no station, or both ends are equal.
     Ends,
-    /// 8: a sum is not -1,000,000 to 1,000,000, or an absent ceiling has a cost.
+    /// 8: a sum is outside -1,000,000 to 1,000,000, or an absent ceiling has a cost.
     Figures,
     /// 9: the list buffer or the tree buffer is too short.
     Buffer,

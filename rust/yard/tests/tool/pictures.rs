@@ -3,13 +3,13 @@
 use crate::tool::{repository, run, text_a};
 
 /// Holds a picture of the documents against what the tool draws.
-fn check(words: &[&str], picture: &str) {
-    let file = repository("examples/yards/orchard.txt");
-    let drawn = run(&[&words[..1], &[file.as_str()], &words[1..]].concat(), "")
-        .expect("the orchard is drawn");
+fn check(words: &[&str], yard: &str, picture: &str) {
+    let file = repository(yard);
+    let drawn =
+        run(&[&words[..1], &[file.as_str()], &words[1..]].concat(), "").expect("the yard is drawn");
     let kept = std::fs::read_to_string(repository(picture)).expect("the picture is there");
     let make = format!(
-        "yard {} examples/yards/orchard.txt {} -o {picture}",
+        "yard {} {yard} {} -o {picture}",
         words[0],
         words[1..].join(" ")
     );
@@ -21,8 +21,15 @@ fn check(words: &[&str], picture: &str) {
 
 #[test]
 fn pictures_of_the_documents() {
-    check(&["draw", "--plan", "5"], "docs/pictures/orchard-plan.svg");
-    check(&["frontier"], "docs/pictures/orchard-frontier.svg");
+    let [orchard, solar] = ["orchard", "solar"].map(|yard| format!("examples/yards/{yard}.txt"));
+    let plan = ["draw", "--plan", "5"];
+    check(&plan, &orchard, "docs/pictures/orchard-plan.svg");
+    check(
+        &["frontier"],
+        &orchard,
+        "docs/pictures/orchard-frontier.svg",
+    );
+    check(&["frontier"], &solar, "docs/pictures/solar-frontier.svg");
 }
 
 /// Draws a yard both ways; the pictures have numbers alone as coordinates.

@@ -2,7 +2,7 @@
 use mathlib.Core.Path.{ap, _∙_}
 use borrow.Author.Needs.{needs}
 use mir.Facts.{toZ-ofZ}
-use Rattle.capi.specs.Replies.{flatReply}
+use Rattle.capi_reply.specs.Replies.{flatReply}
 use Rattle.capi.proofs.ranqustei_best.Statement.{statement}
 use Rattle.capi.proofs.ranqustei_best.Tie as tie
 

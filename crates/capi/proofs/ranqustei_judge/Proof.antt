@@ -1,7 +1,7 @@
 -- `capi::ranqustei_judge` meets its contract: the answer says what the judge's definition does.
 use mathlib.Core.Path.{ap, _∙_}
 use borrow.Author.Needs.{needs}
-use Rattle.capi.specs.Replies.{flatReply}
+use Rattle.capi_reply.specs.Replies.{flatReply}
 use Rattle.capi.proofs.ranqustei_judge.Statement.{statement}
 use Rattle.capi.proofs.ranqustei_judge.Tie as tie
 

@@ -1,11 +1,11 @@
--- `capi::flat` meets its contract. A signed number that fits its width is passed on as it is.
+-- `capi_reply::flat` meets its contract. A signed number that fits its width is passed on as it is.
 use mathlib.Core.Path.{_∙_}
 use borrow.Author.Needs.{needs}
 use mir.Facts.{toZ-ofZ}
 use mir.Syntax.{w16, w32}
-use Rattle.capi.specs.Replies.{flat-plan, flat-refused}
-use Rattle.capi.proofs.flat.Statement.{statement}
-use Rattle.capi.proofs.flat.Tie as tie
+use Rattle.capi_reply.specs.Replies.{flat-plan, flat-refused}
+use Rattle.capi_reply.proofs.flat.Statement.{statement}
+use Rattle.capi_reply.proofs.flat.Tie as tie
 
 enum-known-answer : tie.Need-enum-known-answer
 enum-known-answer c = search needs

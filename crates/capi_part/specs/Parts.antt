@@ -1,4 +1,4 @@
--- The replies of document 01 as C sees them: plain numbers in a struct.
+-- What fetching replies to C: a number, and the part of the list that holds the links.
 use mathlib.Core.List.{List}
 use mathlib.Core.Logic.{inl, inr}
 use mathlib.Core.Path.{_≡_, ap, ap₂, sym, _∙_}
@@ -6,50 +6,18 @@ use Prim.Native.Nat.{ℕ, _+_, _≤_}
 use native.Mathlib.Omega.{arith}
 use borrow.Author.Tests.{eqb-false, eqb-true}
 use lib.Dec.{eqb}
-use lib.IntN.{ℤ, pos}
-use lib.ListN.{drop, getD, length, length-drop, take}
+use lib.ListN.{drop, length, length-drop, take}
 use lib.Seq.{length-take-le}
 use Rattle.order.specs.Test.{decide}
-use Rattle.network.specs.Calls.{Reply as Answered, says}
 use Rattle.network.specs.Fetching.{fetchLinks, fetchNumber, fetchStart, linksStart, headTreeSize}
-use Rattle.network.specs.declared.Answer.{Answer}
-use Rattle.network.specs.declared.Answer.the-variants.{Plan, Refused}
-use Rattle.network.specs.declared.Costs.{Costs}
-use Rattle.network.specs.declared.Refusal.{Refusal}
 use Rattle.network.specs.Promise.{LinksKept, NumberKept}
-use Rattle.planner_fetch.specs.Archive.{links-kept, number-kept}
 use Rattle.planlist_fetching.specs.Fetched.{found, links-found, links-none, plan-inside, start-found, start-none}
-use Rattle.capi.specs.declared.Reply.{Reply}
-use Rattle.capi.specs.declared.Part.{Part}
-
--- the version of the calls that C sees
-abbrev pub version : ℕ
-version = 2
-
--- value i of a reply: the plan's sum, y1 or y2; 0 where the reply is a refusal
-abbrev pub valueAt : Answered → ℕ → ℤ
-valueAt a i = getD (a .values) i (pos 0)
-
--- the reply of the judge or of the ceilings question: number, place and the plan's costs, which are 0 on a refusal
-unfoldable pub flatReply : Answered → Reply
-flatReply a = record { number = a .number; place = a .place; sum = valueAt a 0; y1 = valueAt a 1; y2 = valueAt a 2 }
+use Rattle.planner_fetch.specs.Archive.{links-kept, number-kept}
+use Rattle.capi_part.specs.declared.Part.{Part}
 
 -- the reply of fetching: the number, and where the link bytes are in the list
 unfoldable pub partOf : List ℕ → ℕ → Part
 partOf list r = record { number = fetchNumber list r; start = fetchStart list r; count = length (fetchLinks list r) }
-
--- ---- the two cases of an answer
-
-pub flat-plan : (a : Answer) (v : Costs) → a ≡ Plan v → record { number = 0; place = 0; sum = v .sum; y1 = v .y1; y2 = v .y2 } ≡ flatReply (says a)
-unfolding flatReply says
-flat-plan a v e = rw e
-
-pub flat-refused : (a : Answer) (r : Refusal) → a ≡ Refused r
-    → record { number = r .number; place = r .place; sum = pos 0; y1 = pos 0; y2 = pos 0 } ≡ flatReply (says a)
-unfolding flatReply says
-flat-refused a r e = rw e
-
--- ---- the part of a list
 
 -- field by field
 pub flat-part : (list : List ℕ) (r : ℕ) {number start : ℕ} {links : List ℕ} → number ≡ fetchNumber list r → start ≡ fetchStart list r

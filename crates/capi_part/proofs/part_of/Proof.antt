@@ -1,8 +1,8 @@
--- `capi::ranqustei_fetch` meets its contract, field by field.
+-- `capi_part::part_of` meets its contract, field by field.
 use borrow.Author.Needs.{needs}
-use Rattle.capi.specs.Replies.{flat-part, part-of}
-use Rattle.capi.proofs.ranqustei_fetch.Statement.{statement}
-use Rattle.capi.proofs.ranqustei_fetch.Tie as tie
+use Rattle.capi_part.specs.Parts.{flat-part, part-of}
+use Rattle.capi_part.proofs.part_of.Statement.{statement}
+use Rattle.capi_part.proofs.part_of.Tie as tie
 
 fetch-number-requires : tie.Need-fetch-number-requires
 fetch-number-requires c κs = search needs
@@ -21,5 +21,5 @@ returns c =
     let fields = flat-part _ _ number start links in
     (fields, part-of _ _ fields)
 
-pub ranqustei-fetch-spec : {M : Type 1} → statement M
-ranqustei-fetch-spec = tie.close (tie.spec fetch-number-requires fetch-start-requires fetch-links-requires returns)
+pub part-of-spec : {M : Type 1} → statement M
+part-of-spec = tie.close (tie.spec fetch-number-requires fetch-start-requires fetch-links-requires returns)

@@ -1,0 +1,2 @@
+-- the part that fetching names
+pub mod Parts

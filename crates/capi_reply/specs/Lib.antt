@@ -1,0 +1,2 @@
+-- replies as plain numbers
+pub mod Replies

@@ -6,7 +6,7 @@ ghost use mathlib.Core.List.{foldl};
 ghost use Rattle.network.specs.Limits.{maxLinks};
 ghost use Rattle.kruskal.specs.Tree.{Columns, Light, Walkable, bare, linked};
 
-// A forest of links: its groups, a flag for each link, the sum of the costs of its links, and their number.
+// A forest of links: its groups, a flag for each link, the sum of the raised costs of its links, and their number.
 pub struct Tree {
     pub forest: Forest,
     pub taken: [bool; MAX_LINKS],

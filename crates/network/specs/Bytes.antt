@@ -20,7 +20,8 @@ u16At bs i = byteAt bs i + byteAt bs (i + 1) * 256
 abbrev pub u32At : List ℕ → ℕ → ℕ
 u32At bs i = u16At bs i + u16At bs (i + 2) * 65536
 
--- the number that bits of a width mean in two's complement: of 16 bits, u below 32,768, and u - 65,536 from there on
+-- the number that the bits u of a width mean in two's complement: u in the lower half of the range, and in the upper half u less the size of the
+-- range, which is 65,536 for 16 bits
 unfoldable pub signed : Width → ℕ → ℤ
 signed w u = toZ w u
 

@@ -30,10 +30,11 @@ maxPatterns = 2 ^ maxCeilings
 abbrev pub maxSum : ℕ
 maxSum = 1_000_000
 
+-- the lowest of them
 abbrev pub minSum : ℤ
 minSum = negℤ (pos maxSum)
 
--- a sum cost raised by 1,000,000, so that none is below 0: room in the search, and no figure of document 01
+-- the most that a sum cost is when it is raised by 1,000,000, so that none is below 0; no figure of document 01
 abbrev pub maxRaised : ℕ
 maxRaised = 2 * maxSum
 

@@ -19,7 +19,7 @@ use Rattle.planning.specs.Grid.{values-few}
 use Rattle.network.specs.Limits.{maxCeilings, maxLinks, maxPlans, maxRaised, maxStations, maxSum, maxTree}
 use Rattle.network.specs.Bytes.{byteAt, signed, u16At}
 use Rattle.network.specs.Column.{column, column-at, column-length}
-use Rattle.network.specs.Survey.{ceilingsIn, costIn, costsIn, endIn, endsIn, layoutOf, linkCount, linkStart, networkOf, networkWith, sumsIn}
+use Rattle.network.specs.Survey.{ceilingsIn, costIn, costsIn, endIn, endsIn, layoutOf, linkCount, linkStart, networkOf, networkWith}
 use Rattle.network.specs.Refusals.{absentCost, anyBadRank, badPresent, badRank, badRanks, checkedOf}
 use Rattle.network.specs.Yard.{graph, ranks, sumAt, treeSize}
 use Rattle.network.specs.Walk.{positionCount}

@@ -1,5 +1,5 @@
 -- Sum costs are kept raised by 1,000,000. What was raised is got back, so the sum cost of a link in the network is the one that the survey says.
-use Prim.Native.Nat.{ℕ, suc, _≤_, _<_}
+use Prim.Native.Nat.{ℕ, suc, _-_, _≤_, _<_}
 use mathlib.Core.Path.{_≡_, refl, sym, ap, _∙_}
 use mathlib.Core.Bool.{false}
 use mathlib.Core.List.{List}
@@ -18,30 +18,30 @@ use Rattle.network.specs.Accepted.{Accepted, accepted, layout-roomy, or-
 use Rattle.network.specs.declared.Checked.the-variants.{Fine}
 use Rattle.network.specs.declared.Layout.{Layout}
 
--- a sum cost in its range is at most 2,000,000 when raised,
+-- a sum cost in its range is at most 2,000,000 when raised
 pub raised-small : (z : ℤ) → badSum z ≡ false → raised z ≤ maxRaised
 unfolding badSum raised
 raised-small (pos n) e = let high = ltb-false maxSum n e in omega arith
 raised-small (negsuc n) e = omega arith
 
--- which is its sum with 1,000,000,
+-- raising adds 1,000,000
 pub raised-sum : (z : ℤ) → badSum z ≡ false → z +ℤ pos maxSum ≡ pos (raised z)
 unfolding badSum raised
 raised-sum (pos n) e = refl
 raised-sum (negsuc n) e =
-    let low = ltb-false 999_999 n (or-false (ltb 999_999 n) false e .0) in
+    let low = ltb-false (maxSum - 1) n (or-false (ltb (maxSum - 1) n) false e .0) in
     sub-above maxSum (suc n) (omega arith)
 
--- and is the raised one less 1,000,000
+-- 1,000,000 less than the raised sum cost is the sum cost
 raised-back : (z : ℤ) → badSum z ≡ false → subℕ (raised z) maxSum ≡ z
 raised-back z e = ap (λ (r : ℤ). r -ℤ pos maxSum) (sym (raised-sum z e)) ∙ +ℤ-negℤ-cancel z (pos maxSum)
 
--- in the column stands the raised sum cost of each link
+-- entry i of the column is the raised sum cost of link i
 pub raised-at : (s : List ℕ) (l : Layout) (m : ℕ) → m ≤ maxLinks → (i : ℕ) → i < m → getD (sumsIn l s m) i 0 ≡ raised (sumIn s (linkStart l i))
 unfolding sumsIn
 raised-at s l m few i h = column-at maxLinks 0 (λ i. raised (sumIn s (linkStart l i))) m i h few 0
 
--- which has room for all links
+-- the column has room for all links
 pub sums-length : (l : Layout) (s : List ℕ) (m : ℕ) → length (sumsIn l s m) ≡ maxLinks
 unfolding sumsIn
 sums-length l s m = column-length maxLinks 0 (λ i. raised (sumIn s (linkStart l i))) m

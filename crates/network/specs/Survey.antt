@@ -4,10 +4,10 @@ use mathlib.Core.List.{List, [], _∷_}
 use Prim.Native.Nat.{ℕ, suc, _+_, _-_, _*_, _/_, _%_}
 use lib.IntN.{ℤ, negsuc, pos}
 use lib.ListN.{length}
+use mir.Syntax.{w16}
 use Rattle.network.specs.Limits.{maxCeilings, maxLinks, maxSum}
 use Rattle.network.specs.Bytes.{byteAt, i32At, markAt, signed, u16At}
 use Rattle.network.specs.Column.{column}
-use mir.Syntax.{w16}
 use Rattle.network.specs.declared.Layout.{Layout}
 use Rattle.network.specs.declared.Network.{Network}
 
@@ -89,7 +89,7 @@ costIn s at j = signed w16 (costBitsIn s at j)
 unfoldable pub endsIn : Layout → List ℕ → ℕ → List ℕ
 endsIn l s count = column (2 * maxLinks) 0 (λ q. endIn s (linkStart l (q / 2)) (q % 2)) count
 
--- a sum cost raised by 1,000,000: 0 for the lowest one allowed
+-- a sum cost raised by 1,000,000; 0 for the lowest one allowed, and for those below it, which number 8 declines
 unfoldable pub raised : ℤ → ℕ
 raised (pos n) = n + maxSum
 raised (negsuc n) = maxSum - suc n

@@ -154,8 +154,8 @@ abbrev listA : List ℕ
 listA = list 2 3 2 1 (two (plan 4 9 0 (two 1 2)) (plan 7 7 0 (two 0 1)))
 
 -- P1 to P12, in their order; P1 is two rows (the list in the 46 bytes that the buffer needs, and the whole output), and P12 is two. Then both
--- ranks may be 2: P13, P14 whose tree has one link above both bounds, P15 whose tree has two, one above each, and P16 in three rows. Then sum costs may be negative: P17
--- in two rows, P18 to P20, and P21 on the sum costs that pass
+-- ranks may be 2: P13, P14 whose tree has one link above both bounds, P15 whose tree has two, one above each, and P16 in three rows. Then sum costs
+-- may be negative: P17 in two rows, P18 to P20, and P21 on the sum costs that pass
 pub table : List Row
 table =
     lists (A 1) (two (two 1 2) (two 0 1)) 3 46 listA

@@ -19,9 +19,9 @@ pub const MAX_SLACK: usize = 2;
 pub const MAX_PATTERNS: usize = 1 << MAX_CEILINGS;
 
 // The sum cost of a link.
-pub const MIN_SUM: i32 = -1000000;
-
 pub const MAX_SUM: i32 = 1000000;
+
+pub const MIN_SUM: i32 = -MAX_SUM;
 
 // Links of a tree.
 pub const MAX_TREE: usize = MAX_STATIONS - 1;

@@ -69,7 +69,8 @@ module _ (G : Graph) where
   NoWorse us ts = sumOrder .le (sumKey us) (sumKey ts) ≡ true
 
   -- THE TIE RULE for signed sums: of equally many links, the smaller sum and then dictionary order is the smaller weight and then dictionary order
-  pub by-weight : Sound G → (us ts : List ℕ) → length us ≡ length ts → sumOrder .le (sumKey us) (sumKey ts) ≡ treeOrder .le (treeKey weight us) (treeKey weight ts)
+  pub by-weight : Sound G → (us ts : List ℕ) → length us ≡ length ts
+      → sumOrder .le (sumKey us) (sumKey ts) ≡ treeOrder .le (treeKey weight us) (treeKey weight ts)
   by-weight S us ts e = rw (S .weighs us ts e, S .weighs ts us (sym e))
 
   -- the ceiling costs i, i + 1, .. of a tree, of the ranks js

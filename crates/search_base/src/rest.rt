@@ -7,7 +7,7 @@ ghost use Rattle.network.specs.Limits.{maxLinks};
 ghost use Rattle.kruskal.specs.Tree.{Walkable};
 ghost use Rattle.search_base.specs.Rest.{losesTo, restOf};
 
-// What a tree of `goal` links takes of the base beside a set: whether the base has as many links, and the least that so many cost.
+// What a tree of `goal` links takes of the base beside a set: whether the base has as many links, and the least that so many cost, raised.
 pub struct Rest {
     pub goal: u8,
     pub enough: bool,

@@ -5,7 +5,7 @@ use network::limits::MAX_LINKS;
 ghost use mathlib.Core.Path.{_≡_};
 ghost use Rattle.search_best.specs.Search.{beats, offered};
 
-// The best tree so far, if one was found: its sum and a flag for each link.
+// The best tree so far, if one was found: its raised sum and a flag for each link.
 pub struct Best {
     pub found: bool,
     pub sum: u32,

@@ -182,7 +182,7 @@ module _ (net : Network) (fine : NetworkFine net) where
           rank = λ q. rw (links .size) (rank-at i q);
         }
 
-    -- each of their raised sum costs is at most 2,000,000
+    -- their raised sum costs add up to no more than those of 40 links can
     pub sum-small : sumOf (net .sums) ts ≤ maxLinks * maxRaised
     unfolding sumOf
     sum-small =

@@ -2,7 +2,7 @@
 
 use crate::draft::{Draft, LinkDraft};
 use crate::rng::Rng;
-use crate::sums::{HIGHEST, LOWEST, OUTSIDE};
+use crate::sums::LIMITS_AND_OUTSIDE;
 
 /// The kinds of damage to the fields of a survey.
 const FIELD_DAMAGES: [fn(&mut Draft, &mut Rng); 12] = [
@@ -57,7 +57,7 @@ pub fn cuts_and_flips(survey: &[u8]) -> Vec<Vec<u8>> {
 pub fn sums_at_limits(draft: &Draft) -> Vec<Vec<u8>> {
     let mut surveys = Vec::new();
     for link in 0..draft.links.len() {
-        for sum in [LOWEST, HIGHEST].into_iter().chain(OUTSIDE) {
+        for sum in LIMITS_AND_OUTSIDE {
             let mut draft = draft.clone();
             draft.links[link].sum = sum;
             surveys.push(draft.bytes());
@@ -117,8 +117,7 @@ fn equal_ends(draft: &mut Draft, rng: &mut Rng) {
 }
 
 fn sum(draft: &mut Draft, rng: &mut Rng) {
-    let [below, above, first, last] = OUTSIDE;
-    let sum = rng.pick(&[LOWEST, HIGHEST, below, above, first, last]);
+    let sum = rng.pick(&LIMITS_AND_OUTSIDE);
     if let Some(link) = any_link(draft, rng) {
         link.sum = sum;
     }

@@ -12,6 +12,12 @@ pub const HIGHEST: i32 = 1_000_000;
 /// Sum costs that are refused: those next to the legal ones, and the ends of four bytes.
 pub const OUTSIDE: [i32; 4] = [LOWEST - 1, HIGHEST + 1, i32::MIN, i32::MAX];
 
+/// Both limits, and the sum costs that are refused.
+pub const LIMITS_AND_OUTSIDE: [i32; 6] = {
+    let [below, above, first, last] = OUTSIDE;
+    [LOWEST, HIGHEST, below, above, first, last]
+};
+
 /// A sort of yards: its name, and whether a yard with these sum costs is of it.
 type Sort = (&'static str, fn(&[i32]) -> bool);
 

@@ -222,8 +222,8 @@ fn put_limit(sums: &mut [i64], signs: Signs, rng: &mut Rng) {
     }
 }
 
-/// Costs that share out between the ceilings what a link lacks of the highest sum, which is most
-/// for the least sum.
+/// Costs that share out between the ceilings how far a link's sum is below the highest: the lower
+/// the sum, the higher the costs. `least` is the lowest sum that may occur.
 fn opposed(sums: &[i64], least: i64, rng: &mut Rng) -> [Vec<i64>; 2] {
     let shares = numbers(sums.len(), || rng.within(0..=1000));
     let unit = (HIGHEST - least) * 31 / 1000;

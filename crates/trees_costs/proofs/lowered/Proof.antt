@@ -1,7 +1,7 @@
 -- `trees_costs::lowered` meets its contract. Both numbers are in the lower half of 32 bits, and so is their difference.
 use Prim.Native.Nat.{_^_, _*_, _<_}
 use borrow.Author.Needs.{needs}
-use mathlib.Core.Path.{_≡_, refl, ap, ap₂, _∙_}
+use mathlib.Core.Path.{_≡_, ap, ap₂, _∙_}
 use native.Mathlib.Nat.{mul-le-mul-right}
 use native.Mathlib.Omega.{arith}
 use lib.IntN.{pos, _*ℤ_, _-ℤ_}
@@ -19,12 +19,12 @@ low : (c : tie.Start) → (c .args .raised < 2 ^ hbits w32) × (c .args .count *
 low c = (omega (arith, c .pre .0), omega (arith, mul-le-mul-right maxSum (c .pre .1)))
 
 -- what is taken off
-product : (c : tie.Start) → toZ w32 (c .args .count) *ℤ toZ w32 1_000_000 ≡ pos (c .args .count * maxSum)
+product : (c : tie.Start) → toZ w32 (c .args .count) *ℤ toZ w32 maxSum ≡ pos (c .args .count * maxSum)
 product c = ap (λ z. z *ℤ pos maxSum) (toZ-pos w32 (c .args .count) (omega (arith, c .pre .1)))
 
 -- what is left
 difference : (c : tie.Start)
-    → toZ w32 (c .args .raised) -ℤ toZ w32 (ofZ w32 (toZ w32 (c .args .count) *ℤ toZ w32 1_000_000)) ≡ loweredSum (c .args .raised) (c .args .count)
+    → toZ w32 (c .args .raised) -ℤ toZ w32 (ofZ w32 (toZ w32 (c .args .count) *ℤ toZ w32 maxSum)) ≡ loweredSum (c .args .raised) (c .args .count)
 unfolding loweredSum
 difference c =
     ap₂ _-ℤ_ (toZ-pos w32 (c .args .raised) (low c .0)) (ap (λ z. toZ w32 (ofZ w32 z)) (product c) ∙ toZ-pos w32 (c .args .count * maxSum) (low c .1))

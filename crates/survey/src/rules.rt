@@ -1,7 +1,7 @@
 // The rules that a survey alone must keep, in the order of their numbers: its length, the yard record, the link records.
 use network::Checked;
 use network::Layout;
-use survey_layout::checks::refuse_if;
+use survey_checks::refuse_if;
 use survey_layout::layout::bad_length;
 use survey_links::check_links;
 use survey_yard::check_yard;

@@ -1,4 +1,3 @@
-// Where the records of a survey and their fields stand, and the first refusal of several checks.
-pub mod checks;
+// Where the records of a survey and their fields stand.
 pub mod fields;
 pub mod layout;

@@ -1,2 +1,2 @@
--- the ranks of the yard record, and the loop over them
+-- the ranks of the yard record
 pub mod Ranks

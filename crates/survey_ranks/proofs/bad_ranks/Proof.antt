@@ -1,8 +1,8 @@
--- `survey_yard::bad_ranks` meets its contract. By what `any_bad_rank` and `slack_of` ensure.
+-- `survey_ranks::bad_ranks` meets its contract. By what `any_bad_rank` and `slack_of` ensure.
 use borrow.Author.Needs.{needs}
 use Rattle.network.specs.Refusals.{badRanks}
-use Rattle.survey_yard.proofs.bad_ranks.Statement.{statement}
-use Rattle.survey_yard.proofs.bad_ranks.Tie as tie
+use Rattle.survey_ranks.proofs.bad_ranks.Statement.{statement}
+use Rattle.survey_ranks.proofs.bad_ranks.Tie as tie
 
 any-bad-rank-requires : tie.Need-any-bad-rank-requires
 any-bad-rank-requires c κs = search needs

@@ -1,7 +1,7 @@
--- `survey_yard::bad_rank` meets its contract. By what `is_outside` ensures.
+-- `survey_rank::bad_rank` meets its contract. By what `is_outside` ensures.
 use borrow.Author.Needs.{needs}
-use Rattle.survey_yard.proofs.bad_rank.Statement.{statement}
-use Rattle.survey_yard.proofs.bad_rank.Tie as tie
+use Rattle.survey_rank.proofs.bad_rank.Statement.{statement}
+use Rattle.survey_rank.proofs.bad_rank.Tie as tie
 
 is-outside-requires : tie.Need-is-outside-requires
 is-outside-requires c κs = search needs

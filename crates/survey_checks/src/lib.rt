@@ -1,8 +1,16 @@
-// The first refusal of several checks.
+// What the rules of several records use: a number outside its range, and the first refusal of several checks.
 use network::Checked;
 use network::Refusal;
 ghost use mathlib.Core.Path.{_≡_};
 ghost use Rattle.network.specs.Checked.{refuseIf, _orElse_};
+ghost use Rattle.network.specs.Refusals.{outside};
+
+// Whether x is not from low to high.
+pub fn is_outside(x: u8, low: u8, high: u8) -> bool
+    ensures { λ r. ⌜ r ≡ outside x low high ⌝ }
+{
+    (x < low) | (high < x)
+}
 
 // The refusal where `bad` holds.
 pub fn refuse_if(bad: bool, number: u8, place: u8) -> Checked

@@ -1,8 +1,8 @@
--- `survey_layout::checks::or_refuse_if` meets its contract. By the case of what was found so far.
+-- `survey_checks::or_refuse_if` meets its contract. By the case of what was found so far.
 use borrow.Author.Needs.{needs}
 use Rattle.network.specs.Checked.{_orElse_}
-use Rattle.survey_layout.proofs.checks.or_refuse_if.Statement.{statement}
-use Rattle.survey_layout.proofs.checks.or_refuse_if.Tie as tie
+use Rattle.survey_checks.proofs.or_refuse_if.Statement.{statement}
+use Rattle.survey_checks.proofs.or_refuse_if.Tie as tie
 
 enum-told : tie.Need-enum-told
 enum-told c = search needs

@@ -1,13 +1,13 @@
--- `survey_yard::any_bad_rank` meets its contract. What was found so far, or is found in what is left, is what is found in all.
+-- `survey_ranks::any_bad_rank` meets its contract. What was found so far, or is found in what is left, is what is found in all.
 use Prim.Native.Nat.{_-_, _≤_}
 use mathlib.Core.Path.{_≡_, refl}
 use native.Mathlib.Omega.{arith}
 use borrow.Author.Needs.{needs}
 use lib.ListN.{length}
 use Rattle.network.specs.Refusals.{anyBadRank}
-use Rattle.survey_yard.specs.Ranks.{bad-end, bad-turn, badFrom}
-use Rattle.survey_yard.proofs.any_bad_rank.Statement.{statement}
-use Rattle.survey_yard.proofs.any_bad_rank.Tie as tie
+use Rattle.survey_ranks.specs.Tried.{bad-end, bad-turn, badFrom}
+use Rattle.survey_ranks.proofs.any_bad_rank.Statement.{statement}
+use Rattle.survey_ranks.proofs.any_bad_rank.Tie as tie
 
 abbrev Inv-loop : tie.InvT-loop
 Inv-loop n p ks bad₀ j₀ j-end bad j = (j-end ≡ length ks) × (badFrom bad n p ks j ≡ anyBadRank n p 0 ks)

@@ -1,7 +1,7 @@
--- `survey_layout::checks::refuse_if` meets its contract. By the test.
+-- `survey_checks::refuse_if` meets its contract. By the test.
 use Rattle.network.specs.Checked.{refuseIf}
-use Rattle.survey_layout.proofs.checks.refuse_if.Statement.{statement}
-use Rattle.survey_layout.proofs.checks.refuse_if.Tie as tie
+use Rattle.survey_checks.proofs.refuse_if.Statement.{statement}
+use Rattle.survey_checks.proofs.refuse_if.Tie as tie
 
 returns : tie.Need-returns
 unfolding refuseIf

@@ -1,0 +1,2 @@
+-- the loop over the ranks
+pub mod Tried

@@ -1,9 +1,9 @@
--- `survey_links::bad_ends` meets its contract. The first end stands where the ends begin.
+-- `survey_ends::bad_ends` meets its contract. The first end stands where the ends begin.
 use Prim.Native.Nat.{_+_}
 use borrow.Author.Needs.{needs}
 use native.Mathlib.Nat.{add-zero}
-use Rattle.survey_links.proofs.bad_ends.Statement.{statement}
-use Rattle.survey_links.proofs.bad_ends.Tie as tie
+use Rattle.survey_ends.proofs.bad_ends.Statement.{statement}
+use Rattle.survey_ends.proofs.bad_ends.Tie as tie
 
 add-a : tie.Need-add-a
 add-a c = search needs

@@ -1,7 +1,7 @@
--- `survey_links::absent_cost` meets its contract. By what the reader of two bytes ensures.
+-- `survey_costs::absent_cost` meets its contract. By what the reader of two bytes ensures.
 use borrow.Author.Needs.{needs}
-use Rattle.survey_links.proofs.absent_cost.Statement.{statement}
-use Rattle.survey_links.proofs.absent_cost.Tie as tie
+use Rattle.survey_costs.proofs.absent_cost.Statement.{statement}
+use Rattle.survey_costs.proofs.absent_cost.Tie as tie
 
 add-read-u16 : tie.Need-add-read-u16
 add-read-u16 c = search needs

@@ -1,10 +1,10 @@
--- `survey_links::bad_sum` meets its contract. The limits are those of the definition.
+-- `survey_costs::bad_sum` meets its contract. The limits are those of the definition.
 use mathlib.Core.Path.{ap}
 use mir.Syntax.{w32}
 use mir.ValLaws.{toZ-ofZ}
 use Rattle.network.specs.Refusals.{badSum}
-use Rattle.survey_links.proofs.bad_sum.Statement.{statement}
-use Rattle.survey_links.proofs.bad_sum.Tie as tie
+use Rattle.survey_costs.proofs.bad_sum.Statement.{statement}
+use Rattle.survey_costs.proofs.bad_sum.Tie as tie
 
 returns : tie.Need-returns
 unfolding badSum

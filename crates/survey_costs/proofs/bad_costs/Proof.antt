@@ -1,11 +1,11 @@
--- `survey_links::bad_costs` meets its contract. By what its tests ensure.
+-- `survey_costs::bad_costs` meets its contract. By what its tests ensure.
 use borrow.Author.Needs.{needs}
 use mathlib.Core.Path.{ap, _∙_}
 use mir.Syntax.{w32}
 use mir.ValLaws.{toZ-ofZ}
 use Rattle.network.specs.Refusals.{badSum}
-use Rattle.survey_links.proofs.bad_costs.Statement.{statement}
-use Rattle.survey_links.proofs.bad_costs.Tie as tie
+use Rattle.survey_costs.proofs.bad_costs.Statement.{statement}
+use Rattle.survey_costs.proofs.bad_costs.Tie as tie
 
 add-read-i32 : tie.Need-add-read-i32
 add-read-i32 c = search needs

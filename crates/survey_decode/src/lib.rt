@@ -1,79 +1,15 @@
 // The network that a survey's records say.
-use encoding_numbers::read::read_i16;
-use encoding_numbers::read::read_i32;
 use network::Layout;
 use network::Network;
-use network::limits::MAX_CEILINGS;
-use network::limits::MAX_LINKS;
-use network::limits::MAX_SUM;
+use survey_columns::decode_costs;
+use survey_columns::decode_ends;
+use survey_columns::decode_sums;
 use survey_layout::fields::CEILINGS;
-use survey_layout::fields::COSTS;
-use survey_layout::fields::ENDS;
 use survey_layout::fields::RANKS;
 use survey_layout::fields::STATIONS;
-use survey_layout::fields::SUM;
-use survey_layout::layout::link_start;
-ghost use mathlib.Core.Bool.{false};
 ghost use mathlib.Core.Path.{_≡_};
-ghost use Prim.Native.Nat.{_*_};
-ghost use Rattle.network.specs.Limits.{maxCeilings};
-ghost use Rattle.network.specs.Survey.{costsIn, endsIn, networkWith, sumsIn};
-ghost use Rattle.network.specs.Survey as spec;
-ghost use Rattle.network.specs.Refusals.{badSum};
+ghost use Rattle.network.specs.Survey.{networkWith};
 ghost use Rattle.network.specs.Accepted.{Priced, Whole};
-
-// The ends of the m links, two for each.
-fn decode_ends(s: &[u8], l: Layout, m: usize) -> [u8; 2 * MAX_LINKS]
-    requires { ⌜ Whole (now s) l m ⌝ }
-    ensures { λ r. ⌜ r ≡ endsIn l (now (s .entry)) (2 * m) ⌝ }
-{
-    let mut ends = [0u8; 2 * MAX_LINKS];
-    let mut q = 0;
-    while q < 2 * m {
-        let at = link_start(s, l, m, q / 2);
-        ends[q] = s[at + ENDS + q % 2];
-        q += 1;
-    }
-    ends
-}
-
-// A sum cost in its range, raised so that it is not below 0.
-fn raised(sum: i32) -> u32
-    requires { ⌜ badSum sum ≡ false ⌝ }
-    ensures { λ r. ⌜ r ≡ spec.raised sum ⌝ }
-{
-    (sum + MAX_SUM) as u32
-}
-
-// The raised sum costs of the m links.
-fn decode_sums(s: &[u8], l: Layout, m: usize) -> [u32; MAX_LINKS]
-    requires { ⌜ Whole (now s) l m × Priced (now s) l m ⌝ }
-    ensures { λ r. ⌜ r ≡ sumsIn l (now (s .entry)) m ⌝ }
-{
-    let mut sums = [0u32; MAX_LINKS];
-    let mut i = 0;
-    while i < m {
-        let at = link_start(s, l, m, i);
-        sums[i] = raised(read_i32(s, at + SUM));
-        i += 1;
-    }
-    sums
-}
-
-// The ceiling costs of the m links, one for each ceiling.
-fn decode_costs(s: &[u8], l: Layout, m: usize) -> [i16; MAX_CEILINGS * MAX_LINKS]
-    requires { ⌜ Whole (now s) l m ⌝ }
-    ensures { λ r. ⌜ r ≡ costsIn l (now (s .entry)) (maxCeilings * m) ⌝ }
-{
-    let mut costs = [0i16; MAX_CEILINGS * MAX_LINKS];
-    let mut q = 0;
-    while q < MAX_CEILINGS * m {
-        let at = link_start(s, l, m, q / MAX_CEILINGS);
-        costs[q] = read_i16(s, at + COSTS + 2 * (q % MAX_CEILINGS));
-        q += 1;
-    }
-    costs
-}
 
 // The network of a survey with m links.
 pub fn decode(s: &[u8], l: Layout, m: usize) -> Network

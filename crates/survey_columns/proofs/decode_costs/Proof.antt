@@ -1,4 +1,4 @@
--- `survey_decode::decode_costs` meets its contract. The invariant: the costs before q stand in the column.
+-- `survey_columns::decode_costs` meets its contract. The invariant: the costs before q stand in the column.
 use Prim.Native.Nat.{_≤_, _-_, _*_}
 use borrow.Author.Needs.{needs}
 use mathlib.Core.Path.{_≡_, refl, sym, ap, _∙_}
@@ -8,8 +8,8 @@ use native.Mathlib.Omega.{arith}
 use Rattle.network.specs.Column.{column, column-more}
 use Rattle.network.specs.Limits.{maxCeilings}
 use Rattle.network.specs.Survey.{costsIn}
-use Rattle.survey_decode.proofs.decode_costs.Statement.{statement}
-use Rattle.survey_decode.proofs.decode_costs.Tie as tie
+use Rattle.survey_columns.proofs.decode_costs.Statement.{statement}
+use Rattle.survey_columns.proofs.decode_costs.Tie as tie
 
 abbrev Inv-loop : tie.InvT-loop
 Inv-loop s l m costs₀ q₀ costs q = (q ≤ maxCeilings * m) × (costs ≡ costsIn l s q)

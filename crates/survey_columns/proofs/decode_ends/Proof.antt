@@ -1,12 +1,12 @@
--- `survey_decode::decode_ends` meets its contract. The invariant: the ends before q stand in the column.
+-- `survey_columns::decode_ends` meets its contract. The invariant: the ends before q stand in the column.
 use Prim.Native.Nat.{_≤_, _-_, _*_}
 use borrow.Author.Needs.{needs}
 use mathlib.Core.Path.{_≡_, refl, sym, ap, _∙_}
 use native.Mathlib.Omega.{arith}
 use Rattle.network.specs.Column.{column, column-more}
 use Rattle.network.specs.Survey.{endsIn}
-use Rattle.survey_decode.proofs.decode_ends.Statement.{statement}
-use Rattle.survey_decode.proofs.decode_ends.Tie as tie
+use Rattle.survey_columns.proofs.decode_ends.Statement.{statement}
+use Rattle.survey_columns.proofs.decode_ends.Tie as tie
 
 abbrev Inv-loop : tie.InvT-loop
 Inv-loop s l m ends₀ q₀ ends q = (q ≤ 2 * m) × (ends ≡ endsIn l s q)

@@ -1,0 +1,2 @@
+-- the key of a link, and a place by one key more
+pub mod Key

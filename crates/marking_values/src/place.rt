@@ -1,5 +1,5 @@
 // Places in a falling list of values.
-use encoding_numbers::compare::le16;
+use encoding_compare::le16;
 ghost use mathlib.Core.Path.{_≡_};
 ghost use Rattle.marking_values.specs.Place.{placeIn};
 

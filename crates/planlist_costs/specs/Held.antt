@@ -10,7 +10,7 @@ use lib.Seq.{getD-take, getD-drop}
 use Rattle.network.specs.Bytes.{byteAt, i16At, i32At}
 use Rattle.network.specs.PlanList.{planBytes, planSize, planSlots}
 use Rattle.network.specs.declared.Costs.{Costs}
-use Rattle.encoding_numbers.specs.RoundTrip.{i16-bytes, i32-bytes}
+use Rattle.encoding_signed.specs.RoundTrip.{i16-bytes, i32-bytes}
 use Rattle.planlist_records.specs.Blocks.{blocks, blocks-turn}
 
 -- the costs that the plan record at an index holds

@@ -1,8 +1,8 @@
 // The costs in a plan record, and their two orders.
-use encoding_numbers::compare::le16;
-use encoding_numbers::compare::le32;
-use encoding_numbers::read::read_i16;
-use encoding_numbers::read::read_i32;
+use encoding_compare::le16;
+use encoding_compare::le32;
+use encoding_signed::read_i16;
+use encoding_signed::read_i32;
 use network::Costs;
 use planlist_records::SUM_AT;
 use planlist_records::Y1_AT;

@@ -1,6 +1,6 @@
 // Fetching one plan from the bytes of a list.
-use encoding_numbers::read::mark_at;
-use encoding_numbers::read::read_u16;
+use encoding_numbers::mark_at;
+use encoding_numbers::read_u16;
 use network::limits::COSTS_SIZE;
 use network::limits::HEAD_SIZE;
 use network::limits::MAX_CEILINGS;

@@ -1,5 +1,5 @@
 // The place of a new plan among the records of the frontier, in one pass by their sums.
-use encoding_numbers::compare::le32;
+use encoding_compare::le32;
 use network::Costs;
 use planlist_costs::at_most;
 use planlist_costs::costs_at;

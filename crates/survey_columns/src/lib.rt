@@ -1,6 +1,6 @@
 // The columns of the network that a survey's link records say: ends, raised sum costs, ceiling costs.
-use encoding_numbers::read::read_i16;
-use encoding_numbers::read::read_i32;
+use encoding_signed::read_i16;
+use encoding_signed::read_i32;
 use network::Layout;
 use network::limits::MAX_CEILINGS;
 use network::limits::MAX_LINKS;

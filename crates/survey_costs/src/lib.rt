@@ -1,6 +1,6 @@
 // The rules of a link's costs, number 8.
-use encoding_numbers::read::read_i32;
-use encoding_numbers::read::read_u16;
+use encoding_numbers::read_u16;
+use encoding_signed::read_i32;
 use network::limits::MAX_SUM;
 use network::limits::MIN_SUM;
 use survey_layout::fields::COSTS;

@@ -1,6 +1,6 @@
 // Where the records of a survey stand.
 use crate::fields::YARD_MARK;
-use encoding_numbers::read::mark_at;
+use encoding_numbers::mark_at;
 use network::Layout;
 use network::limits::LINK_SIZE;
 use network::limits::YARD_SIZE;

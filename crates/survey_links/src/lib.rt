@@ -1,5 +1,5 @@
 // The rules of a survey's link records: their marks, and the numbers 7 and 8, link by link.
-use encoding_numbers::read::mark_at;
+use encoding_numbers::mark_at;
 use network::Checked;
 use network::Layout;
 use survey_checks::or_refuse_if;

@@ -3,7 +3,7 @@ use mir.Syntax.{w32}
 use mir.ValLaws.{ofZ-fits}
 use native.Mathlib.Omega.{arith}
 use Rattle.network.specs.Bytes.{bitsOf}
-use Rattle.encoding_numbers.specs.TwosComplement.{Negative, negative, natural}
+use Rattle.encoding_signed.specs.TwosComplement.{Negative, negative, natural}
 use Rattle.encoding_writes.proofs.bits32.Statement.{statement}
 use Rattle.encoding_writes.proofs.bits32.Tie as tie
 

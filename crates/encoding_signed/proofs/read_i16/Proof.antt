@@ -1,11 +1,11 @@
--- `encoding_numbers::read::read_i16` meets its contract. The two bytes are those of the unsigned number.
+-- `encoding_signed::read_i16` meets its contract. The two bytes are those of the unsigned number.
 use borrow.Author.Needs.{needs}
 use mathlib.Core.Path.{ap, _∙_}
 use mir.Syntax.{w16}
 use mir.ValLaws.{toZ-ofZ}
 use Rattle.network.specs.Bytes.{signed}
-use Rattle.encoding_numbers.proofs.read.read_i16.Statement.{statement}
-use Rattle.encoding_numbers.proofs.read.read_i16.Tie as tie
+use Rattle.encoding_signed.proofs.read_i16.Statement.{statement}
+use Rattle.encoding_signed.proofs.read_i16.Tie as tie
 
 read-u16-requires : tie.Need-read-u16-requires
 read-u16-requires c κs = search needs

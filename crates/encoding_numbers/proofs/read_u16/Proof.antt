@@ -1,7 +1,7 @@
--- `encoding_numbers::read::read_u16` meets its contract. The two bytes, each by its weight.
+-- `encoding_numbers::read_u16` meets its contract. The two bytes, each by its weight.
 use borrow.Author.Needs.{needs}
-use Rattle.encoding_numbers.proofs.read.read_u16.Statement.{statement}
-use Rattle.encoding_numbers.proofs.read.read_u16.Tie as tie
+use Rattle.encoding_numbers.proofs.read_u16.Statement.{statement}
+use Rattle.encoding_numbers.proofs.read_u16.Tie as tie
 
 shared-slice-read-byte : tie.Need-shared-slice-read-byte
 shared-slice-read-byte c = search needs

@@ -1,4 +1,4 @@
--- `encoding_numbers::read::signed16` meets its contract. The upper half of the bits mean -1 less the complement.
+-- `encoding_signed::signed16` meets its contract. The upper half of the bits mean -1 less the complement.
 use borrow.Author.Needs.{needs}
 use mathlib.Core.Path.{refl}
 use mir.Syntax.{w16}
@@ -6,9 +6,9 @@ use mir.Val.{toZ}
 use mir.ValLaws.{toZ-fits, toZ-ofZ}
 use native.Mathlib.Omega.{arith}
 use Rattle.network.specs.Bytes.{signed}
-use Rattle.encoding_numbers.specs.TwosComplement.{below-zero, upper-half}
-use Rattle.encoding_numbers.proofs.read.signed16.Statement.{statement}
-use Rattle.encoding_numbers.proofs.read.signed16.Tie as tie
+use Rattle.encoding_signed.specs.TwosComplement.{below-zero, upper-half}
+use Rattle.encoding_signed.proofs.signed16.Statement.{statement}
+use Rattle.encoding_signed.proofs.signed16.Tie as tie
 
 cast-result : tie.Need-cast-result
 cast-result c = search needs

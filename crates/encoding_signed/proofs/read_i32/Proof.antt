@@ -1,11 +1,11 @@
--- `encoding_numbers::read::read_i32` meets its contract. The four bytes are those of the unsigned number.
+-- `encoding_signed::read_i32` meets its contract. The four bytes are those of the unsigned number.
 use borrow.Author.Needs.{needs}
 use mathlib.Core.Path.{ap, _∙_}
 use mir.Syntax.{w32}
 use mir.ValLaws.{toZ-ofZ}
 use Rattle.network.specs.Bytes.{signed}
-use Rattle.encoding_numbers.proofs.read.read_i32.Statement.{statement}
-use Rattle.encoding_numbers.proofs.read.read_i32.Tie as tie
+use Rattle.encoding_signed.proofs.read_i32.Statement.{statement}
+use Rattle.encoding_signed.proofs.read_i32.Tie as tie
 
 read-u32-requires : tie.Need-read-u32-requires
 read-u32-requires c κs = search needs

@@ -1,8 +1,8 @@
--- `encoding_numbers::read::mark_at` meets its contract. Both bytes are compared.
+-- `encoding_numbers::mark_at` meets its contract. Both bytes are compared.
 use mathlib.Core.Path.{refl}
 use borrow.Author.Needs.{needs}
-use Rattle.encoding_numbers.proofs.read.mark_at.Statement.{statement}
-use Rattle.encoding_numbers.proofs.read.mark_at.Tie as tie
+use Rattle.encoding_numbers.proofs.mark_at.Statement.{statement}
+use Rattle.encoding_numbers.proofs.mark_at.Tie as tie
 
 shared-slice-read-result : tie.Need-shared-slice-read-result
 shared-slice-read-result c = search needs

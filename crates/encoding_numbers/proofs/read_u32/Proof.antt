@@ -1,7 +1,7 @@
--- `encoding_numbers::read::read_u32` meets its contract. The two halves, each by its weight.
+-- `encoding_numbers::read_u32` meets its contract. The two halves, each by its weight.
 use borrow.Author.Needs.{needs}
-use Rattle.encoding_numbers.proofs.read.read_u32.Statement.{statement}
-use Rattle.encoding_numbers.proofs.read.read_u32.Tie as tie
+use Rattle.encoding_numbers.proofs.read_u32.Statement.{statement}
+use Rattle.encoding_numbers.proofs.read_u32.Tie as tie
 
 read-u16-requires : tie.Need-read-u16-requires
 read-u16-requires c κs = search needs

@@ -1,22 +1,16 @@
-// The columns of the network that a survey's link records say: ends, raised sum costs, ceiling costs.
+// The ends and the ceiling costs that a survey's link records say, as columns.
 use encoding_signed::read_i16;
-use encoding_signed::read_i32;
 use network::Layout;
 use network::limits::MAX_CEILINGS;
 use network::limits::MAX_LINKS;
-use network::limits::MAX_SUM;
 use survey_layout::fields::COSTS;
 use survey_layout::fields::ENDS;
-use survey_layout::fields::SUM;
 use survey_layout::layout::link_start;
-ghost use mathlib.Core.Bool.{false};
 ghost use mathlib.Core.Path.{_≡_};
 ghost use Prim.Native.Nat.{_*_};
 ghost use Rattle.network.specs.Limits.{maxCeilings};
-ghost use Rattle.network.specs.Survey.{costsIn, endsIn, sumsIn};
-ghost use Rattle.network.specs.Survey as spec;
-ghost use Rattle.network.specs.Refusals.{badSum};
-ghost use Rattle.network.specs.Accepted.{Priced, Whole};
+ghost use Rattle.network.specs.Survey.{costsIn, endsIn};
+ghost use Rattle.network.specs.Accepted.{Whole};
 
 // The ends of the m links, two for each.
 pub fn decode_ends(s: &[u8], l: Layout, m: usize) -> [u8; 2 * MAX_LINKS]
@@ -31,29 +25,6 @@ pub fn decode_ends(s: &[u8], l: Layout, m: usize) -> [u8; 2 * MAX_LINKS]
         q += 1;
     }
     ends
-}
-
-// A sum cost in its range, raised so that it is not below 0.
-fn raised(sum: i32) -> u32
-    requires { ⌜ badSum sum ≡ false ⌝ }
-    ensures { λ r. ⌜ r ≡ spec.raised sum ⌝ }
-{
-    (sum + MAX_SUM) as u32
-}
-
-// The raised sum costs of the m links.
-pub fn decode_sums(s: &[u8], l: Layout, m: usize) -> [u32; MAX_LINKS]
-    requires { ⌜ Whole (now s) l m × Priced (now s) l m ⌝ }
-    ensures { λ r. ⌜ r ≡ sumsIn l (now (s .entry)) m ⌝ }
-{
-    let mut sums = [0u32; MAX_LINKS];
-    let mut i = 0;
-    while i < m {
-        let at = link_start(s, l, m, i);
-        sums[i] = raised(read_i32(s, at + SUM));
-        i += 1;
-    }
-    sums
 }
 
 // The ceiling costs of the m links, one for each ceiling.

@@ -1,4 +1,4 @@
--- `survey_columns::raised` meets its contract. The sum with 1,000,000 is a natural number, and small.
+-- `survey_sums::raised` meets its contract. The sum with 1,000,000 is a natural number, and small.
 use Prim.Native.Nat.{_^_, _<_}
 use mathlib.Core.Path.{_≡_, refl, ap, _∙_}
 use native.Mathlib.Omega.{arith}
@@ -9,8 +9,8 @@ use mir.ValLaws.{toZ-ofZ, toZ-pos}
 use Rattle.network.specs.Limits.{maxSum}
 use Rattle.network.specs.Survey as spec
 use Rattle.network.specs.Sums.{raised-small, raised-sum}
-use Rattle.survey_columns.proofs.raised.Statement.{statement}
-use Rattle.survey_columns.proofs.raised.Tie as tie
+use Rattle.survey_sums.proofs.raised.Statement.{statement}
+use Rattle.survey_sums.proofs.raised.Tie as tie
 
 -- the raised sum is in the lower half of 32 bits
 low : (c : tie.Start) → spec.raised (c .args .sum) < 2 ^ hbits w32

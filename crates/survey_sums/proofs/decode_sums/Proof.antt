@@ -1,4 +1,4 @@
--- `survey_columns::decode_sums` meets its contract. The invariant: the sums before i stand in the column.
+-- `survey_sums::decode_sums` meets its contract. The invariant: the sums before i stand in the column.
 use Prim.Native.Nat.{_+_, _≤_, _-_}
 use borrow.Author.Needs.{needs}
 use mathlib.Core.Path.{_≡_, refl, sym, ap, _∙_}
@@ -10,8 +10,8 @@ use mir.ValLaws.{toZ-ofZ}
 use Rattle.network.specs.Bytes.{i32At}
 use Rattle.network.specs.Column.{column, column-more}
 use Rattle.network.specs.Survey.{sumsIn}
-use Rattle.survey_columns.proofs.decode_sums.Statement.{statement}
-use Rattle.survey_columns.proofs.decode_sums.Tie as tie
+use Rattle.survey_sums.proofs.decode_sums.Statement.{statement}
+use Rattle.survey_sums.proofs.decode_sums.Tie as tie
 
 abbrev Inv-loop : tie.InvT-loop
 Inv-loop s l m sums₀ i₀ sums i = (i ≤ m) × (sums ≡ sumsIn l s i)

@@ -1,5 +1,5 @@
 // The exceptions that Kruskal's method keeps, run over the links of each pattern apart, in one pass.
-use exceptions_patterns::admit::admits_alone;
+use exceptions_admitted::admits_alone;
 use forest::Forest;
 use kruskal::links::Links;
 use network::limits::MAX_LINKS;

@@ -1,5 +1,5 @@
 // The frontier of plans, kept in the list buffer as records in their order.
-use encoding_copies::move_up;
+use encoding_moves::move_up;
 use network::Costs;
 use network::limits::COSTS_SIZE;
 use network::limits::HEAD_SIZE;

@@ -1,6 +1,6 @@
 // The plans of the frontier that a new one replaces, dropped in one pass by their sums.
 use encoding_compare::le32;
-use encoding_copies::move_down;
+use encoding_moves::move_down;
 use network::Costs;
 use planlist_costs::at_most;
 use planlist_costs::costs_at;

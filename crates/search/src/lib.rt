@@ -1,5 +1,5 @@
 // The search for the best tree over all sets of exceptions.
-use exceptions_patterns::admit::admits_pair;
+use exceptions_admitted::admits_pair;
 use search_base::rest::Rest;
 use search_base::rest::rest_of;
 use search_best::best::Best;

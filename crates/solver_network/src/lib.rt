@@ -1,5 +1,5 @@
 // The best tree of a network under bounds, as flags.
-use exceptions_patterns::above::patterns_of;
+use exceptions_patterns::patterns_of;
 use network::Network;
 use search_best::best::Best;
 use solver_search::best_of;

@@ -6,9 +6,9 @@ use native.Mathlib.Omega.{arith}
 use borrow.Author.Needs.{needs}
 use lib.ListN.{drop, length}
 use Rattle.kmax.specs.Digits.{admits}
-use Rattle.exceptions_patterns.specs.Admit.{pair-end, pair-many, pair-more}
-use Rattle.exceptions_patterns.proofs.admit.admits_pair.Statement.{statement}
-use Rattle.exceptions_patterns.proofs.admit.admits_pair.Tie as tie
+use Rattle.exceptions_admitted.specs.Admit.{pair-end, pair-many, pair-more}
+use Rattle.exceptions_admitted.proofs.admits_pair.Statement.{statement}
+use Rattle.exceptions_admitted.proofs.admits_pair.Tie as tie
 
 abbrev Inv-loop : tie.InvT-loop
 Inv-loop ks pattern other a₀ b₀ i₀ i-end a b i =

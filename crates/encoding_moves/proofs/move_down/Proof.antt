@@ -1,4 +1,4 @@
--- `encoding_copies::move_down` meets its contract. The invariant: the first j bytes are moved. A turn reads a byte that is not written yet.
+-- `encoding_moves::move_down` meets its contract. The invariant: the first j bytes are moved. A turn reads a byte that is not written yet.
 -- Bytes that stand at their place already are not moved.
 use mathlib.Core.Path.{_≡_, refl, sym, ap, _∙_}
 use Prim.Native.Nat.{ℕ, _-_, _≤_}
@@ -8,8 +8,8 @@ use lib.Seq.{paste, paste-zero}
 use denote.Ref.{now}
 use Rattle.encoding_overwrite.specs.Overwrite.{overwrite, paste-overwrite, overwrite-same}
 use Rattle.encoding_overwrite.specs.Copies.{paste-turn, down-reads}
-use Rattle.encoding_copies.proofs.move_down.Statement.{statement}
-use Rattle.encoding_copies.proofs.move_down.Tie as tie
+use Rattle.encoding_moves.proofs.move_down.Statement.{statement}
+use Rattle.encoding_moves.proofs.move_down.Tie as tie
 
 abbrev Inv-loop : tie.InvT-loop
 Inv-loop out₀ from to n j₀ out j = (out ≡ paste out₀ to (drop from out₀) j) × (j ≤ n) × (length out ≡ length out₀)

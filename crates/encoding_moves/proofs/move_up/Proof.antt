@@ -1,12 +1,12 @@
--- `encoding_copies::move_up` meets its contract. The invariant: all but the first j bytes are moved. A turn reads a byte that is not written yet.
+-- `encoding_moves::move_up` meets its contract. The invariant: all but the first j bytes are moved. A turn reads a byte that is not written yet.
 use mathlib.Core.Path.{_≡_, refl, _∙_}
 use Prim.Native.Nat.{_≤_}
 use native.Mathlib.Omega.{arith}
 use lib.ListN.{length, length-set}
 use denote.Ref.{now}
 use Rattle.encoding_overwrite.specs.Copies.{moved, up-turn, up-none, up-all}
-use Rattle.encoding_copies.proofs.move_up.Statement.{statement}
-use Rattle.encoding_copies.proofs.move_up.Tie as tie
+use Rattle.encoding_moves.proofs.move_up.Statement.{statement}
+use Rattle.encoding_moves.proofs.move_up.Tie as tie
 
 abbrev Inv-loop : tie.InvT-loop
 Inv-loop out₀ from to n j₀ out j = (out ≡ moved out₀ from to n j) × (j ≤ n) × (length out ≡ length out₀)

@@ -1,9 +1,9 @@
 -- A pattern without digits beside it changes nothing.
 use mathlib.Core.Path.{_∙_}
 use borrow.Author.Needs.{needs}
-use Rattle.exceptions_patterns.specs.Admit.{alone}
-use Rattle.exceptions_patterns.proofs.admit.admits_alone.Statement.{statement}
-use Rattle.exceptions_patterns.proofs.admit.admits_alone.Tie as tie
+use Rattle.exceptions_admitted.specs.Admit.{alone}
+use Rattle.exceptions_admitted.proofs.admits_alone.Statement.{statement}
+use Rattle.exceptions_admitted.proofs.admits_alone.Tie as tie
 
 admits-pair-requires : tie.Need-admits-pair-requires
 admits-pair-requires c κs = search needs

@@ -9,8 +9,8 @@ use lib.Signed.{leZ}
 use mir.Facts.{toZ-ofZ}
 use mir.Syntax.{w16}
 use mir.Val.{SFits, ofZ, toZ}
-use Rattle.exceptions_patterns.proofs.above.above.Statement.{statement}
-use Rattle.exceptions_patterns.proofs.above.above.Tie as tie
+use Rattle.exceptions_patterns.proofs.above.Statement.{statement}
+use Rattle.exceptions_patterns.proofs.above.Tie as tie
 
 -- the cost that is tested
 abbrev cost : tie.After-if12 → ℤ

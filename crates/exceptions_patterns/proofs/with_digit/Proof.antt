@@ -14,8 +14,8 @@ use Rattle.network.specs.Column.{column, column-more}
 use Rattle.network.specs.Limits.{maxLinks}
 use Rattle.network.specs.Yard.{costAt}
 use Rattle.exceptions_patterns.specs.Patterns.{patternAt, withDigit}
-use Rattle.exceptions_patterns.proofs.above.with_digit.Statement.{statement}
-use Rattle.exceptions_patterns.proofs.above.with_digit.Tie as tie
+use Rattle.exceptions_patterns.proofs.with_digit.Statement.{statement}
+use Rattle.exceptions_patterns.proofs.with_digit.Tie as tie
 
 abbrev Inv-loop : tie.InvT-loop
 Inv-loop costs ceiling bound rest patterns₀ e₀ patterns e =

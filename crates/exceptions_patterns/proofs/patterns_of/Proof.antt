@@ -9,8 +9,8 @@ use mir.Facts.{toZ-ofZ}
 use mir.Syntax.{w16}
 use mir.Val.{SFits}
 use Rattle.exceptions_patterns.specs.Patterns.{from-end, from-room, from-start, from-turn, patternsFrom}
-use Rattle.exceptions_patterns.proofs.above.patterns_of.Statement.{statement}
-use Rattle.exceptions_patterns.proofs.above.patterns_of.Tie as tie
+use Rattle.exceptions_patterns.proofs.patterns_of.Statement.{statement}
+use Rattle.exceptions_patterns.proofs.patterns_of.Tie as tie
 
 abbrev Inv-loop : tie.InvT-loop
 Inv-loop costs bounds patterns₀ i₀ patterns i = (i ≤ length bounds) × (patterns ≡ patternsFrom costs bounds i)

@@ -1,0 +1,2 @@
+-- the digits of two patterns, ceiling by ceiling
+pub mod Admit

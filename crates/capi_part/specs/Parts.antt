@@ -11,7 +11,8 @@ use lib.Seq.{length-take-le}
 use Rattle.order.specs.Test.{decide}
 use Rattle.network.specs.Fetching.{fetchLinks, fetchNumber, fetchStart, linksStart, headTreeSize}
 use Rattle.network.specs.Promise.{LinksKept, NumberKept}
-use Rattle.planlist_fetching.specs.Fetched.{found, links-found, links-none, plan-inside, start-found, start-none}
+use Rattle.planlist_finding.specs.Found.{found, plan-inside}
+use Rattle.planlist_fetching.specs.Fetched.{links-found, links-none, start-found, start-none}
 use Rattle.planner_fetch.specs.Archive.{links-kept, number-kept}
 use Rattle.capi_part.specs.declared.Part.{Part}
 

@@ -1,35 +1,14 @@
 // The end of a list in a lent buffer: the frontier that stands behind the place of the head is finished, or the buffer is cleared.
 use encoding_copies::clear_from;
-use encoding_copies::copy_in;
-use encoding_writes::write_u8;
-use encoding_writes::write_u16;
-use encoding_writes::write_u32;
 use network::limits::HEAD_SIZE;
-use planlist_records::CEILINGS_AT;
-use planlist_records::COUNT_AT;
-use planlist_records::HEAD_MARK;
-use planlist_records::SOLVED_AT;
-use planlist_records::TREE_SIZE_AT;
+use planlist_head::write_head;
 use planlist_records::plan_size;
 ghost use mathlib.Core.Path.{_≡_};
 ghost use Prim.Native.Nat.{_+_, _*_, _≤_};
 ghost use lib.ListN.{length, replicate};
 ghost use Rattle.network.specs.Limits.{maxPlans};
-ghost use Rattle.network.specs.PlanList.{headBytes, headSize, planSize, planSlots};
-ghost use Rattle.encoding_overwrite.specs.Overwrite.{overwrite};
+ghost use Rattle.network.specs.PlanList.{headSize, planSize, planSlots};
 ghost use Rattle.planlist_ending.specs.Finished.{finished};
-
-// Writes a list head at the front.
-fn write_head(out: &mut [u8], count: u16, solved: u32, t: u8, p: u8)
-    requires { ⌜ headSize ≤ length (now out) ⌝ }
-    ensures { λ _. ⌜ now (out .exit) ≡ overwrite (now (out .entry)) 0 (headBytes count solved t p) ⌝ }
-{
-    copy_in(out, 0, &HEAD_MARK);
-    write_u16(out, COUNT_AT, count);
-    write_u32(out, SOLVED_AT, solved);
-    write_u8(out, TREE_SIZE_AT, t);
-    write_u8(out, CEILINGS_AT, p);
-}
 
 // Finishes a list of `count` plans of t links: the head in front of them, and zeros behind them.
 pub fn finish(out: &mut [u8], count: usize, solved: u32, t: u8, p: u8)

@@ -8,7 +8,7 @@ pub fn fetch_number(list: &[u8], r: u32) -> u8
     ensures reply { λ n. ⌜ n ≡ fetchNumber (now (list .entry)) r ⌝ }
     ensures kept { λ n. ⌜ NumberKept (now (list .entry)) r n ⌝ }
 {
-    planlist_fetching::fetch_number(list, r)
+    planlist_finding::fetch_number(list, r)
 }
 
 // The link bytes of plan r, a part of the list; an empty part if the number is not 0.

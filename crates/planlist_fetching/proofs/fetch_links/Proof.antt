@@ -6,7 +6,8 @@ use lib.ListN.{take, drop}
 use denote.Ref.{now}
 use Rattle.network.specs.PlanList.{planSize, planSlots}
 use Rattle.network.specs.Fetching.{fetchNumber, headTreeSize}
-use Rattle.planlist_fetching.specs.Fetched.{found, links-found, links-none}
+use Rattle.planlist_finding.specs.Found.{found}
+use Rattle.planlist_fetching.specs.Fetched.{links-found, links-none}
 use borrow.Author.Needs.{needs}
 use Rattle.planlist_fetching.proofs.fetch_links.Statement.{statement}
 use Rattle.planlist_fetching.proofs.fetch_links.Tie as tie

@@ -4,7 +4,8 @@ use Prim.Native.Nat.{ℕ, _+_}
 use denote.Ref.{now}
 use Rattle.network.specs.PlanList.{planSize, planSlots}
 use Rattle.network.specs.Fetching.{fetchNumber}
-use Rattle.planlist_fetching.specs.Fetched.{found, start-found, start-none}
+use Rattle.planlist_finding.specs.Found.{found}
+use Rattle.planlist_fetching.specs.Fetched.{start-found, start-none}
 use borrow.Author.Needs.{needs}
 use Rattle.planlist_fetching.proofs.fetch_start.Statement.{statement}
 use Rattle.planlist_fetching.proofs.fetch_start.Tie as tie

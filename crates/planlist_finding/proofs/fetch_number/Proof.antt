@@ -1,4 +1,4 @@
--- `planlist_fetching::fetch_number` meets its contract. Each return by the tests that lead to it.
+-- `planlist_finding::fetch_number` meets its contract. Each return by the tests that lead to it.
 use mathlib.Core.Path.{_≡_, sym, ap, _∙_}
 use mathlib.Core.Bool.{Bool, cond, false}
 use Prim.Native.Nat.{ℕ, _<_}
@@ -7,10 +7,10 @@ use denote.Ref.{now}
 use Rattle.network.specs.Bytes.{markAt}
 use Rattle.network.specs.PlanList.{planMark}
 use Rattle.network.specs.Fetching.{damaged, fetchNumber, headCount}
-use Rattle.planlist_fetching.specs.Fetched.{whole, number-damaged, number-none, number-marked}
+use Rattle.planlist_finding.specs.Found.{whole, number-damaged, number-none, number-marked}
 use borrow.Author.Needs.{needs}
-use Rattle.planlist_fetching.proofs.fetch_number.Statement.{statement}
-use Rattle.planlist_fetching.proofs.fetch_number.Tie as tie
+use Rattle.planlist_finding.proofs.fetch_number.Statement.{statement}
+use Rattle.planlist_finding.proofs.fetch_number.Tie as tie
 
 -- the list is not damaged
 intact : (c : tie.Else1) → damaged (now (c .before .before .before .args .list)) ≡ false

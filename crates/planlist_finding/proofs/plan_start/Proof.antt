@@ -1,4 +1,4 @@
--- `planlist_fetching::plan_start` meets its contract. A plan below the count lies inside a list that is not damaged.
+-- `planlist_finding::plan_start` meets its contract. A plan below the count lies inside a list that is not damaged.
 use mathlib.Core.Path.{_≡_, ap}
 use Prim.Native.Nat.{ℕ, _+_, _*_, _≤_}
 use native.Mathlib.Omega.{arith}
@@ -6,10 +6,10 @@ use lib.ListN.{length}
 use denote.Ref.{now}
 use Rattle.network.specs.PlanList.{planSize, planSlots}
 use Rattle.network.specs.Fetching.{headTreeSize, planStart}
-use Rattle.planlist_fetching.specs.Fetched.{whole, plan-inside}
+use Rattle.planlist_finding.specs.Found.{whole, plan-inside}
 use borrow.Author.Needs.{needs}
-use Rattle.planlist_fetching.proofs.plan_start.Statement.{statement}
-use Rattle.planlist_fetching.proofs.plan_start.Tie as tie
+use Rattle.planlist_finding.proofs.plan_start.Statement.{statement}
+use Rattle.planlist_finding.proofs.plan_start.Tie as tie
 
 -- the start of the record, and that it lies inside
 inside : (c : tie.After-plan-size)

@@ -1,4 +1,4 @@
--- `planlist_ending::write_head` meets its contract. Writes one after the other are one write.
+-- `planlist_head::write_head` meets its contract. Writes one after the other are one write.
 use mathlib.Core.Path.{refl}
 use mathlib.Core.List.{[], _∷_, _++_}
 use Prim.Native.Nat.{_≤_}
@@ -9,8 +9,8 @@ use Rattle.network.specs.Bytes.{littleEndian}
 use Rattle.network.specs.PlanList.{headMark}
 use Rattle.encoding_overwrite.specs.Overwrite.{overwrite-chain}
 use borrow.Author.Needs.{needs}
-use Rattle.planlist_ending.proofs.write_head.Statement.{statement}
-use Rattle.planlist_ending.proofs.write_head.Tie as tie
+use Rattle.planlist_head.proofs.write_head.Statement.{statement}
+use Rattle.planlist_head.proofs.write_head.Tie as tie
 
 slice-aggregate-copy-in : tie.Need-slice-aggregate-copy-in
 slice-aggregate-copy-in c = search needs

@@ -1,4 +1,4 @@
--- `planlist_fetching::is_damaged` meets its contract. Each test of the code is one of the definition.
+-- `planlist_finding::is_damaged` meets its contract. Each test of the code is one of the definition.
 use mathlib.Core.Path.{sym}
 use Prim.Native.Nat.{ℕ, _*_, _≤_, _<_}
 use native.Mathlib.Nat.{mul-le-mul}
@@ -6,10 +6,10 @@ use native.Mathlib.Omega.{arith}
 use denote.Ref.{now}
 use Rattle.network.specs.PlanList.{planSize, planSlots}
 use Rattle.network.specs.Fetching.{headTreeSize}
-use Rattle.planlist_fetching.specs.Fetched.{damaged-short, damaged-by}
+use Rattle.planlist_finding.specs.Found.{damaged-short, damaged-by}
 use borrow.Author.Needs.{needs}
-use Rattle.planlist_fetching.proofs.is_damaged.Statement.{statement}
-use Rattle.planlist_fetching.proofs.is_damaged.Tie as tie
+use Rattle.planlist_finding.proofs.is_damaged.Statement.{statement}
+use Rattle.planlist_finding.proofs.is_damaged.Tie as tie
 
 -- a count of two bytes times the size of a record, by a tree size of one byte
 product : (count t : ℕ) → count < 65536 → t < 256 → count * planSize planSlots t ≤ 65535 * planSize planSlots 255

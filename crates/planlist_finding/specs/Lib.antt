@@ -1,0 +1,2 @@
+-- finding a plan: what the tests say
+pub mod Found

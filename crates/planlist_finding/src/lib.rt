@@ -1,0 +1,61 @@
+// Finding one plan in the bytes of a list: the number, and where the plan's record starts.
+use encoding_numbers::mark_at;
+use encoding_numbers::read_u16;
+use network::limits::HEAD_SIZE;
+use network::limits::MAX_CEILINGS;
+use network::limits::MAX_PLANS;
+use network::limits::MAX_TREE;
+use planlist_records::CEILINGS_AT;
+use planlist_records::COUNT_AT;
+use planlist_records::HEAD_MARK;
+use planlist_records::PLAN_MARK;
+use planlist_records::TREE_SIZE_AT;
+use planlist_records::plan_size;
+ghost use mathlib.Core.Path.{_≡_};
+ghost use mathlib.Core.Bool.{false};
+ghost use Prim.Native.Nat.{_+_, _≤_, _<_};
+ghost use lib.ListN.{length};
+ghost use Rattle.network.specs.PlanList.{planSize, planSlots};
+ghost use Rattle.network.specs.Fetching.{headCount, damaged, fetchNumber, planStart, headTreeSize};
+
+// Whether the list is damaged, whichever plan is asked for.
+fn is_damaged(list: &[u8]) -> bool
+    ensures { λ r. ⌜ r ≡ damaged (now (list .entry)) ⌝ }
+{
+    if list.len() < HEAD_SIZE {
+        return true;
+    }
+    let count = read_u16(list, COUNT_AT) as usize;
+    let t = list[TREE_SIZE_AT];
+    let p = list[CEILINGS_AT];
+    let need = HEAD_SIZE + count * plan_size(t);
+    !mark_at(list, 0, HEAD_MARK)
+        | (MAX_PLANS < count)
+        | ((MAX_TREE as u8) < t)
+        | ((MAX_CEILINGS as u8) < p)
+        | (list.len() < need)
+}
+
+// Where plan r's record starts.
+pub fn plan_start(list: &[u8], r: u32) -> usize
+    requires { ⌜ (damaged (now list) ≡ false) × (r < headCount (now list)) ⌝ }
+    ensures { λ at. ⌜ (at ≡ planStart (now (list .entry)) r) × (at + planSize planSlots (headTreeSize (now (list .entry))) ≤ length (now (list .entry))) ⌝ }
+{
+    HEAD_SIZE + (r as usize) * plan_size(list[TREE_SIZE_AT])
+}
+
+// The number of fetching plan r: 0 if it is found.
+pub fn fetch_number(list: &[u8], r: u32) -> u8
+    ensures { λ n. ⌜ n ≡ fetchNumber (now (list .entry)) r ⌝ }
+{
+    if is_damaged(list) {
+        return 12;
+    }
+    if r < (read_u16(list, COUNT_AT) as u32) {
+        if mark_at(list, plan_start(list, r), PLAN_MARK) {
+            return 0;
+        }
+        return 12;
+    }
+    13
+}

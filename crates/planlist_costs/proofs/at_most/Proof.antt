@@ -1,7 +1,7 @@
 -- `planlist_costs::at_most` meets its contract. The tests of the entries go through their bits.
 use mir.Syntax.{w16, w32}
 use Rattle.planlist_costs.specs.Orders.{at-most-by}
-use Rattle.planlist_costs.specs.Signed.{tested}
+use Rattle.encoding_compare.specs.Compared.{tested}
 use borrow.Author.Needs.{needs}
 use Rattle.planlist_costs.proofs.at_most.Statement.{statement}
 use Rattle.planlist_costs.proofs.at_most.Tie as tie

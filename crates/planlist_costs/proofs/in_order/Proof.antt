@@ -5,7 +5,7 @@ use lib.Signed.{leZ}
 use mir.Syntax.{w16, w32}
 use Rattle.planlist_costs.specs.Held.{Writable}
 use Rattle.planlist_costs.specs.Orders.{in-order-by, in-order-lower}
-use Rattle.planlist_costs.specs.Signed.{tested}
+use Rattle.encoding_compare.specs.Compared.{tested}
 use borrow.Author.Needs.{needs}
 use Rattle.planlist_costs.proofs.in_order.Statement.{statement}
 use Rattle.planlist_costs.proofs.in_order.Tie as tie

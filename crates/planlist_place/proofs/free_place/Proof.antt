@@ -13,7 +13,7 @@ use Rattle.network.specs.declared.Costs.{Costs}
 use Rattle.planlist_records.specs.Blocks.{blocks, blocks-none, mul-step}
 use Rattle.planlist_costs.specs.Orders.{atMost, inOrder}
 use Rattle.planlist_costs.specs.Held.{costsAt}
-use Rattle.planlist_costs.specs.Signed.{tested}
+use Rattle.encoding_compare.specs.Compared.{tested}
 use Rattle.planlist_place.specs.Place.{freePlace, free-none, free-turn}
 use borrow.Author.Needs.{needs}
 use Rattle.planlist_place.proofs.free_place.Statement.{statement}

@@ -17,7 +17,7 @@ use Rattle.network.specs.declared.Costs.{Costs}
 use Rattle.planlist_records.specs.Blocks.{blocks, blocks-none, mul-step, blocks-joined, blocks-moved, behind-moved}
 use Rattle.planlist_costs.specs.Orders.{atMost}
 use Rattle.planlist_costs.specs.Held.{costsAt}
-use Rattle.planlist_costs.specs.Signed.{tested}
+use Rattle.encoding_compare.specs.Compared.{tested}
 use Rattle.planlist_pruning.specs.Pruned.{prunedLevel, pruned-turn, pruned-none}
 use borrow.Author.Needs.{needs}
 use Rattle.planlist_pruning.proofs.prune.Statement.{statement}

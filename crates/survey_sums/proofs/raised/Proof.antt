@@ -17,7 +17,7 @@ low : (c : tie.Start) → spec.raised (c .args .sum) < 2 ^ hbits w32
 low c = omega (arith, raised-small (c .args .sum) (c .pre))
 
 -- the sum that the code makes
-made : (c : tie.Start) → toZ w32 (ofZ w32 (c .args .sum)) +ℤ toZ w32 1_000_000 ≡ pos (spec.raised (c .args .sum))
+made : (c : tie.Start) → toZ w32 (ofZ w32 (c .args .sum)) +ℤ toZ w32 maxSum ≡ pos (spec.raised (c .args .sum))
 made c = ap (λ z. z +ℤ pos maxSum) (toZ-ofZ w32 (c .args .sum) (c .fits .sum)) ∙ raised-sum (c .args .sum) (c .pre)
 
 add-result : tie.Need-add-result

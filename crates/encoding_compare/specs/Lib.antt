@@ -1,0 +1,2 @@
+-- numbers compared through their bits
+pub mod Compared

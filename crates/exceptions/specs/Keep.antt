@@ -6,7 +6,7 @@ use mathlib.Core.List.{List, [], _∷_, _++_, append-nil, List·Memᴰ·cases-co
 use mathlib.Core.List.{Sublistᴰ, Sublistᴰ·slnil, Sublistᴰ·cons, Sublistᴰ·cons-cons}
 use mathlib.Core.Logic.{inl, inr, ⊎-elim}
 use mathlib.Core.Path.{_≡_, refl, sym, ap, _∙_, subst}
-use native.Mathlib.Nat.{le-refl, pow-le-pow-right}
+use native.Mathlib.Nat.{pow-le-pow-right}
 use native.Mathlib.Numerals.{add-one}
 use native.Mathlib.Omega.{arith}
 use lib.Dec.{eqb}
@@ -18,7 +18,6 @@ use Rattle.order.specs.Lists.{_∈_, count, filter, sublist-⊆}
 use Rattle.spanning.specs.Labelling.{crosses}
 use Rattle.spanning.specs.LabelList.{labelOf}
 use Rattle.network.specs.Limits.{maxLinks, maxPatterns}
-use Rattle.network.specs.Column.{column, column-at}
 use Rattle.kmax.specs.Ceilings.{slackOf}
 use Rattle.kmax.specs.Digits.{admits, admits-few, marked}
 use Rattle.forest.specs.Groups.{apart, joined}
@@ -26,10 +25,7 @@ use Rattle.forest.specs.declared.Forest.{Forest}
 use Rattle.network.specs.Yard.{endsAt}
 use Rattle.kruskal.specs.Base.{kept}
 use Rattle.exceptions_patterns.specs.Patterns.{Patterned, admitted, patternAt}
-
--- for each pattern, whether links of it may be exceptions
-unfoldable pub fitOf : List ℕ → List Bool
-fitOf ks = column maxPatterns false (λ x. marked x && admits ks (x ∷ [])) maxPatterns
+use Rattle.exceptions_admitted.specs.Fit.{fit-at, fitOf}
 
 -- what stands for the groups of a pattern out of range
 abbrev pub nobody : Forest
@@ -181,10 +177,6 @@ module _ (ks patterns : List ℕ) (P : Patterned ks patterns) where
       let few = admits-few ks (p ∷ [])
       (λ q m. let e : q ≡ p = List·Memᴰ·eq-of-singleton m in rw e (P .digits x (below x (here refl)))) (E .alone x (here refl)) in
       absurd (omega arith)
-
-fit-at : (ks : List ℕ) (x : ℕ) → x < maxPatterns → getD (fitOf ks) x false ≡ marked x && admits ks (x ∷ [])
-unfolding fitOf
-fit-at ks x h = column-at maxPatterns false (λ x. marked x && admits ks (x ∷ [])) maxPatterns x h (le-refl maxPatterns) false
 
 module _ (ends ks patterns l : List ℕ) (P : Patterned ks patterns) where
   pub exceptions-sublist : Sublistᴰ (keptExceptions ends patterns ks l) l

@@ -1,5 +1,5 @@
 // The exceptions that Kruskal's method keeps, run over the links of each pattern apart, in one pass.
-use exceptions_admitted::admits_alone;
+use exceptions_admitted::fit_patterns;
 use forest::Forest;
 use kruskal::links::Links;
 use network::limits::MAX_LINKS;
@@ -8,18 +8,7 @@ ghost use mathlib.Core.Path.{_≡_};
 ghost use Rattle.kruskal.specs.Tree.{Columns, Walkable};
 ghost use Rattle.kruskal.specs.Base.{Holding};
 ghost use Rattle.exceptions_patterns.specs.Patterns.{Patterned};
-ghost use Rattle.exceptions.specs.Keep.{fitOf, keptExceptions};
-
-// For each pattern, whether links of it may be exceptions.
-fn fit_patterns(ks: &[u8]) -> [bool; MAX_PATTERNS]
-    ensures { λ r. ⌜ r ≡ fitOf (now (ks .entry)) ⌝ }
-{
-    let mut fit = [false; MAX_PATTERNS];
-    for pattern in 0..MAX_PATTERNS {
-        fit[pattern] = (pattern != 0) & admits_alone(ks, pattern as u8);
-    }
-    fit
-}
+ghost use Rattle.exceptions.specs.Keep.{keptExceptions};
 
 // The links of an order that may be exceptions and join two groups of the links kept of their pattern.
 pub fn kept_exceptions(ends: &[u8], sums: &[u32], order: &[u8], patterns: &[u8], ks: &[u8]) -> Links

@@ -1,7 +1,9 @@
 // Which links may be in a tree though they are above bounds: of each ceiling fewer than its rank.
+use network::limits::MAX_PATTERNS;
 ghost use mathlib.Core.Path.{_≡_};
 ghost use mathlib.Core.List.{[], _∷_};
 ghost use Rattle.kmax.specs.Digits.{admits};
+ghost use Rattle.exceptions_admitted.specs.Fit.{fitOf};
 
 // Links of two patterns together.
 pub fn admits_pair(ks: &[u8], pattern: u8, other: u8) -> bool
@@ -20,8 +22,19 @@ pub fn admits_pair(ks: &[u8], pattern: u8, other: u8) -> bool
 }
 
 // A link of a pattern alone: as beside a link that is above no bound.
-pub fn admits_alone(ks: &[u8], pattern: u8) -> bool
+fn admits_alone(ks: &[u8], pattern: u8) -> bool
     ensures { λ r. ⌜ r ≡ admits (now (ks .entry)) (pattern ∷ []) ⌝ }
 {
     admits_pair(ks, pattern, 0)
+}
+
+// For each pattern, whether links of it may be exceptions.
+pub fn fit_patterns(ks: &[u8]) -> [bool; MAX_PATTERNS]
+    ensures { λ r. ⌜ r ≡ fitOf (now (ks .entry)) ⌝ }
+{
+    let mut fit = [false; MAX_PATTERNS];
+    for pattern in 0..MAX_PATTERNS {
+        fit[pattern] = (pattern != 0) & admits_alone(ks, pattern as u8);
+    }
+    fit
 }

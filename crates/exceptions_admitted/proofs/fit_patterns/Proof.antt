@@ -9,9 +9,9 @@ use lib.ListN.{length}
 use Rattle.kmax.specs.Digits.{admits, marked}
 use Rattle.network.specs.Column.{column, column-more}
 use Rattle.network.specs.Limits.{maxPatterns}
-use Rattle.exceptions.specs.Keep.{fitOf}
-use Rattle.exceptions.proofs.keep.fit_patterns.Statement.{statement}
-use Rattle.exceptions.proofs.keep.fit_patterns.Tie as tie
+use Rattle.exceptions_admitted.specs.Fit.{fitOf}
+use Rattle.exceptions_admitted.proofs.fit_patterns.Statement.{statement}
+use Rattle.exceptions_admitted.proofs.fit_patterns.Tie as tie
 
 abbrev Inv-loop : tie.InvT-loop
 Inv-loop ks fit₀ pattern₀ fit pattern =

@@ -5,7 +5,7 @@ use search_base::rest::rest_of;
 use search_best::best::Best;
 use search_set::consider_one;
 use search_set::consider_pair;
-use trees_costs::sum_at;
+use trees_sums::sum_at;
 ghost use mathlib.Core.Path.{_≡_};
 ghost use Prim.Native.Nat.{_<_};
 ghost use lib.ListN.{length};

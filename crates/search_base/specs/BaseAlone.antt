@@ -9,7 +9,7 @@ use lib.Dec.{eqb}
 use lib.ListN.{length}
 use Rattle.order.specs.Test.{by-test}
 use Rattle.order.specs.Perm.{sum}
-use Rattle.trees_costs.specs.TreeCosts.{sumOf}
+use Rattle.trees_sums.specs.Added.{sumOf}
 use Rattle.spanning.specs.Labelling.{crosses}
 use Rattle.spanning.specs.LabelList.{labelOf}
 use Rattle.forest.specs.Groups.{apart, joined}

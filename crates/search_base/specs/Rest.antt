@@ -18,7 +18,7 @@ use Rattle.order.specs.Perm.{sum}
 use Rattle.order.specs.Sorted.{Sorted}
 use Rattle.network.specs.Limits.{maxLinks, maxRaised}
 use Rattle.network.specs.Yard.{sumAt}
-use Rattle.trees_costs.specs.TreeCosts.{Below, sum-le, sumOf}
+use Rattle.trees_sums.specs.Added.{Below, sum-le, sumOf}
 use Rattle.kruskal.specs.Tree.{Walkable, bare, linked}
 use Rattle.kruskal.specs.declared.tree.Tree.{Tree}
 use Rattle.search_base.specs.Growth.{grown-all, grown-few, grown-least, grown-more}

@@ -1,7 +1,7 @@
 // The base alone as the best tree so far.
 use network::limits::MAX_LINKS;
 use search_best::best::Best;
-use trees_costs::sum_of;
+use trees_sums::sum_of;
 ghost use mathlib.Core.Path.{_≡_};
 ghost use lib.ListN.{length};
 ghost use Rattle.network.specs.Limits.{maxLinks};

@@ -1,5 +1,5 @@
 // What a tree with a set of exceptions takes of the base, and the sets that cannot lead to a better tree.
-use trees_costs::sum_of;
+use trees_sums::sum_of;
 ghost use mathlib.Core.Path.{_≡_};
 ghost use Prim.Native.Nat.{_+_, _-_, _<_};
 ghost use lib.ListN.{length};

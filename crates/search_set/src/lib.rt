@@ -4,7 +4,7 @@ use kruskal::tree::grow;
 use search_base::rest::Rest;
 use search_best::best::Best;
 use search_best::best::offer;
-use trees_costs::sum_at;
+use trees_sums::sum_at;
 ghost use mathlib.Core.Path.{_≡_};
 ghost use mathlib.Core.List.{_∷_, []};
 ghost use Prim.Native.Nat.{_≤_};

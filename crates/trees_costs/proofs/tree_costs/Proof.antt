@@ -6,7 +6,8 @@ use lib.ListN.{length}
 use mir.Syntax.{w16, w32}
 use mir.Val.{SFits}
 use mir.Facts.{toZ-ofZ}
-use Rattle.trees_costs.specs.TreeCosts.{ceiling-fine, ceiling-at, links-few, links-known, loweredSum, sum-at, sum-small}
+use Rattle.trees_sums.specs.Added.{loweredSum}
+use Rattle.trees_costs.specs.TreeCosts.{ceiling-fine, ceiling-at, links-few, links-known, sum-at, sum-small}
 use Rattle.trees_costs.proofs.tree_costs.Statement.{statement}
 use Rattle.trees_costs.proofs.tree_costs.Tie as tie
 

@@ -7,7 +7,7 @@ use borrow.Author.Needs.{needs}
 use lib.ListN.{length, take}
 use lib.Seq.{length-take-le}
 use denote.Ref.{now}
-use Rattle.trees_costs.specs.TreeCosts.{sumOf}
+use Rattle.trees_sums.specs.Added.{sumOf}
 use Rattle.search_base.specs.Rest.{first-fits, first-known, rest-enough, rest-few}
 use Rattle.search_base.proofs.rest.rest_of.Statement.{statement}
 use Rattle.search_base.proofs.rest.rest_of.Tie as tie

@@ -7,9 +7,10 @@ use lib.ListN.{length}
 use mir.Syntax.{w16}
 use mir.Val.{SFits}
 use mir.Facts.{toZ-ofZ}
-use Rattle.trees_costs.specs.TreeCosts.{figuresUpTo, figures-end, figures-none, figures-turn, below-at}
-use Rattle.trees_costs.proofs.figures_of.Statement.{statement}
-use Rattle.trees_costs.proofs.figures_of.Tie as tie
+use Rattle.trees_sums.specs.Added.{below-at}
+use Rattle.trees_ceilings.specs.Ceiling.{figuresUpTo, figures-end, figures-none, figures-turn}
+use Rattle.trees_ceilings.proofs.figures_of.Statement.{statement}
+use Rattle.trees_ceilings.proofs.figures_of.Tie as tie
 
 abbrev Inv-loop : tie.InvT-loop
 Inv-loop costs ceiling links values₀ count i₀ values i = (i ≤ count) × (count ≡ length links) × (values ≡ figuresUpTo costs ceiling links i)

@@ -6,9 +6,9 @@ use lib.ListN.{length}
 use mir.Syntax.{w16}
 use mir.Val.{SFits}
 use mir.Facts.{toZ-ofZ}
-use Rattle.trees_costs.specs.TreeCosts.{ceiling-absent, ceiling-present, figures-count}
-use Rattle.trees_costs.proofs.ceiling_cost.Statement.{statement}
-use Rattle.trees_costs.proofs.ceiling_cost.Tie as tie
+use Rattle.trees_ceilings.specs.Ceiling.{ceiling-absent, ceiling-present, figures-count}
+use Rattle.trees_ceilings.proofs.ceiling_cost.Statement.{statement}
+use Rattle.trees_ceilings.proofs.ceiling_cost.Tie as tie
 
 figures-of-requires : tie.Need-figures-of-requires
 figures-of-requires c κs = search needs

@@ -1,4 +1,4 @@
--- `trees_costs::lowered` meets its contract. Both numbers are in the lower half of 32 bits, and so is their difference.
+-- `trees_sums::lowered` meets its contract. Both numbers are in the lower half of 32 bits, and so is their difference.
 use Prim.Native.Nat.{_^_, _*_, _<_}
 use borrow.Author.Needs.{needs}
 use mathlib.Core.Path.{_≡_, ap, ap₂, _∙_}
@@ -10,9 +10,9 @@ use mir.Val.{SFits, hbits, ofZ, toZ}
 use mir.ValLaws.{toZ-ofZ, toZ-pos}
 use Rattle.order.specs.Lowered.{sub-integers, sub-small}
 use Rattle.network.specs.Limits.{maxSum}
-use Rattle.trees_costs.specs.TreeCosts.{loweredSum}
-use Rattle.trees_costs.proofs.lowered.Statement.{statement}
-use Rattle.trees_costs.proofs.lowered.Tie as tie
+use Rattle.trees_sums.specs.Added.{loweredSum}
+use Rattle.trees_sums.proofs.lowered.Statement.{statement}
+use Rattle.trees_sums.proofs.lowered.Tie as tie
 
 -- both numbers are in the lower half of 32 bits
 low : (c : tie.Start) → (c .args .raised < 2 ^ hbits w32) × (c .args .count * maxSum < 2 ^ hbits w32)

@@ -4,9 +4,9 @@ use mathlib.Core.Path.{_≡_, refl}
 use native.Mathlib.Omega.{arith}
 use borrow.Author.Needs.{needs}
 use lib.ListN.{drop, length}
-use Rattle.trees_costs.specs.TreeCosts.{below-at, sumOf, sum-end, sum-start, sum-turn}
-use Rattle.trees_costs.proofs.sum_of.Statement.{statement}
-use Rattle.trees_costs.proofs.sum_of.Tie as tie
+use Rattle.trees_sums.specs.Added.{below-at, sumOf, sum-end, sum-start, sum-turn}
+use Rattle.trees_sums.proofs.sum_of.Statement.{statement}
+use Rattle.trees_sums.proofs.sum_of.Tie as tie
 
 abbrev Inv-loop : tie.InvT-loop
 Inv-loop sums links sum₀ i₀ i-end sum i = (i ≤ i-end) × (i-end ≡ length links) × (sum + sumOf sums (drop i links) ≡ sumOf sums links)

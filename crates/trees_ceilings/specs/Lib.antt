@@ -1,0 +1,2 @@
+-- a ceiling cost of a list of links
+pub mod Ceiling

@@ -1,0 +1,2 @@
+-- the sum of a list of links
+pub mod Added

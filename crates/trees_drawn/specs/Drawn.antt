@@ -18,27 +18,15 @@ use Rattle.spanning.specs.Size.{isForest-iff, isTree-iff}
 use Rattle.spanning.specs.Count.{forest-spans}
 use Rattle.spanning.specs.Rising.{isRisingIn, isRisingIn-iff, rising-range}
 use Rattle.spanning.specs.Listing.{isListed}
-use Rattle.forest.specs.Groups.{Led, apart, apart-labels, apart-led, joined, joined-labels, joined-led}
+use Rattle.forest.specs.Groups.{Led, apart, apart-labels, apart-led, joined-labels, joined-led}
 use Rattle.network.specs.Limits.{maxStations}
 use Rattle.network.specs.NetworkFine.{NetworkFine}
 use Rattle.network.specs.Yard as yard
 use Rattle.network.specs.declared.Network.{Network}
-use Rattle.trees_drawn.specs.declared.Drawn.{Drawn}
+use Rattle.trees_drawing.specs.Drawing.{drawing}
+use Rattle.trees_drawing.specs.declared.Drawn.{Drawn}
 
 -- ---- definitions
-
--- link c keeps to the rules after the links that d has seen
-abbrev pub keeps : List ℕ → ℕ → Drawn → ℕ → Bool
-keeps ends m d c = leb (d .low) c && (ltb c m && crosses (labelOf (d .groups .leader)) (yard.endsAt ends c))
-
--- one link more
-unfoldable pub drawing : List ℕ → ℕ → Drawn → ℕ → Drawn
-drawing ends m d c =
-    record {
-      groups = joined (d .groups) (yard.endsAt ends c .a) (yard.endsAt ends c .b);
-      low = c + 1;
-      fine = d .fine && keeps ends m d c;
-    }
 
 -- whether all is fine after the links ts too
 unfoldable pub drawsFrom : List ℕ → ℕ → Drawn → List ℕ → Bool

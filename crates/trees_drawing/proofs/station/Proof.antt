@@ -2,8 +2,8 @@
 use mathlib.Core.Path.{sym}
 use borrow.Author.Needs.{needs}
 use lib.ListN.{List·getD-eq-default}
-use Rattle.trees_drawn.proofs.station.Statement.{statement}
-use Rattle.trees_drawn.proofs.station.Tie as tie
+use Rattle.trees_drawing.proofs.station.Statement.{statement}
+use Rattle.trees_drawing.proofs.station.Tie as tie
 
 shared-slice-read-result : tie.Need-shared-slice-read-result
 shared-slice-read-result c = search needs

@@ -1,8 +1,8 @@
 -- By what the stations and the forest ensure.
 use borrow.Author.Needs.{needs}
-use Rattle.trees_drawn.specs.Drawn.{drawing}
-use Rattle.trees_drawn.proofs.draw.Statement.{statement}
-use Rattle.trees_drawn.proofs.draw.Tie as tie
+use Rattle.trees_drawing.specs.Drawing.{drawing}
+use Rattle.trees_drawing.proofs.draw.Statement.{statement}
+use Rattle.trees_drawing.proofs.draw.Tie as tie
 
 mul-station : tie.Need-mul-station
 mul-station c = search needs

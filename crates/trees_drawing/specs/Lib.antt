@@ -1,0 +1,2 @@
+-- one link more
+pub mod Drawing

@@ -4,7 +4,6 @@ use forest::Forest;
 use kruskal::links::Links;
 use network::limits::MAX_LINKS;
 use network::limits::MAX_PATTERNS;
-ghost use mathlib.Core.Path.{_≡_};
 ghost use Rattle.kruskal.specs.Tree.{Columns, Walkable};
 ghost use Rattle.kruskal.specs.Base.{Holding};
 ghost use Rattle.exceptions_patterns.specs.Patterns.{Patterned};

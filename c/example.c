@@ -1,15 +1,18 @@
-/* Every call on survey A of document 01. */
+/* Every call on survey A of document 01, with either yard record. */
 #include "ranqustei.h"
 
 #include <stdio.h>
 
 /* Three stations, one ceiling with k = 1; links 0-1 (sum 4, cost 7), 1-2 (3, 2), 0-2 (1, 9). */
-static const uint8_t survey[] = {
-    0x59, 0x44, 3, 1, 1, 0,
-    0x4C, 0x4B, 0, 1, 4, 0, 0, 0, 7, 0, 0, 0,
-    0x4C, 0x4B, 1, 2, 3, 0, 0, 0, 2, 0, 0, 0,
-    0x4C, 0x4B, 0, 2, 1, 0, 0, 0, 9, 0, 0, 0,
-};
+#define LINKS \
+    0x4C, 0x4B, 0, 1, 4, 0, 0, 0, 7, 0, 0, 0, \
+    0x4C, 0x4B, 1, 2, 3, 0, 0, 0, 2, 0, 0, 0, \
+    0x4C, 0x4B, 0, 2, 1, 0, 0, 0, 9, 0, 0, 0
+static const uint8_t survey[] = {0x59, 0x44, 3, 1, 1, 0, LINKS};
+
+/* The same with the counted yard record, and its length when the last link is cut off. */
+static const uint8_t counted[] = {0x59, 0x45, 3, 1, 1, 0, 3, LINKS};
+enum { CUT_OFF = sizeof counted - 12 };
 
 static void print_links(const uint8_t *links, size_t count)
 {
@@ -56,5 +59,7 @@ int main(void)
     print_reply("drawn 0 2", ranqustei_judge(survey, sizeof survey, drawn, sizeof drawn));
     print_reply("drawn 0 1 2", ranqustei_judge(survey, sizeof survey, ring, sizeof ring));
     print_reply("a survey cut short", ranqustei_judge(survey, sizeof survey - 1, drawn, sizeof drawn));
+    print_reply("counted, best under 8", ranqustei_best(counted, sizeof counted, 8, 0, tree, sizeof tree));
+    print_reply("counted, its last link cut off", ranqustei_best(counted, CUT_OFF, 8, 0, tree, sizeof tree));
     return 0;
 }

@@ -18,15 +18,23 @@
  * Bytes. A number of several bytes has its low byte first. Sums and ceiling costs are two's complement; all other numbers have no sign. Marks are
  * hexadecimal, everything else is decimal.
  *
- * A survey is a yard record and then m link records, 6 + 12 * m bytes in all. Link i, counted from 0, begins at byte 6 + 12 * i.
+ * A survey is a yard record and then m link records. Its first two bytes say which yard record it has: the plain one, of 6 bytes, or the counted one,
+ * of 7, which also holds m, so that a survey is declined wherever it is cut off. With the plain one a survey has 6 + 12 * m bytes in all, and link i,
+ * counted from 0, begins at byte 6 + 12 * i; with the counted one put 7 for 6. Bytes that begin with neither mark are measured as the plain one is.
  *
- *     yard record, 6 bytes
+ *     plain yard record, 6 bytes
  *     offset  size  field                      range
  *     0       2     mark                       59 44
  *     2       1     n, the stations            1 to 24
  *     3       1     p, the ceilings            0 to 2
  *     4       1     k1, the rank of ceiling 1  1 to 3 and at most t; 0 if p = 0
  *     5       1     k2, the rank of ceiling 2  1 to 3, at most t and at most 4 - k1; 0 if p is below 2
+ *
+ *     counted yard record, 7 bytes
+ *     offset  size  field                      range
+ *     0       2     mark                       59 45
+ *     2       4     n, p, k1, k2               as in the plain one
+ *     6       1     m, the links               0 to 40, as many as follow
  *
  *     link record, 12 bytes
  *     offset  size  field                      range
@@ -69,7 +77,7 @@ extern "C" {
 /* The most bytes of a tree, of a survey that is accepted, and of a plan list; and the most positions that a list call solves. */
 enum {
     RANQUSTEI_TREE_BYTES = 23,
-    RANQUSTEI_SURVEY_BYTES = 486,
+    RANQUSTEI_SURVEY_BYTES = 487,
     RANQUSTEI_LIST_BYTES = 52810,
     RANQUSTEI_POSITIONS = 1600
 };
@@ -77,7 +85,7 @@ enum {
 /*
  * The number in every reply: RANQUSTEI_OK, or why the call declined. A call gives the first number of its row whose cause holds:
  *
- *     judge   1, 2 for the yard record, 3, 4, 5, 6; then 2, 7, 8 for link 0, then for link 1, and so on; then 11
+ *     judge   1, 2 for the yard record, 3, 4, 15, 5, 6; then 2, 7, 8 for link 0, then for link 1, and so on; then 11
  *     best    as judge up to the last link; then 9, 14
  *     list    as judge up to the last link; then 9, 10
  *     fetch   12 for head or length; then 13; then 12 for the mark of plan r
@@ -87,9 +95,9 @@ enum {
 enum {
     /* The call succeeded. */
     RANQUSTEI_OK = 0,
-    /* The survey has fewer than 6 bytes, or its length less 6 is no multiple of 12. */
+    /* The survey has fewer than 6 bytes, or its length less 6 is no multiple of 12; with the mark of the counted yard record put 7 for 6. */
     RANQUSTEI_BAD_LENGTH = 1,
-    /* The yard record or a link record (place) does not begin with its mark. */
+    /* The yard record begins with neither of its marks, or a link record (place) not with its mark. */
     RANQUSTEI_BAD_MARK = 2,
     /* There are no stations, or more than 24. */
     RANQUSTEI_BAD_STATIONS = 3,
@@ -114,11 +122,13 @@ enum {
     /* The plan list has no plan r. */
     RANQUSTEI_NO_SUCH_PLAN = 13,
     /* No tree fits the ceilings. */
-    RANQUSTEI_NO_TREE_FITS = 14
+    RANQUSTEI_NO_TREE_FITS = 14,
+    /* The counted yard record holds another number than the links that follow: the survey may be cut off. */
+    RANQUSTEI_WRONG_COUNT = 15
 };
 
 /* The version of what this header declares: it changes whenever a struct, a call or the meaning of a reply changes. */
-enum { RANQUSTEI_VERSION = 2 };
+enum { RANQUSTEI_VERSION = 3 };
 
 /* The reply of the list call: RANQUSTEI_OK and place 0, or the refusal and its place. */
 typedef struct {

@@ -104,11 +104,12 @@ pub const ZERO: u8 = 3;
 
 const ZEROS: u64 = 0x0303030303030303;
 
-// A yard of a kind with m links. Byte e of a column belongs to link e: a number that picks its pair of stations, and the codes of its sum cost
+// A yard of a kind with m links, whose survey writes their count or does not. Byte e of a column belongs to link e: a number that picks its pair of stations, and the codes of its sum cost
 // and of its ceiling costs.
 pub struct Yard {
     pub kind: u64,
     pub m: u8,
+    pub counted: bool,
     pub pairs: u64,
     pub sums: u64,
     pub costs1: u64,
@@ -149,7 +150,7 @@ fn sum_codes(x: u64, way: usize) -> u64 {
     wrapping_add_u64(x & DRAWN[way % 4], LEAST[way % 4])
 }
 
-// The yard of a number, every kind in its turn, and then once more with other sum costs.
+// The yard of a number, every kind in its turn, and then once more with other sum costs; every other yard has its links counted.
 pub fn make(i: usize, x: u64) -> Yard {
     let kind = KIND[i % KINDS];
     let p = byte(kind, 1);
@@ -159,6 +160,7 @@ pub fn make(i: usize, x: u64) -> Yard {
     Yard {
         kind,
         m: links(x, byte(kind, 0)),
+        counted: i % 2 == 1,
         pairs,
         sums: sum_codes(sums, i / KINDS),
         costs1: codes(costs, p > 0),
@@ -194,13 +196,25 @@ fn link_costs(yard: Yard, e: u8) -> u64 {
     c1 + 65536 * c2
 }
 
+// The mark of the yard record, n, p, k1 and k2, and the link count.
+fn yard_record(yard: Yard) -> u64 {
+    let mark = if yard.counted { 0x4559 } else { 0x4459 };
+    mark + 65536 * (yard.kind % 4294967296) + 281474976710656 * (yard.m as u64)
+}
+
+// How many bytes of it the survey has.
+fn yard_size(yard: Yard) -> usize {
+    if yard.counted { 7 } else { 6 }
+}
+
 // The byte of the survey at an index.
 fn survey_byte(yard: Yard, i: usize) -> u8 {
-    if i < 6 {
-        return byte(0x4459 + 65536 * (yard.kind % 4294967296), i as u8);
+    let first = yard_size(yard);
+    if i < first {
+        return byte(yard_record(yard), (i % 8) as u8);
     }
-    let e = ((i - 6) / 12 % 8) as u8;
-    let at = ((i - 6) % 12) as u8;
+    let e = ((i - first) / 12 % 8) as u8;
+    let at = ((i - first) % 12) as u8;
     if at < 8 {
         return byte(link_record(yard, e), at);
     }
@@ -208,9 +222,9 @@ fn survey_byte(yard: Yard, i: usize) -> u8 {
 }
 
 // The survey of a yard, with room for seven links.
-pub fn survey_of(yard: Yard) -> [u8; 90] {
-    let mut survey = [0u8; 90];
-    for i in 0..90usize {
+pub fn survey_of(yard: Yard) -> [u8; 91] {
+    let mut survey = [0u8; 91];
+    for i in 0..91usize {
         survey[i] = survey_byte(yard, i);
     }
     survey
@@ -218,5 +232,5 @@ pub fn survey_of(yard: Yard) -> [u8; 90] {
 
 // How many bytes the survey has.
 pub fn length(yard: Yard) -> usize {
-    6 + 12 * (yard.m as usize)
+    12 * (yard.m as usize) + yard_size(yard)
 }

@@ -1,7 +1,7 @@
 -- What holds of the bytes of a survey that is accepted.
 use Prim.Native.Nat.{ℕ, zero, suc, _+_, _-_, _*_, _/_, _%_, _≤_, _<_}
 use mathlib.Core.Path.{_≡_, refl, ap}
-use mathlib.Core.Bool.{Bool, true, false, cond, _||_}
+use mathlib.Core.Bool.{Bool, true, false, _||_}
 use mathlib.Core.List.{List}
 use native.Mathlib.Nat.{div-add-mod', mul-le-mul-right, suc-mul}
 use native.Mathlib.Omega.{arith}
@@ -9,10 +9,10 @@ use borrow.Author.Tests.{eqb-true, eqb-false, leb-false, ltb-false, not-false}
 use lib.ListN.{length}
 use Rattle.network.specs.Limits.{maxCeilings, maxLinks, maxStations}
 use Rattle.network.specs.Bytes.{byteAt, markAt}
-use Rattle.network.specs.Survey.{ceilingsIn, endIn, layoutOf, linkCount, linkMark, linkSize, linkStart, plain, ranksIn, stationsIn, sumIn}
-use Rattle.network.specs.Survey.{unknown, yardMark, yardSize}
+use Rattle.network.specs.Survey.{ceilingsIn, endIn, linkCount, linkSize, linkStart, ranksIn, stationsIn, sumIn}
+use Rattle.network.specs.Layouts.{Roomy}
 use Rattle.network.specs.Checked.{fine-both, first-fine, refuse-fine}
-use Rattle.network.specs.Refusals.{absentCost, badLength, badRanks, badSum, checkedWith, linkChecked, linkCheckedAt, yardChecked}
+use Rattle.network.specs.Refusals.{absentCost, badCount, badLength, badRanks, badSum, checkedWith, linkChecked, linkCheckedAt, yardChecked}
 use Rattle.network.specs.declared.Checked.the-variants.{Fine}
 use Rattle.network.specs.declared.Layout.{Layout}
 
@@ -21,62 +21,52 @@ pub or-false : (a b : Bool) → a || b ≡ false → (a ≡ false) × (b ≡ fal
 or-false true b e = let z : _≡_ {A = ℕ} 0 1 = cc in absurd (omega arith)
 or-false false b e = (refl, e)
 
--- a layout has room for the fields that all layouts share
-pub record Roomy (l : Layout) : Type 0 where
-  pub yard : yardSize ≤ l .yard
-  pub link : linkSize ≤ l .link
-
-pub layout-roomy : (s : List ℕ) → Roomy (layoutOf s)
-unfolding layoutOf
-layout-roomy s = go (markAt s 0 yardMark)
-  where
-    go : (b : Bool) → Roomy (cond b plain unknown)
-    go true = record { yard = omega arith; link = omega arith }
-    go false = record { yard = omega arith; link = omega arith }
-
 -- a survey that holds a yard record and m link records, and nothing more
 pub record Whole (s : List ℕ) (l : Layout) (m : ℕ) : Type 0 where
-  pub size : length s ≡ l .yard + m * l .link
+  pub size : length s ≡ l .yard .size + m * l .link .size
   pub roomy : Roomy l
   pub few : m ≤ maxLinks
 
 -- link record i lies inside
 pub inside : {s : List ℕ} {l : Layout} {m : ℕ} → Whole s l m → (i : ℕ) → i < m → linkStart l i + linkSize ≤ length s
-inside {s} {l} {m} w i h = omega (arith, mul-le-mul-right (l .link) h, suc-mul i (l .link))
+inside {s} {l} {m} w i h = omega (arith, mul-le-mul-right (l .link .size) h, suc-mul i (l .link .size))
 
 -- the length is that of a yard record and whole link records
-pub whole-records : (l : Layout) (len : ℕ) → badLength l len ≡ false → len ≡ l .yard + (len - l .yard) / l .link * l .link
+pub whole-records : (l : Layout) (len : ℕ) → badLength l len ≡ false → len ≡ l .yard .size + (len - l .yard .size) / l .link .size * l .link .size
 unfolding badLength
 whole-records l len e =
     let both = or-false _ _ e in
-    let low : l .yard ≤ len = ltb-false _ _ (both .0) in
-    let rest : (len - l .yard) % l .link ≡ 0 = eqb-true _ _ (not-false _ (both .1)) in
-    omega (arith, div-add-mod' (len - l .yard) (l .link))
+    let low : l .yard .size ≤ len = ltb-false _ _ (both .0) in
+    let rest : (len - l .yard .size) % l .link .size ≡ 0 = eqb-true _ _ (not-false _ (both .1)) in
+    omega (arith, div-add-mod' (len - l .yard .size) (l .link .size))
 
 -- the yard record of a survey with m links
 pub record YardFine (s : List ℕ) (l : Layout) (m : ℕ) : Type 0 where
-  pub mark : l .known ≡ true
+  pub mark : markAt s 0 (l .yard .mark) ≡ true
   pub some-station : 1 ≤ stationsIn s
   pub few-stations : stationsIn s ≤ maxStations
   pub few-links : m ≤ maxLinks
+  pub count : badCount s l m ≡ false
   pub few-ceilings : ceilingsIn s ≤ maxCeilings
   pub ranks : badRanks (stationsIn s) (ceilingsIn s) (ranksIn s) ≡ false
 
 pub yard-fine : (s : List ℕ) (l : Layout) (m : ℕ) → yardChecked s l m ≡ Fine → YardFine s l m
 unfolding yardChecked
 yard-fine s l m e =
-    let to5 = fine-both _ _ e in
-    let to4 = fine-both _ _ (to5 .0) in
+    let to6 = fine-both _ _ e in
+    let to5 = fine-both _ _ (to6 .0) in
+    let to15 = fine-both _ _ (to5 .0) in
+    let to4 = fine-both _ _ (to15 .0) in
     let to3 = fine-both _ _ (to4 .0) in
-    let to2 = fine-both _ _ (to3 .0) in
-    let stations = or-false _ _ (refuse-fine _ _ _ (to2 .1)) in
+    let stations = or-false _ _ (refuse-fine _ _ _ (to3 .1)) in
     record {
-      mark = not-false _ (refuse-fine _ _ _ (to2 .0));
+      mark = not-false _ (refuse-fine _ _ _ (to3 .0));
       some-station = ltb-false _ _ (stations .0);
       few-stations = ltb-false _ _ (stations .1);
-      few-links = ltb-false _ _ (refuse-fine _ _ _ (to3 .1));
-      few-ceilings = ltb-false _ _ (refuse-fine _ _ _ (to4 .1));
-      ranks = refuse-fine _ _ _ (to5 .1);
+      few-links = ltb-false _ _ (refuse-fine _ _ _ (to4 .1));
+      count = refuse-fine _ _ _ (to15 .1);
+      few-ceilings = ltb-false _ _ (refuse-fine _ _ _ (to5 .1));
+      ranks = refuse-fine _ _ _ (to6 .1);
     }
 
 -- what holds of 0 and of 1
@@ -86,17 +76,17 @@ below-two P p q (suc zero) h = q
 below-two P p q (suc (suc j)) h = absurd (omega arith)
 
 -- the link record at an index
-pub record LinkFine (s : List ℕ) (at n p : ℕ) : Type 0 where
-  pub mark : markAt s at linkMark ≡ true
+pub record LinkFine (s : List ℕ) (at : ℕ) (mark : List ℕ) (n p : ℕ) : Type 0 where
+  pub marked : markAt s at mark ≡ true
   pub first-end : byteAt s (at + 2) < n
   pub second-end : byteAt s (at + 3) < n
   pub two-ends : byteAt s (at + 2) ≡ byteAt s (at + 3) → ⊥
   pub priced : badSum (sumIn s at) ≡ false
   pub absent : (j : ℕ) → j < 2 → absentCost s at p j ≡ false
 
-pub link-fine : (s : List ℕ) (at n p place : ℕ) → linkChecked s at n p place ≡ Fine → LinkFine s at n p
+pub link-fine : (s : List ℕ) (at : ℕ) (mark : List ℕ) (n p place : ℕ) → linkChecked s at mark n p place ≡ Fine → LinkFine s at mark n p
 unfolding linkChecked
-link-fine s at n p place e =
+link-fine s at mark n p place e =
     let to7 = fine-both _ _ e in
     let to2 = fine-both _ _ (to7 .0) in
     let first : endIn s at 0 ≡ byteAt s (at + 2) = ap (byteAt s) (omega arith) in
@@ -106,7 +96,7 @@ link-fine s at n p place e =
     let costs = or-false _ _ (refuse-fine _ _ _ (to7 .1)) in
     let sum = or-false _ _ (costs .0) in
     record {
-      mark = not-false _ (refuse-fine _ _ _ (to2 .0));
+      marked = not-false _ (refuse-fine _ _ _ (to2 .0));
       first-end = leb-false _ _ (each .0);
       second-end = leb-false _ _ (each .1);
       two-ends = eqb-false _ _ (ends .1);
@@ -131,7 +121,7 @@ whole s l roomy right yard =
 pub record Accepted (s : List ℕ) (l : Layout) : Type 0 where
   pub records : Whole s l (linkCount l s)
   pub yard : YardFine s l (linkCount l s)
-  pub link : (i : ℕ) → i < linkCount l s → LinkFine s (linkStart l i) (stationsIn s) (ceilingsIn s)
+  pub link : (i : ℕ) → i < linkCount l s → LinkFine s (linkStart l i) (l .link .mark) (stationsIn s) (ceilingsIn s)
 
 pub accepted : (s : List ℕ) (l : Layout) → Roomy l → checkedWith l s ≡ Fine → Accepted s l
 unfolding checkedWith
@@ -141,5 +131,5 @@ accepted s l roomy e =
     record {
       records = whole s l roomy (refuse-fine _ _ _ (both .0)) (rest .0);
       yard = yard-fine s l _ (rest .0);
-      link = λ i h. link-fine s (linkStart l i) _ _ (i + 1) (first-fine (linkCheckedAt s l) _ (rest .1) i h);
+      link = λ i h. link-fine s (linkStart l i) _ _ _ (i + 1) (first-fine (linkCheckedAt s l) _ (rest .1) i h);
     }

@@ -20,10 +20,14 @@ pub mod Fetching
 pub mod Printing
 -- the yards worked through, P1 to P21
 pub mod Worked
--- theorems: what the definitions mean, what holds of an accepted survey's bytes, of its sum costs and of its network
+-- theorems: what the definitions mean, what holds of a survey's layout, of an accepted survey's bytes, of its sum costs and of its network
 pub mod Meaning
+pub mod Layouts
 pub mod Accepted
 pub mod Sums
+pub mod Alike
+pub mod Count
+pub mod Cut
 pub mod NetworkFine
 -- demand 3
 pub mod Promise

@@ -24,7 +24,8 @@ use Rattle.network.specs.Refusals.{absentCost, anyBadRank, badPresent, b
 use Rattle.network.specs.Yard.{graph, ranks, sumAt, treeSize}
 use Rattle.network.specs.Walk.{positionCount}
 use Rattle.network.specs.PlanList.{bufferNeed, maxNeed, planSize, planSlots}
-use Rattle.network.specs.Accepted.{Accepted, accepted, layout-roomy, or-false}
+use Rattle.network.specs.Accepted.{Accepted, accepted, or-false}
+use Rattle.network.specs.Layouts.{layout-roomy}
 use Rattle.network.specs.Sums.{raised-at, raised-small, sums-length}
 use Rattle.network.specs.declared.Checked.the-variants.{Fine}
 use Rattle.network.specs.declared.Layout.{Layout}

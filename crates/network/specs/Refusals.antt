@@ -1,4 +1,5 @@
--- Document 01, "When the planner declines": numbers 1 to 8, which a survey alone decides, in their order and with their places.
+-- Document 01, "When the planner declines": numbers 1 to 8 and 15, which a survey alone decides, in their order and with their
+-- places.
 use Prim.Native.Nat.{ℕ, _+_, _-_, _%_}
 use mathlib.Core.Bool.{Bool, false, not, _&&_, _||_}
 use mathlib.Core.List.{List, [], _∷_}
@@ -9,7 +10,7 @@ use lib.Dec.{leb, ltb, eqb}
 use Rattle.kmax.specs.Ceilings.{slackOf}
 use Rattle.network.specs.Limits.{maxCeilings, maxLinks, maxRank, maxSlack, maxStations, maxSum, minSum}
 use Rattle.network.specs.Bytes.{markAt}
-use Rattle.network.specs.Survey.{ceilingsIn, costBitsIn, endIn, layoutOf, linkCount, linkMark, linkStart, ranksIn, stationsIn, sumIn}
+use Rattle.network.specs.Survey.{ceilingsIn, costBitsIn, countIn, endIn, layoutOf, linkCount, linkStart, ranksIn, stationsIn, sumIn}
 use Rattle.network.specs.Checked.{refuseIf, _orElse_, firstRefusal}
 use Rattle.network.specs.declared.Checked.{Checked}
 use Rattle.network.specs.declared.Layout.{Layout}
@@ -20,7 +21,11 @@ outside x low high = ltb x low || ltb high x
 
 -- 1: under a yard record, or the rest no multiple of a link record
 unfoldable pub badLength : Layout → ℕ → Bool
-badLength l len = ltb len (l .yard) || not (eqb ((len - l .yard) % l .link) 0)
+badLength l len = ltb len (l .yard .size) || not (eqb ((len - l .yard .size) % l .link .size) 0)
+
+-- 15: the link count that is written, where the layout has one, is not m
+unfoldable pub badCount : List ℕ → Layout → ℕ → Bool
+badCount s l m = l .counted && not (eqb (countIn s) m)
 
 -- 6, of a present k: it is 1 to 3 and never above t, so below n
 abbrev pub badPresent : ℕ → ℕ → Bool
@@ -55,25 +60,26 @@ badSum s = ltZ s minSum || ltZ (pos maxSum) s
 abbrev pub badCosts : List ℕ → ℕ → ℕ → Bool
 badCosts s at p = badSum (sumIn s at) || absentCost s at p 0 || absentCost s at p 1
 
--- the yard record of a survey with m links: its mark, 3, 4, 5, 6, all at place 0
+-- the yard record of a survey with m links: its mark, 3, 4, 15, 5, 6, all at place 0
 unfoldable pub yardChecked : List ℕ → Layout → ℕ → Checked
 yardChecked s l m =
-    refuseIf (not (l .known)) 2 0
+    refuseIf (not (markAt s 0 (l .yard .mark))) 2 0
     orElse refuseIf (outside (stationsIn s) 1 maxStations) 3 0
     orElse refuseIf (ltb maxLinks m) 4 0
+    orElse refuseIf (badCount s l m) 15 0
     orElse refuseIf (ltb maxCeilings (ceilingsIn s)) 5 0
     orElse refuseIf (badRanks (stationsIn s) (ceilingsIn s) (ranksIn s)) 6 0
 
 -- the link record at an index, with n stations and p ceilings: its mark, 7, 8
-unfoldable pub linkChecked : List ℕ → ℕ → ℕ → ℕ → ℕ → Checked
-linkChecked s at n p place =
-    refuseIf (not (markAt s at linkMark)) 2 place
+unfoldable pub linkChecked : List ℕ → ℕ → List ℕ → ℕ → ℕ → ℕ → Checked
+linkChecked s at mark n p place =
+    refuseIf (not (markAt s at mark)) 2 place
     orElse refuseIf (badEnds s at n) 7 place
     orElse refuseIf (badCosts s at p) 8 place
 
 -- link i of a survey: its place is the link number plus 1
 abbrev pub linkCheckedAt : List ℕ → Layout → ℕ → Checked
-linkCheckedAt s l i = linkChecked s (linkStart l i) (stationsIn s) (ceilingsIn s) (i + 1)
+linkCheckedAt s l i = linkChecked s (linkStart l i) (l .link .mark) (stationsIn s) (ceilingsIn s) (i + 1)
 
 -- the m link records, link by link from 0
 abbrev pub linksChecked : List ℕ → Layout → ℕ → Checked

@@ -14,7 +14,8 @@ use Rattle.network.specs.Column.{column-at, column-length}
 use Rattle.network.specs.Survey.{layoutOf, linkCount, linkStart, networkOf, networkWith, raised, sumIn, sumsIn}
 use Rattle.network.specs.Refusals.{badSum, checkedOf}
 use Rattle.network.specs.Yard.{sumCost}
-use Rattle.network.specs.Accepted.{Accepted, accepted, layout-roomy, or-false}
+use Rattle.network.specs.Accepted.{Accepted, accepted, or-false}
+use Rattle.network.specs.Layouts.{layout-roomy}
 use Rattle.network.specs.declared.Checked.the-variants.{Fine}
 use Rattle.network.specs.declared.Layout.{Layout}
 

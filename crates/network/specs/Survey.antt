@@ -11,43 +11,56 @@ use Rattle.network.specs.Column.{column}
 use Rattle.network.specs.declared.Layout.{Layout}
 use Rattle.network.specs.declared.Network.{Network}
 
--- the mark of the yard record, 59 44
-abbrev pub yardMark : List ℕ
-yardMark = 0x59 ∷ 0x44 ∷ []
-
--- the mark of a link record, 4C 4B
-abbrev pub linkMark : List ℕ
-linkMark = 0x4C ∷ 0x4B ∷ []
-
--- the bytes of a yard record
+-- the bytes that each yard record has: mark, n, p, k1, k2
 abbrev pub yardSize : ℕ
 yardSize = 6
 
--- the bytes of a link record
+-- the bytes that each link record has: mark, two stations, s, c1, c2
 abbrev pub linkSize : ℕ
 linkSize = 12
 
--- the layout that goes with the yard mark
-abbrev pub plain : Layout
-plain = record { known = true; yard = yardSize; link = linkSize }
+-- ---- the layouts
 
--- the layout by which a survey of no known mark is read
-abbrev pub unknown : Layout
-unknown = record { known = false; yard = yardSize; link = linkSize }
+-- a survey whose yard record is that of document 01, with mark 59 44; link records have mark 4C 4B
+abbrev pub plain : Layout
+plain =
+    record {
+      yard = record { mark = 0x59 ∷ 0x44 ∷ []; size = yardSize };
+      counted = false;
+      link = record { mark = 0x4C ∷ 0x4B ∷ []; size = linkSize };
+    }
+
+-- one whose yard record has mark 59 45 and ends with the link count
+abbrev pub withCount : Layout
+withCount =
+    record {
+      yard = record { mark = 0x59 ∷ 0x45 ∷ []; size = yardSize + 1 };
+      counted = true;
+      link = record { mark = 0x4C ∷ 0x4B ∷ []; size = linkSize };
+    }
+
+-- the layouts that are known: a row for each mark of a yard record
+abbrev pub layouts : List Layout
+layouts = plain ∷ withCount ∷ []
+
+-- the row of a table whose mark opens the survey; where no mark is known there, the old lengths hold
+unfoldable pub layoutAmong : List Layout → List ℕ → Layout
+layoutAmong [] s = plain
+layoutAmong (l ∷ ls) s = cond (markAt s 0 (l .yard .mark)) l (layoutAmong ls s)
 
 -- the layout of a survey: its first two bytes say which
 unfoldable pub layoutOf : List ℕ → Layout
-layoutOf s = cond (markAt s 0 yardMark) plain unknown
+layoutOf s = layoutAmong layouts s
 
 -- how many link records follow the yard record
 abbrev pub linkCount : Layout → List ℕ → ℕ
-linkCount l s = (length s - l .yard) / l .link
+linkCount l s = (length s - l .yard .size) / l .link .size
 
 -- where link record i starts
 abbrev pub linkStart : Layout → ℕ → ℕ
-linkStart l i = l .yard + i * l .link
+linkStart l i = l .yard .size + i * l .link .size
 
--- ---- the fields of the yard record: mark, n, p, k1, k2
+-- ---- the fields of the yard record: mark, n, p, k1, k2, and in some layouts the link count
 
 -- n, the number of stations
 abbrev pub stationsIn : List ℕ → ℕ
@@ -64,6 +77,10 @@ rankIn s j = byteAt s (4 + j)
 -- k1 and k2
 abbrev pub ranksIn : List ℕ → List ℕ
 ranksIn s = rankIn s 0 ∷ rankIn s 1 ∷ []
+
+-- the link count as it is written
+abbrev pub countIn : List ℕ → ℕ
+countIn s = byteAt s yardSize
 
 -- ---- the fields of a link record that starts at an index: mark, two stations, s, c1, c2
 

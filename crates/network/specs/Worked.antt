@@ -6,7 +6,7 @@ use mathlib.Core.Logic.{⊎-elim}
 use mathlib.Core.Path.{_≡_, refl, subst⁻¹}
 use Prim.Native.Nat.{ℕ, _-_}
 use lib.IntN.{ℤ, pos, negsuc}
-use lib.ListN.{length, replicate}
+use lib.ListN.{length, replicate, take}
 use mir.Syntax.{w32}
 use Rattle.order.specs.Lists.{_∈_, filter, numbersFrom}
 use Rattle.order.specs.Order.{orderℤ}
@@ -20,10 +20,10 @@ use Rattle.network.specs.Limits.{maxPlans}
 use Rattle.network.specs.Walk.{plans, solvedCount, walked}
 use Rattle.network.specs.Bytes.{bitsOf, littleEndian, signed}
 use Rattle.network.specs.Column.{column}
-use Rattle.network.specs.Survey.{costsIn, endsIn, layoutOf, linkMark, networkOf, networkWith, raised, sumsIn, yardMark}
+use Rattle.network.specs.Survey.{costsIn, endsIn, layoutAmong, layoutOf, networkOf, networkWith, plain, raised, sumsIn, withCount}
 use Rattle.network.specs.PlanList.{bufferNeed, headMark, join, planMark}
 use Rattle.network.specs.Checked.{firstRefusal, refuseIf, _orElse_}
-use Rattle.network.specs.Refusals.{badLength, badRanks, badSum, checkedWith, linkChecked, yardChecked}
+use Rattle.network.specs.Refusals.{badCount, badLength, badRanks, badSum, checkedOf, checkedWith, linkChecked, yardChecked}
 use Rattle.network.specs.Calls.{Reply, ifFine, reply, status}
 use Rattle.network.specs.Calls.{asked, askedChecked, bestTree, drawnChecked, judged, treeAfter, treeWith}
 use Rattle.network.specs.Calls.{listAfter, listChecked, listStatus, plansAfter, plansChecked, roomChecked}
@@ -48,6 +48,8 @@ pub data Row : Type 0 where
   accepts : (n p : ℕ) (pairs : List (List ℕ)) → Row
   -- bits of a sum cost, the numbers that they mean, and which of them number 8 lets pass
   prices : (bits : List ℕ) (meant passed : List ℤ) → Row
+  -- a survey, and the number and place that decline it in every call; 0 and 0 if it is accepted
+  checks : (survey : List ℕ) → Status → Row
   -- standard input, and what the program prints
   prints : (input output : List ℕ) → Row
 
@@ -73,6 +75,7 @@ Right (draws s drawn r) = judged s drawn ≡ r
 Right (ranks k vs v) = kmax orderℤ k vs (pos 0) ≡ v
 Right (accepts n p pairs) = filter (λ ks. not (badRanks n p ks)) rankPairs ≡ pairs
 Right (prices bits meant passed) = (map (signed w32) bits ≡ meant) × (filter (λ s. not (badSum s)) meant ≡ passed)
+Right (checks s r) = status (checkedOf s) ≡ r
 Right (prints input output) = printed input ≡ output
 
 -- ---- bytes as document 01 writes them
@@ -84,10 +87,13 @@ abbrev two : {A : Type 0} → A → A → List A
 two a b = a ∷ b ∷ []
 
 abbrev yard : ℕ → ℕ → ℕ → ℕ → List (List ℕ) → List ℕ
-yard n p k1 k2 links = yardMark ++ (n ∷ p ∷ k1 ∷ k2 ∷ []) ++ join links
+yard n p k1 k2 links = plain .yard .mark ++ (n ∷ p ∷ k1 ∷ k2 ∷ []) ++ join links
+
+abbrev counted : ℕ → ℕ → ℕ → ℕ → ℕ → List (List ℕ) → List ℕ
+counted n p k1 k2 count links = withCount .yard .mark ++ (n ∷ p ∷ k1 ∷ k2 ∷ count ∷ []) ++ join links
 
 abbrev link : ℕ → ℕ → ℕ → ℕ → ℕ → List ℕ
-link a b s c1 c2 = linkMark ++ (a ∷ b ∷ []) ++ (littleEndian 4 s ++ (littleEndian 2 c1 ++ littleEndian 2 c2))
+link a b s c1 c2 = plain .link .mark ++ (a ∷ b ∷ []) ++ (littleEndian 4 s ++ (littleEndian 2 c1 ++ littleEndian 2 c2))
 
 abbrev list : ℕ → ℕ → ℕ → ℕ → List (List ℕ) → List ℕ
 list count solved t p records = headMark ++ (littleEndian 2 count ++ (littleEndian 4 solved ++ (t ∷ p ∷ []))) ++ join records
@@ -105,9 +111,16 @@ costs s y1 y2 = record { number = 0; place = 0; values = s ∷ y1 ∷ y2 ∷ [] 
 abbrev refused : ℕ → ℕ → Reply
 refused number place = record { number = number; place = place; values = [] }
 
+abbrev at : ℕ → ℕ → Status
+at number place = record { number = number; place = place }
+
+-- the links of survey A
+abbrev linksA : List (List ℕ)
+linksA = link 0 1 4 7 0 ∷ link 1 2 3 2 0 ∷ link 0 2 1 9 0 ∷ []
+
 -- Survey A, with k1; A with second costs, k1 and k2; the two links of P4 and P5; P6; P7
 abbrev A : ℕ → List ℕ
-A k1 = yard 3 1 k1 0 (link 0 1 4 7 0 ∷ link 1 2 3 2 0 ∷ link 0 2 1 9 0 ∷ [])
+A k1 = yard 3 1 k1 0 linksA
 
 abbrev A₂ : ℕ → ℕ → List ℕ
 A₂ k1 k2 = yard 3 2 k1 k2 (link 0 1 4 7 1 ∷ link 1 2 3 2 6 ∷ link 0 2 1 9 3 ∷ [])
@@ -130,6 +143,16 @@ sunny = yard 3 1 2 0 (link 0 1 (minus 4) 7 0 ∷ link 1 2 (minus 3) 2 0 ∷ link
 
 abbrev panels : List ℕ
 panels = yard 2 1 1 0 (link 0 1 (minus 5) 8 0 ∷ link 0 1 (minus 5) 3 0 ∷ [])
+
+-- A with its links counted; cut off behind link 1; link 0 of A 41 times
+abbrev countedA : List ℕ
+countedA = counted 3 1 1 0 3 linksA
+
+abbrev cutA : List ℕ
+cutA = take 31 countedA
+
+abbrev links41 : List (List ℕ)
+links41 = replicate 41 (link 0 1 4 7 0)
 
 -- plans 2 solved 3 / -2 9 links 0 2 / 5 7 links 1 2
 abbrev outputSolar : List ℕ
@@ -155,7 +178,8 @@ listA = list 2 3 2 1 (two (plan 4 9 0 (two 1 2)) (plan 7 7 0 (two 0 1)))
 
 -- P1 to P12, in their order; P1 is two rows (the list in the 46 bytes that the buffer needs, and the whole output), and P12 is two. Then both
 -- ranks may be 2: P13, P14 whose tree has one link above both bounds, P15 whose tree has two, one above each, and P16 in three rows. Then sum costs
--- may be negative: P17 in two rows, P18 to P20, and P21 on the sum costs that pass
+-- may be negative: P17 in two rows, P18 to P20, and P21 on the sum costs that pass. Then yard records may write their link count: P22 in two rows,
+-- P23 in three on a survey that is cut off, P24 on where 15 stands among the numbers, P25 on lengths and marks
 pub table : List Row
 table =
     lists (A 1) (two (two 1 2) (two 0 1)) 3 46 listA
@@ -170,8 +194,8 @@ table =
     ∷ asks (A 1) (pos 6) (pos 0) (two 0xFF 0xFF) (refused 14 0) (two 0xFF 0xFF)
     ∷ draws (A 1) (two 0 2) (costs (pos 5) (pos 9) (pos 0))
     ∷ ranks 2 (pos 5 ∷ negsuc 2 ∷ pos 5 ∷ []) (pos 5)
-    ∷ allows (A 1) 3 46 (record { number = 0; place = 0 }) (listA ++ replicate 12 0)
-    ∷ allows (A 1) 2 46 (record { number = 10; place = 0 }) (replicate 46 0)
+    ∷ allows (A 1) 3 46 (at 0 0) (listA ++ replicate 12 0)
+    ∷ allows (A 1) 2 46 (at 10 0) (replicate 46 0)
     ∷ lists (A₂ 2 2) (two 1 2 ∷ two 0 2 ∷ two 0 1 ∷ []) 3 118 (list 3 3 2 2 (plan 4 2 3 (two 1 2) ∷ plan 5 7 1 (two 0 2) ∷ plan 7 2 1 (two 0 1) ∷ []))
     ∷ asks (A₂ 2 2) (pos 8) (pos 2) (two 0xFF 0xFF) (costs (pos 5) (pos 7) (pos 1)) (two 0 2)
     ∷ asks (A₂ 2 2) (pos 8) (pos 3) (two 0xFF 0xFF) (costs (pos 4) (pos 2) (pos 3)) (two 1 2)
@@ -186,6 +210,21 @@ table =
     ∷ prices sumBits
     (negsuc 2_147_483_647 ∷ negsuc 1_000_000 ∷ negsuc 999_999 ∷ negsuc 0 ∷ pos 0 ∷ pos 1_000_000 ∷ pos 1_000_001 ∷ pos 2_147_483_647 ∷ [])
     (negsuc 999_999 ∷ negsuc 0 ∷ pos 0 ∷ pos 1_000_000 ∷ [])
+    ∷ lists countedA (two (two 1 2) (two 0 1)) 3 46 listA
+    ∷ prints countedA outputA
+    ∷ allows cutA 3 46 (at 15 0) (replicate 46 0xFF)
+    ∷ asks cutA (pos 8) (pos 0) (two 0xFF 0xFF) (refused 15 0) (two 0xFF 0xFF)
+    ∷ draws cutA (two 0 1) (refused 15 0)
+    ∷ checks (counted 3 1 1 0 4 linksA) (at 15 0)
+    ∷ checks (counted 25 1 1 0 4 linksA) (at 3 0)
+    ∷ checks (counted 3 1 1 0 40 links41) (at 4 0)
+    ∷ checks (counted 3 3 1 0 4 linksA) (at 15 0)
+    ∷ checks (counted 3 3 1 0 3 linksA) (at 5 0)
+    ∷ checks (counted 1 0 0 0 0 []) (at 0 0)
+    ∷ checks (take 6 countedA) (at 1 0)
+    ∷ checks (take 1 countedA) (at 1 0)
+    ∷ checks (0x59 ∷ 0x46 ∷ 3 ∷ 1 ∷ 1 ∷ 0 ∷ []) (at 2 0)
+    ∷ checks (0x59 ∷ 0x46 ∷ 3 ∷ 1 ∷ 1 ∷ 0 ∷ 0 ∷ []) (at 1 0)
     ∷ []
 
 -- ---- the theorem
@@ -202,9 +241,9 @@ every P (h ▸ r) x m = ⊎-elim (λ q. subst⁻¹ P q h) (λ n. every P r x n) 
 
 -- every row of the table is right
 pub table-right : (r : Row) → r ∈ table → Right r
-unfolding table endsIn sumsIn costsIn column layoutOf networkWith raised signed bitsOf
+unfolding table endsIn sumsIn costsIn column layoutAmong layoutOf networkWith raised signed bitsOf
     spanningTrees choose chooseFrom tree.isTree tree.isTreeFrom tree.isForest tree.isOneComponent crosses merge numbersFrom isListed
-    badLength badRanks badSum checkedWith linkChecked yardChecked firstRefusal refuseIf _orElse_ reply status ifFine
+    badCount badLength badRanks badSum checkedWith linkChecked yardChecked firstRefusal refuseIf _orElse_ reply status ifFine
     judged drawnChecked asked askedChecked bestTree treeAfter treeWith roomChecked plansChecked plansAfter listChecked listStatus listAfter printed
 table-right = every Right (
     record { promised = refl; by-walk = refl; counted = refl; needed = refl; succeeds = refl; bytes = refl }
@@ -221,5 +260,8 @@ table-right = every Right (
     ▸ record { promised = refl; by-walk = refl; counted = refl; needed = refl; succeeds = refl; bytes = refl }
     ▸ refl
     ▸ record { promised = refl; by-walk = refl; counted = refl; needed = refl; succeeds = refl; bytes = refl }
-    ▸ (refl, refl) ▸ refl ▸ (refl, refl) ▸ done
+    ▸ (refl, refl) ▸ refl ▸ (refl, refl)
+    ▸ record { promised = refl; by-walk = refl; counted = refl; needed = refl; succeeds = refl; bytes = refl }
+    ▸ refl
+    ▸ (refl, refl) ▸ (refl, refl) ▸ refl ▸ refl ▸ refl ▸ refl ▸ refl ▸ refl ▸ refl ▸ refl ▸ refl ▸ refl ▸ refl ▸ done
     )

@@ -49,9 +49,15 @@ pub enum Checked {
     Refused(Refusal),
 }
 
-// Which yard record a survey has: whether its mark is known, and how many bytes the yard record and a link record take.
+// What a record is: the mark that opens it, and its size in bytes.
+pub struct Form {
+    pub mark: [u8; 2],
+    pub size: usize,
+}
+
+// What the records of a survey are: its yard record, whether that ends with the number of links, and its link records.
 pub struct Layout {
-    pub known: bool,
-    pub yard: usize,
-    pub link: usize,
+    pub yard: Form,
+    pub counted: bool,
+    pub link: Form,
 }

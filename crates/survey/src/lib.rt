@@ -8,7 +8,7 @@ use network::limits::MAX_LINKS;
 use survey_decode::decode;
 use survey_layout::layout::layout_of;
 ghost use mathlib.Core.Path.{_≡_};
-ghost use Rattle.network.specs.Accepted.{Roomy};
+ghost use Rattle.network.specs.Layouts.{Roomy};
 ghost use Rattle.survey.specs.Survey.{noNetwork, surveyOf, surveyWith};
 
 mod rules;
@@ -46,8 +46,8 @@ fn read_with(s: &[u8], l: Layout) -> Survey
             Survey { checked, network }
         }
         Checked::Fine => {
-            let first = l.yard;
-            let size = l.link;
+            let first = l.yard.size;
+            let size = l.link.size;
             let network = decode(s, l, (s.len() - first) / size);
             Survey { checked, network }
         }

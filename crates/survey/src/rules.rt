@@ -6,7 +6,7 @@ use survey_layout::layout::bad_length;
 use survey_links::check_links;
 use survey_yard::check_yard;
 ghost use mathlib.Core.Path.{_≡_};
-ghost use Rattle.network.specs.Accepted.{Roomy};
+ghost use Rattle.network.specs.Layouts.{Roomy};
 ghost use Rattle.network.specs.Refusals.{checkedWith};
 
 // A survey in a layout: nothing, or its first refusal.
@@ -17,8 +17,8 @@ pub(crate) fn check_with(s: &[u8], l: Layout) -> Checked
     if bad_length(l, s.len()) {
         return refuse_if(true, 1, 0);
     }
-    let first = l.yard;
-    let size = l.link;
+    let first = l.yard.size;
+    let size = l.link.size;
     let m = (s.len() - first) / size;
     let yard = check_yard(s, l, m);
     match yard {

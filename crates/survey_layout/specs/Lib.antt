@@ -1,2 +1,2 @@
--- a survey too short for a mark
-pub mod Mark
+-- the loop over the table of layouts
+pub mod Rows

@@ -1,51 +1,69 @@
-// Where the records of a survey stand.
-use crate::fields::YARD_MARK;
+// The layouts of surveys, and where the records of a survey stand.
 use encoding_numbers::mark_at;
+use network::Form;
 use network::Layout;
 use network::limits::LINK_SIZE;
 use network::limits::YARD_SIZE;
 ghost use mathlib.Core.Path.{_≡_};
 ghost use Prim.Native.Nat.{_+_, _≤_, _<_};
 ghost use lib.ListN.{length};
-ghost use Rattle.network.specs.Survey.{layoutOf, linkSize, linkStart, unknown};
+ghost use Rattle.network.specs.Survey.{layoutOf, linkSize, linkStart};
 ghost use Rattle.network.specs.Refusals.{badLength};
-ghost use Rattle.network.specs.Accepted.{Roomy, Whole};
+ghost use Rattle.network.specs.Accepted.{Whole};
+ghost use Rattle.network.specs.Layouts.{Roomy};
 
-// What a survey of no known mark is read by.
-fn unknown_layout() -> Layout
-    ensures { λ r. ⌜ r ≡ unknown ⌝ }
-{
-    Layout {
-        known: false,
-        yard: YARD_SIZE,
-        link: LINK_SIZE,
-    }
-}
+const LINK: Form = Form {
+    mark: *b"LK",
+    size: LINK_SIZE,
+};
 
-// The layout of a survey.
+// The yard record of document 01.
+const PLAIN: Layout = Layout {
+    yard: Form {
+        mark: *b"YD",
+        size: YARD_SIZE,
+    },
+    counted: false,
+    link: LINK,
+};
+
+// The yard record that ends with the link count.
+const WITH_COUNT: Layout = Layout {
+    yard: Form {
+        mark: *b"YE",
+        size: YARD_SIZE + 1,
+    },
+    counted: true,
+    link: LINK,
+};
+
+// The layouts that are known, a row for each mark of a yard record.
+const LAYOUTS: [Layout; 2] = [PLAIN, WITH_COUNT];
+
+// The layout of a survey; where no known mark opens it, the old one.
 pub fn layout_of(s: &[u8]) -> Layout
     ensures { λ r. ⌜ (r ≡ layoutOf (now (s .entry))) × Roomy r ⌝ }
 {
     if s.len() < 2 {
-        return unknown_layout();
+        return PLAIN;
     }
-    if mark_at(s, 0, YARD_MARK) {
-        return Layout {
-            known: true,
-            yard: YARD_SIZE,
-            link: LINK_SIZE,
-        };
+    for i in 0..LAYOUTS.len() {
+        let row = LAYOUTS[i];
+        let mark = row.yard.mark;
+        if mark_at(s, 0, mark) {
+            return row;
+        }
     }
-    unknown_layout()
+    PLAIN
 }
 
 // Whether a survey's length is no yard record with whole link records after it.
 pub fn bad_length(l: Layout, len: usize) -> bool
-    requires { ⌜ 0 < l .link ⌝ }
+    requires { ⌜ 0 < l .link .size ⌝ }
     ensures { λ r. ⌜ r ≡ badLength l len ⌝ }
 {
-    let first = l.yard;
-    let size = l.link;
+    let first = l.yard.size;
+    let size = l.link.size;
     if len < first {
         return true;
     }
@@ -57,7 +75,7 @@ pub fn link_start(s: &[u8], l: Layout, m: usize, i: usize) -> usize
     requires { ⌜ Whole (now s) l m × (i < m) ⌝ }
     ensures { λ r. ⌜ (r ≡ linkStart l i) × (r + linkSize ≤ length (now (s .entry))) ⌝ }
 {
-    let first = l.yard;
-    let size = l.link;
+    let first = l.yard.size;
+    let size = l.link.size;
     first + i * size
 }

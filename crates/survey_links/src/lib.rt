@@ -7,7 +7,6 @@ use survey_checks::refuse_if;
 use survey_costs::bad_costs;
 use survey_ends::bad_ends;
 use survey_layout::fields::CEILINGS;
-use survey_layout::fields::LINK_MARK;
 use survey_layout::fields::STATIONS;
 use survey_layout::layout::link_start;
 ghost use mathlib.Core.Path.{_≡_};
@@ -17,12 +16,12 @@ ghost use Rattle.network.specs.Survey.{linkSize};
 ghost use Rattle.network.specs.Accepted.{Whole};
 ghost use Rattle.network.specs.Refusals.{linkChecked, linksChecked};
 
-// The link record at an index, in a survey with n stations and p ceilings.
-fn check_link(s: &[u8], at: usize, n: u8, p: u8, place: u8) -> Checked
+// The link record at an index, in a survey with n stations and p ceilings, whose link records have this mark.
+fn check_link(s: &[u8], at: usize, mark: [u8; 2], n: u8, p: u8, place: u8) -> Checked
     requires { ⌜ at + linkSize ≤ length (now s) ⌝ }
-    ensures { λ r. ⌜ r ≡ linkChecked (now (s .entry)) at n p place ⌝ }
+    ensures { λ r. ⌜ r ≡ linkChecked (now (s .entry)) at mark n p place ⌝ }
 {
-    let c2 = refuse_if(!mark_at(s, at, LINK_MARK), 2, place);
+    let c2 = refuse_if(!mark_at(s, at, mark), 2, place);
     let c7 = or_refuse_if(c2, bad_ends(s, at, n), 7, place);
     or_refuse_if(c7, bad_costs(s, at, p), 8, place)
 }
@@ -32,12 +31,13 @@ pub fn check_links(s: &[u8], l: Layout, m: usize) -> Checked
     requires { ⌜ Whole (now s) l m ⌝ }
     ensures { λ r. ⌜ r ≡ linksChecked (now (s .entry)) l m ⌝ }
 {
+    let mark = l.link.mark;
     let n = s[STATIONS];
     let p = s[CEILINGS];
     let mut i = 0;
     while i < m {
         let at = link_start(s, l, m, i);
-        let c = check_link(s, at, n, p, (i + 1) as u8);
+        let c = check_link(s, at, mark, n, p, (i + 1) as u8);
         if let Checked::Refused(_) = c {
             return c;
         }

@@ -1,4 +1,5 @@
-// The rules of a survey's yard record: its mark, and the numbers 3 to 6.
+// The rules of a survey's yard record: its mark, the numbers 3 to 6, and 15 between 4 and 5.
+use encoding_numbers::mark_at;
 use network::Checked;
 use network::Layout;
 use network::limits::MAX_CEILINGS;
@@ -8,25 +9,51 @@ use survey_checks::is_outside;
 use survey_checks::or_refuse_if;
 use survey_checks::refuse_if;
 use survey_layout::fields::CEILINGS;
+use survey_layout::fields::COUNT;
 use survey_layout::fields::RANKS;
 use survey_layout::fields::STATIONS;
 use survey_ranks::bad_ranks;
+ghost use mathlib.Core.Bool.{not};
 ghost use mathlib.Core.Path.{_≡_};
 ghost use Prim.Native.Nat.{_≤_};
+ghost use lib.Dec.{eqb};
 ghost use lib.ListN.{length};
-ghost use Rattle.network.specs.Accepted.{Roomy};
-ghost use Rattle.network.specs.Refusals.{yardChecked};
+ghost use Rattle.network.specs.Layouts.{Roomy};
+ghost use Rattle.network.specs.Refusals.{badCount, yardChecked};
+
+// Whether a written count is not m.
+fn differs(count: u8, m: usize) -> bool
+    ensures { λ r. ⌜ r ≡ not (eqb count m) ⌝ }
+{
+    count as usize != m
+}
+
+// Whether the link count that is written, where the layout has one, is not m.
+fn bad_count(s: &[u8], l: Layout, m: usize) -> bool
+    requires { ⌜ Roomy l × (l .yard .size ≤ length (now s)) ⌝ }
+    ensures { λ r. ⌜ r ≡ badCount (now (s .entry)) l m ⌝ }
+{
+    if l.counted {
+        differs(s[COUNT], m)
+    } else {
+        false
+    }
+}
 
 // The yard record of a survey with m links.
 pub fn check_yard(s: &[u8], l: Layout, m: usize) -> Checked
-    requires { ⌜ Roomy l × (l .yard ≤ length (now s)) ⌝ }
+    requires { ⌜ Roomy l × (l .yard .size ≤ length (now s)) ⌝ }
     ensures { λ r. ⌜ r ≡ yardChecked (now (s .entry)) l m ⌝ }
 {
+    let mark = l.yard.mark;
     let n = s[STATIONS];
     let p = s[CEILINGS];
-    let c2 = refuse_if(!l.known, 2, 0);
+    let miscounted = bad_count(s, l, m);
+    let too_many_ceilings = (MAX_CEILINGS as u8) < p;
+    let c2 = refuse_if(!mark_at(s, 0, mark), 2, 0);
     let c3 = or_refuse_if(c2, is_outside(n, 1, MAX_STATIONS as u8), 3, 0);
     let c4 = or_refuse_if(c3, MAX_LINKS < m, 4, 0);
-    let c5 = or_refuse_if(c4, (MAX_CEILINGS as u8) < p, 5, 0);
+    let c15 = or_refuse_if(c4, miscounted, 15, 0);
+    let c5 = or_refuse_if(c15, too_many_ceilings, 5, 0);
     or_refuse_if(c5, bad_ranks(n, p, &s[RANKS..RANKS + MAX_CEILINGS]), 6, 0)
 }

@@ -3,6 +3,7 @@
 // A line of the input is a word and numbers. These lines make a survey:
 //
 //     yard N P K1 K2          a survey begins with this yard record
+//     tally N P K1 K2 COUNT   a survey begins with this yard record, which has a link count
 //     link A B S C1 C2        one link record more
 //     set I X                 byte I is X
 //     cut L                   the survey has L bytes
@@ -36,6 +37,7 @@ fn obey(yard: Yard, line: Line, byte: u8) -> Yard {
     }
     match word {
         b'y' => Yard::begin(numbers),
+        b't' => Yard::begin_counted(numbers),
         b'l' => yard.link(numbers),
         b's' => yard.set(numbers),
         b'c' => yard.cut(numbers),

@@ -12,10 +12,14 @@ const ROOM: usize = 16 * (MAX_LINKS + 1);
 
 const YARD_MARK: u32 = 0x4459;
 
+const COUNTED_MARK: u32 = 0x4559;
+
 const LINK_MARK: u32 = 0x4B4C;
 
-// How many bytes each number of a yard record takes, and of a link record.
+// How many bytes each number of a yard record takes, of one with a link count, and of a link record.
 const YARD_SIZES: [u8; 5] = [1, 1, 1, 1, 0];
+
+const COUNTED_SIZES: [u8; 5] = [1, 1, 1, 1, 1];
 
 const LINK_SIZES: [u8; 5] = [1, 1, 4, 2, 2];
 
@@ -59,6 +63,11 @@ impl Yard {
     // A yard record alone.
     pub fn begin(numbers: [u32; NUMBERS]) -> Yard {
         Yard::new().record(YARD_MARK, YARD_SIZES, numbers)
+    }
+
+    // A yard record that has a link count, alone.
+    pub fn begin_counted(numbers: [u32; NUMBERS]) -> Yard {
+        Yard::new().record(COUNTED_MARK, COUNTED_SIZES, numbers)
     }
 
     // A link record more.

@@ -3,6 +3,7 @@
 use crate::fetching::plan_sums;
 use crate::listed::Listed;
 use crate::planner::Planner;
+use crate::records::RecordTally;
 use crate::sums::SumTally;
 use peer::{Costs, Refusal};
 use std::fmt::{self, Debug, Display, Formatter};
@@ -32,11 +33,13 @@ pub struct Tally {
     /// Bytes of lent buffers and returned parts.
     pub bytes: u64,
     /// How many calls replied with each number; 0 is success.
-    pub numbers: [u64; 15],
+    pub numbers: [u64; 16],
     /// What was held against a listing of all trees.
     pub listed: Listed,
     /// Which sum costs there were.
     pub sums: SumTally,
+    /// Which yard records there were.
+    pub records: RecordTally,
 }
 
 impl Tally {
@@ -47,6 +50,7 @@ impl Tally {
         self.bytes += other.bytes;
         self.listed.add(&other.listed);
         self.sums.add(&other.sums);
+        self.records.add(&other.records);
         let calls = self.calls.iter_mut().zip(other.calls);
         let numbers = self.numbers.iter_mut().zip(other.numbers);
         for (count, more) in calls.chain(numbers) {

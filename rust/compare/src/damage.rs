@@ -3,10 +3,16 @@
 use crate::draft::{Draft, LinkDraft};
 use crate::rng::Rng;
 use crate::sums::LIMITS_AND_OUTSIDE;
+use peer::records::YARD_RECORDS;
+
+/// A yard mark that no kind of yard record has.
+const UNKNOWN_MARK: [u8; 2] = [0x59, 0x46];
 
 /// The kinds of damage to the fields of a survey.
-const FIELD_DAMAGES: [fn(&mut Draft, &mut Rng); 12] = [
+const FIELD_DAMAGES: [fn(&mut Draft, &mut Rng); 17] = [
     yard_mark,
+    other_mark,
+    unknown_mark,
     stations,
     ceilings,
     any_ranks,
@@ -18,6 +24,9 @@ const FIELD_DAMAGES: [fn(&mut Draft, &mut Rng); 12] = [
     sum,
     cost_of_any_ceiling,
     too_many_links,
+    link_dropped,
+    link_added,
+    wrong_count,
 ];
 
 /// The kinds of damage to the bytes of a survey.
@@ -42,15 +51,34 @@ pub fn damaged(mut draft: Draft, rng: &mut Rng) -> Vec<u8> {
     bytes
 }
 
+/// All surveys with two damages to their fields, in either order.
+pub fn damaged_in_pairs(draft: &Draft, rng: &mut Rng) -> Vec<Vec<u8>> {
+    let mut surveys = Vec::new();
+    for first in FIELD_DAMAGES {
+        for second in FIELD_DAMAGES {
+            let mut draft = draft.clone();
+            first(&mut draft, rng);
+            second(&mut draft, rng);
+            surveys.push(draft.bytes());
+        }
+    }
+    surveys
+}
+
+/// All surveys that are a part of one, from its start.
+pub fn cuts(survey: &[u8]) -> Vec<Vec<u8>> {
+    let lengths = 0..survey.len();
+    lengths.map(|len| survey[..len].to_vec()).collect()
+}
+
 /// All surveys that differ from one by a cut or a single bit.
 pub fn cuts_and_flips(survey: &[u8]) -> Vec<Vec<u8>> {
-    let cuts = (0..survey.len()).map(|len| survey[..len].to_vec());
     let flips = (0..survey.len() * 8).map(|bit| {
         let mut bytes = survey.to_vec();
         bytes[bit / 8] ^= 1 << (bit % 8);
         bytes
     });
-    cuts.chain(flips).collect()
+    cuts(survey).into_iter().chain(flips).collect()
 }
 
 /// All surveys that differ from one by a sum cost at a limit or outside, on any link.
@@ -72,6 +100,17 @@ fn wrong_byte(byte: &mut u8, rng: &mut Rng) {
 
 fn yard_mark(draft: &mut Draft, rng: &mut Rng) {
     wrong_byte(&mut draft.mark[rng.below(2)], rng);
+}
+
+/// The mark of another kind of yard record, so that the survey is measured by that kind.
+fn other_mark(draft: &mut Draft, rng: &mut Rng) {
+    let mut marks = YARD_RECORDS.map(|record| record.mark).to_vec();
+    marks.retain(|&mark| mark != draft.mark);
+    draft.mark = rng.pick(&marks);
+}
+
+fn unknown_mark(draft: &mut Draft, _: &mut Rng) {
+    draft.mark = UNKNOWN_MARK;
 }
 
 fn stations(draft: &mut Draft, rng: &mut Rng) {
@@ -134,6 +173,30 @@ fn too_many_links(draft: &mut Draft, rng: &mut Rng) {
     let count = rng.pick(&[40, 41, 42, 255, 256, 300]);
     if let Some(&link) = draft.links.first() {
         draft.links.resize(count, link);
+    }
+    if rng.once_in(2) {
+        draft.write_count();
+    }
+}
+
+fn link_dropped(draft: &mut Draft, rng: &mut Rng) {
+    let count = draft.links.len();
+    if count > 0 {
+        draft.links.remove(rng.below(count));
+    }
+}
+
+fn link_added(draft: &mut Draft, rng: &mut Rng) {
+    if let Some(&mut link) = any_link(draft, rng) {
+        draft.links.push(link);
+    }
+}
+
+fn wrong_count(draft: &mut Draft, rng: &mut Rng) {
+    if let Some(count) = &mut draft.count {
+        let [before, after] = [count.wrapping_sub(1), count.wrapping_add(1)];
+        let any = rng.bits() as u8;
+        *count = rng.pick(&[before, after, 0, 255, any]);
     }
 }
 

@@ -1,15 +1,11 @@
 //! A survey in the making: any field can hold any value, legal or not.
 
+use peer::records::{YardRecord, LINK_BYTES};
 use std::ops::Range;
 
-/// The mark of a yard record.
-pub const YARD_MARK: [u8; 2] = [0x59, 0x44];
-/// The mark of a link record.
-pub const LINK_MARK: [u8; 2] = [0x4c, 0x4b];
-
 /// Where in a survey the sum cost of a link stands.
-pub fn sum_bytes(link: usize) -> Range<usize> {
-    let start = 6 + 12 * link + 4;
+pub fn sum_bytes(survey: &[u8], link: usize) -> Range<usize> {
+    let start = YardRecord::of(survey).bytes + LINK_BYTES * link + 4;
     start..start + 4
 }
 
@@ -37,6 +33,8 @@ pub struct Draft {
     pub ceilings: u8,
     /// The ranks.
     pub ranks: [u8; 2],
+    /// The link count, if the yard record has one.
+    pub count: Option<u8>,
     /// The link records.
     pub links: Vec<LinkDraft>,
 }
@@ -47,6 +45,7 @@ impl Draft {
         let mut bytes = self.mark.to_vec();
         bytes.extend([self.stations, self.ceilings]);
         bytes.extend(self.ranks);
+        bytes.extend(self.count);
         for link in &self.links {
             bytes.extend(link.mark);
             bytes.extend(link.ends);
@@ -54,5 +53,12 @@ impl Draft {
             bytes.extend(link.costs.map(i16::to_le_bytes).as_flattened());
         }
         bytes
+    }
+
+    /// Writes how many links there are, if the yard record has a count; of a number that needs
+    /// more than a byte, the low one.
+    pub fn write_count(&mut self) {
+        let present = self.links.len() as u8;
+        self.count = self.count.map(|_| present);
     }
 }

@@ -1,13 +1,14 @@
 //! The kinds of surveys compared, each with its own seeds.
 
 use crate::comparison::{Comparison, Difference};
-use crate::damage::{cuts_and_flips, damaged, sums_at_limits};
+use crate::damage::{cuts, cuts_and_flips, damaged, damaged_in_pairs, sums_at_limits};
 use crate::rng::Rng;
 use crate::round::{all_calls, few_calls};
 use crate::yards::Layout::{self, Any, Connected, Disconnected};
 use crate::yards::Recipe;
 use crate::yards::Values::{self, Different, Extreme, Free, Opposed, Tied};
-use Damage::{Each, EachSum, Random, Whole};
+use peer::records::COUNTED;
+use Damage::{Each, EachCut, EachPair, EachSum, Random, Whole};
 
 /// A kind of surveys.
 pub struct Kind {
@@ -31,10 +32,14 @@ enum Damage {
     Each,
     /// A sum cost at or past a limit on each link in turn.
     EachSum,
+    /// Two things to the fields, each pair of them in turn.
+    EachPair,
+    /// Each cut in turn.
+    EachCut,
 }
 
 /// All kinds, legal surveys first.
-pub const KINDS: [Kind; 21] = [
+pub const KINDS: [Kind; 23] = [
     legal(1, "small", 3000, small(Any, Free)),
     legal(2, "small, connected", 3000, small(Connected, Free)),
     legal(3, "small, opposed", 3000, small(Connected, Opposed)),
@@ -56,6 +61,8 @@ pub const KINDS: [Kind; 21] = [
     kind(13, "tied, damaged", 250_000, small(Any, Tied), Random),
     kind(14, "cut or flipped", 100, small(Connected, Tied), Each),
     kind(21, "sums at the limits", 20, hard(40, Free), EachSum),
+    kind(22, "damaged in pairs", 100, small(Any, Free), EachPair),
+    counted(kind(23, "counted, cut", 3, hard(40, Free), EachCut)),
 ];
 
 const fn legal(number: u64, name: &'static str, seeds: u64, recipe: Recipe) -> Kind {
@@ -67,9 +74,15 @@ const fn kind(number: u64, name: &'static str, seeds: u64, recipe: Recipe, damag
         name,
         seeds,
         first_seed: number * 1_000_000,
-        recipe: recipe.with_any_signs(),
+        recipe: recipe.with_any_signs().with_any_record(),
         damage,
     }
+}
+
+/// The kind with a link count in each survey.
+const fn counted(kind: Kind) -> Kind {
+    let recipe = kind.recipe.with_record(COUNTED);
+    Kind { recipe, ..kind }
 }
 
 impl Kind {
@@ -86,6 +99,8 @@ impl Kind {
             Random => vec![damaged(draft, rng)],
             Each => cuts_and_flips(&draft.bytes()),
             EachSum => sums_at_limits(&draft),
+            EachPair => damaged_in_pairs(&draft, rng),
+            EachCut => cuts(&draft.bytes()),
         }
     }
 
@@ -98,7 +113,7 @@ impl Kind {
     ) -> Result<(), Difference> {
         match self.damage {
             Whole => all_calls(c, survey, rng),
-            Random | Each | EachSum => few_calls(c, survey, rng),
+            Random | Each | EachSum | EachPair | EachCut => few_calls(c, survey, rng),
         }
     }
 }

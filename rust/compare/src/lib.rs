@@ -13,6 +13,7 @@ pub mod fetching;
 pub mod kinds;
 pub mod listed;
 pub mod planner;
+pub mod records;
 pub mod rng;
 pub mod round;
 pub mod sums;

@@ -86,7 +86,7 @@ impl SumTally {
             return;
         };
         for (refused, sum) in self.refused.iter_mut().zip(OUTSIDE) {
-            if survey[sum_bytes(link.into())] == sum.to_le_bytes() {
+            if survey[sum_bytes(survey, link.into())] == sum.to_le_bytes() {
                 refused.surveys += 1;
                 refused.links = refused.links.with(link);
             }

@@ -1,8 +1,9 @@
 //! The generator of legal yards.
 
-use crate::draft::{Draft, LinkDraft, LINK_MARK, YARD_MARK};
+use crate::draft::{Draft, LinkDraft};
 use crate::rng::Rng;
 use crate::sums;
+use peer::records::{YardRecord, LINK_MARK, PLAIN, YARD_RECORDS};
 use std::ops::RangeInclusive;
 
 /// How a yard's links lie.
@@ -91,11 +92,13 @@ pub struct Recipe {
     values: Values,
     /// The signs of every yard; without them each yard draws its own.
     signs: Option<Signs>,
+    /// The yard record of every yard; without it each yard draws its own.
+    record: Option<YardRecord>,
 }
 
 impl Recipe {
-    /// Yards of so many stations and links, without a sum cost below 0. A connected yard has at
-    /// least a tree's links.
+    /// Yards of so many stations and links, without a sum cost below 0 and without a link count.
+    /// A connected yard has at least a tree's links.
     pub const fn new(
         stations: RangeInclusive<i64>,
         links: RangeInclusive<i64>,
@@ -108,6 +111,7 @@ impl Recipe {
             layout,
             values,
             signs: Some(Signs::Plus),
+            record: Some(PLAIN),
         }
     }
 
@@ -121,6 +125,18 @@ impl Recipe {
     pub const fn with_any_signs(self) -> Recipe {
         let signs = None;
         Recipe { signs, ..self }
+    }
+
+    /// The recipe with another yard record.
+    pub const fn with_record(self, record: YardRecord) -> Recipe {
+        let record = Some(record);
+        Recipe { record, ..self }
+    }
+
+    /// The recipe with a yard record that differs from yard to yard.
+    pub const fn with_any_record(self) -> Recipe {
+        let record = None;
+        Recipe { record, ..self }
     }
 
     /// A yard with any legal number of ceilings and any legal ranks.
@@ -150,11 +166,13 @@ impl Recipe {
             sum: sums[i] as i32,
             costs: [costs[0][i] as i16, costs[1][i] as i16],
         };
+        let record = self.record.unwrap_or_else(|| rng.pick(&YARD_RECORDS));
         Draft {
-            mark: YARD_MARK,
+            mark: record.mark,
             stations,
             ceilings: ceilings as u8,
             ranks,
+            count: record.count_at.map(|_| ends.len() as u8),
             links: (0..ends.len()).map(link).collect(),
         }
     }
@@ -266,6 +284,7 @@ fn different(count: usize, range: RangeInclusive<i64>, rng: &mut Rng) -> Vec<i64
 mod tests {
     use super::*;
     use crate::kinds::exact;
+    use peer::records::COUNTED;
     use peer::survey::Yard;
 
     #[test]
@@ -279,6 +298,19 @@ mod tests {
                 let is_legal = Yard::read(&draft.bytes()).is_ok();
                 assert_eq!(drawn.contains(&ranks), is_legal, "{stations} {ranks:?}");
             }
+        }
+    }
+
+    #[test]
+    fn a_fixed_record_does_not_change_the_yard() {
+        for seed in 0..50 {
+            let [plain, counted] = [PLAIN, COUNTED].map(|record| {
+                let recipe = exact(6, 9, Values::Free).with_record(record);
+                recipe.draft(&mut Rng::new(seed)).bytes()
+            });
+            assert!(Yard::read(&plain).is_ok() && Yard::read(&counted).is_ok());
+            assert_eq!(counted[2..6], plain[2..6]);
+            assert_eq!(counted[COUNTED.bytes..], plain[PLAIN.bytes..]);
         }
     }
 }

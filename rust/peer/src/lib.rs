@@ -1,6 +1,7 @@
-//! An independent planner: the four calls of document 01 in plain Rust.
+//! An independent planner: the four calls of document 01, with the requests of document 02, in
+//! plain Rust.
 //!
-//! It is written from the document alone and shares nothing with the proved planner, so that
+//! It is written from the documents alone and shares nothing with the proved planner, so that
 //! the two can be held against each other. `walk` answers for any yard, `listing` by
 //! listing all trees for yards that have few.
 
@@ -11,6 +12,7 @@ pub mod link_set;
 pub mod listing;
 pub mod plan;
 pub mod plan_list;
+pub mod records;
 mod reply;
 pub mod survey;
 pub mod walk;

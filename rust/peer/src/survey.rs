@@ -1,5 +1,6 @@
 //! The reader of surveys.
 
+use crate::records::{YardRecord, LINK_BYTES, LINK_MARK};
 use crate::reply::Refusal;
 use std::ops::RangeInclusive;
 
@@ -13,11 +14,6 @@ pub const SUMS: RangeInclusive<i32> = -1_000_000..=1_000_000;
 pub const MAX_EXCEPTIONS: usize = 2;
 /// The greatest rank of a ceiling.
 pub const MAX_RANK: usize = MAX_EXCEPTIONS + 1;
-
-const YARD_MARK: [u8; 2] = [0x59, 0x44];
-const LINK_MARK: [u8; 2] = [0x4c, 0x4b];
-const YARD_BYTES: usize = 6;
-const LINK_BYTES: usize = 12;
 
 /// A link of the survey.
 #[derive(Clone, Copy, Debug, Default)]
@@ -48,14 +44,15 @@ pub struct Yard {
 impl Yard {
     /// Reads a survey, or gives its first refusal.
     pub fn read(survey: &[u8]) -> Result<Yard, Refusal> {
+        let kind = YardRecord::of(survey);
         let (head, rest) = survey
-            .split_first_chunk::<YARD_BYTES>()
+            .split_at_checked(kind.bytes)
             .ok_or(Refusal::whole(1))?;
         let (records, odd_bytes) = rest.as_chunks::<LINK_BYTES>();
         if !odd_bytes.is_empty() {
             return Err(Refusal::whole(1));
         }
-        let mut yard = Yard::read_head(head, records.len()).map_err(Refusal::whole)?;
+        let mut yard = Yard::read_head(kind, head, records.len()).map_err(Refusal::whole)?;
         for (number, record) in records.iter().enumerate() {
             yard.links[number] = yard
                 .read_link(number as u8, record)
@@ -77,11 +74,13 @@ impl Yard {
         self.stations - 1
     }
 
-    /// The yard without its links, or the number of the refusal.
-    fn read_head(head: &[u8; YARD_BYTES], link_count: usize) -> Result<Yard, u8> {
-        let [mark @ .., stations, ceilings, k1, k2] = *head;
+    /// The yard without its links, out of a record of the kind's length, or the number of the
+    /// refusal.
+    fn read_head(kind: YardRecord, head: &[u8], link_count: usize) -> Result<Yard, u8> {
+        let [stations, ceilings, k1, k2] = [2, 3, 4, 5].map(|at| head[at]);
         let ranks = [k1, k2].map(usize::from);
-        if mark != YARD_MARK {
+        let written_count = kind.written_count(head);
+        if !head.starts_with(&kind.mark) {
             return Err(2);
         }
         if !(1..=MAX_STATIONS).contains(&usize::from(stations)) {
@@ -89,6 +88,9 @@ impl Yard {
         }
         if link_count > MAX_LINKS {
             return Err(4);
+        }
+        if written_count.is_some_and(|written| written != link_count) {
+            return Err(15);
         }
         if ceilings > 2 {
             return Err(5);

@@ -5,7 +5,7 @@
 #![allow(unsafe_code)]
 
 /// The version of what is declared here; [`ranqustei_version`] is the archive's own.
-pub const VERSION: u32 = 2;
+pub const VERSION: u32 = 3;
 
 /// The reply of the list call: number 0 and place 0, or the refusal and its place.
 #[repr(C)]

@@ -25,7 +25,7 @@ fn costs(reply: Reply) -> Result<Costs, Refusal> {
 /// Judges a drawn tree, given as its link numbers, rising: its costs.
 ///
 /// # Errors
-/// 1 to 8 for the survey, 11 if the drawn links are no tree of the yard.
+/// 1 to 8 or 15 for the survey, 11 if the drawn links are no tree of the yard.
 pub fn judge(survey: &[u8], drawn: &[u8]) -> Result<Costs, Refusal> {
     // SAFETY: each pointer is that of a live slice and goes with its length. The call only reads,
     // so that it does no harm if the two overlap.
@@ -38,8 +38,8 @@ pub fn judge(survey: &[u8], drawn: &[u8]) -> Result<Costs, Refusal> {
 /// first t bytes of `tree`; the bytes after them stay. Bounds for absent ceilings are ignored.
 ///
 /// # Errors
-/// 1 to 8 for the survey, 9 if `tree` is below t bytes, 14 if no tree fits. `tree` then stays as
-/// it was.
+/// 1 to 8 or 15 for the survey, 9 if `tree` is below t bytes, 14 if no tree fits. `tree` then
+/// stays as it was.
 pub fn best(survey: &[u8], ceilings: [i16; 2], tree: &mut [u8]) -> Result<Costs, Refusal> {
     let [b1, b2] = ceilings;
     // SAFETY: each pointer is that of a live slice and goes with its length. `tree` is borrowed
@@ -60,8 +60,8 @@ pub fn best(survey: &[u8], ceilings: [i16; 2], tree: &mut [u8]) -> Result<Costs,
 /// Writes the list of plans into `buffer`, and 0 into its bytes after the list.
 ///
 /// # Errors
-/// 1 to 8 for the survey, 9 if `buffer` is below its need: it then stays as it was. 10 if the
-/// solved count would pass the allowance: the whole buffer is then 0.
+/// 1 to 8 or 15 for the survey, 9 if `buffer` is below its need: it then stays as it was. 10 if
+/// the solved count would pass the allowance: the whole buffer is then 0.
 pub fn list(survey: &[u8], allowance: u32, buffer: &mut [u8]) -> Result<(), Refusal> {
     // SAFETY: each pointer is that of a live slice and goes with its length. `buffer` is borrowed
     // for writing, so that it does not overlap the survey.

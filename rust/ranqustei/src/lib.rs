@@ -68,6 +68,7 @@ mod yard;
 pub use archive::{best, fetch, judge, list};
 pub use plan::{Costs, Plan};
 pub use plan_list::PlanList;
+pub use record::YardRecord;
 pub use refusal::{Cause, Refusal};
 pub use survey::Survey;
 pub use yard::{Link, Yard, YardError};

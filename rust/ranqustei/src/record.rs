@@ -1,12 +1,84 @@
 //! The records of a survey and of a plan list, as bytes.
 
-/// The mark of a yard record.
-pub(crate) const YARD_MARK: [u8; 2] = *b"YD";
+/// The yard record that a survey opens with. A yard reads the same from either.
+///
+/// ```
+/// use ranqustei::{Cause, Link, Survey, Yard, YardRecord};
+///
+/// let yard = Yard::new(2, [], [Link::new([0, 1], 5, []), Link::new([0, 1], 4, [])]);
+/// let surveys = [yard.survey_with(YardRecord::Plain)?, yard.survey_with(YardRecord::Counted)?];
+///
+/// // Each without its last link, as if it were cut off there.
+/// let [plain, counted] = surveys.map(|survey| {
+///     let bytes = survey.as_bytes();
+///     Survey::new(bytes[..bytes.len() - 12].to_vec())
+/// });
+/// assert!(plain.is_ok_and(|survey| survey.yard().links.len() == 1));
+/// assert!(counted.is_err_and(|refusal| refusal.cause() == Cause::LinkCount));
+/// # Ok::<(), Box<dyn std::error::Error>>(())
+/// ```
+#[derive(Clone, Copy, PartialEq, Eq, Debug)]
+#[non_exhaustive]
+pub enum YardRecord {
+    /// Mark 59 44, 6 bytes: the stations and the ceilings. A survey that is cut off at the end of
+    /// a record looks whole with it. Every planner knows it.
+    Plain,
+    /// Mark 59 45, 7 bytes: the same fields, then the number of links. A survey that is cut off is
+    /// declined with it, wherever the cut is.
+    Counted,
+}
+
+/// How a yard record is laid out: a mark, the fields that every yard record has, the link count.
+pub(crate) struct Layout {
+    /// The record that is laid out so.
+    pub(crate) record: YardRecord,
+    /// Its first two bytes.
+    pub(crate) mark: [u8; 2],
+    /// Its bytes in all; the links follow.
+    pub(crate) len: usize,
+    /// Whether it has the link count.
+    pub(crate) has_count: bool,
+}
+
+/// Every yard record, the oldest first.
+static LAYOUTS: [Layout; 2] = [
+    Layout {
+        record: YardRecord::Plain,
+        mark: *b"YD",
+        len: 6,
+        has_count: false,
+    },
+    Layout {
+        record: YardRecord::Counted,
+        mark: *b"YE",
+        len: 7,
+        has_count: true,
+    },
+];
+
+impl Layout {
+    /// The layout of a yard record.
+    pub(crate) fn of(record: YardRecord) -> &'static Layout {
+        Layout::find(|layout| layout.record == record)
+    }
+
+    /// The layout that a survey's first two bytes name.
+    pub(crate) fn named_by(survey: &[u8]) -> &'static Layout {
+        Layout::find(|layout| survey.starts_with(&layout.mark))
+    }
+
+    /// The layout that the test picks, else the oldest: by it the planner measures a survey whose
+    /// mark it does not know.
+    fn find(picks: impl Fn(&Layout) -> bool) -> &'static Layout {
+        let [oldest, later @ ..] = &LAYOUTS;
+        let found = later.iter().find(|layout| picks(layout));
+        found.unwrap_or(oldest)
+    }
+}
+
 /// The mark of a link record.
 pub(crate) const LINK_MARK: [u8; 2] = *b"LK";
 
-/// The bytes of a yard record.
-pub(crate) const YARD_LEN: usize = 6;
 /// The bytes of a link record.
 pub(crate) const LINK_LEN: usize = 12;
 /// The bytes of a list head.

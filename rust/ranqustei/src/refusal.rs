@@ -7,7 +7,7 @@ use std::fmt;
 #[derive(Clone, Copy, PartialEq, Eq, Debug)]
 #[non_exhaustive]
 pub struct Refusal {
-    /// The number of the cause, 1 to 14.
+    /// The number of the cause, 1 to 15.
     pub number: u8,
     /// 0 for the yard record or no record, else the link number plus 1.
     pub place: u8,
@@ -51,6 +51,8 @@ pub enum Cause {
     PlanNumber,
     /// 14: no tree fits the ceilings.
     NoTree,
+    /// 15: the survey has more or fewer links than its yard record counts.
+    LinkCount,
     /// A number that the planner never gives.
     Unknown(u8),
 }
@@ -73,6 +75,7 @@ impl Refusal {
             12 => Cause::Damaged,
             13 => Cause::PlanNumber,
             14 => Cause::NoTree,
+            15 => Cause::LinkCount,
             number => Cause::Unknown(number),
         }
     }
@@ -87,7 +90,9 @@ impl Cause {
     /// What is wrong; for a link's record it follows the words `link e`.
     fn words(self) -> &'static str {
         match self {
-            Cause::Length => "a survey is 6 bytes, and then 12 bytes for each link",
+            Cause::Length => {
+                "a survey is 6 bytes, or 7 with a link count, and then 12 bytes for each link"
+            }
             Cause::Mark => "does not open with its mark",
             Cause::Stations => "a yard has 1 to 24 stations",
             Cause::Links => "a yard has at most 40 links",
@@ -110,6 +115,9 @@ impl Cause {
             Cause::Damaged => "the plan list is damaged",
             Cause::PlanNumber => "the list has no plan of this number",
             Cause::NoTree => "no tree fits the ceilings",
+            Cause::LinkCount => {
+                "the survey has more or fewer links than its yard record counts: it may be cut off"
+            }
             Cause::Unknown(_) => "refused for an unknown cause",
         }
     }
@@ -140,7 +148,7 @@ mod tests {
 
     #[test]
     fn numbers_that_the_planner_never_gives() {
-        for number in [0, 15, 255] {
+        for number in [0, 16, 255] {
             let refusal = Refusal { number, place: 2 };
             assert_eq!(refusal.cause(), Cause::Unknown(number));
             assert_eq!(

@@ -1,7 +1,7 @@
 //! A survey that the planner accepts, and the questions to it.
 
-use crate::record::{plan_len, HEAD_LEN};
-use crate::{best, judge, list, Cause, Costs, Plan, PlanList, Refusal, Yard};
+use crate::record::{plan_len, Layout, HEAD_LEN};
+use crate::{best, judge, list, Cause, Costs, Plan, PlanList, Refusal, Yard, YardRecord};
 use std::collections::BTreeSet;
 
 /// Survey bytes that the planner accepts.
@@ -12,10 +12,10 @@ pub struct Survey {
 }
 
 impl Survey {
-    /// Takes survey bytes if the planner accepts them.
+    /// Takes survey bytes if the planner accepts them, whichever yard record they open with.
     ///
     /// # Errors
-    /// The planner's refusal, 1 to 8.
+    /// The planner's refusal, 1 to 8 or 15.
     pub fn new(bytes: Vec<u8>) -> Result<Survey, Refusal> {
         // Every list needs 10 bytes or more. So an empty buffer is refused, with 9, exactly if
         // nothing is wrong with the survey.
@@ -31,6 +31,11 @@ impl Survey {
     /// The survey's bytes.
     pub fn as_bytes(&self) -> &[u8] {
         &self.bytes
+    }
+
+    /// The yard record that the survey opens with.
+    pub fn record(&self) -> YardRecord {
+        Layout::named_by(&self.bytes).record
     }
 
     /// The yard that the survey describes.

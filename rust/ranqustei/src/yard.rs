@@ -1,7 +1,7 @@
 //! A yard in figures, and its survey bytes.
 
-use crate::record::{part, LINK_LEN, LINK_MARK, YARD_LEN, YARD_MARK};
-use crate::{Refusal, Survey};
+use crate::record::{part, Layout, LINK_LEN, LINK_MARK};
+use crate::{Refusal, Survey, YardRecord};
 use std::error::Error;
 use std::fmt;
 
@@ -85,12 +85,22 @@ impl Yard {
         }
     }
 
-    /// The yard's survey, accepted by the planner.
+    /// The yard's survey, accepted by the planner, with the counted yard record: should the survey
+    /// be cut off later, the planner notices.
     ///
     /// # Errors
     /// The figures that a survey has no room for, else the planner's refusal.
     pub fn survey(&self) -> Result<Survey, YardError> {
-        Survey::new(self.bytes()?).map_err(YardError::Refused)
+        self.survey_with(YardRecord::Counted)
+    }
+
+    /// The yard's survey with the yard record that is asked for.
+    ///
+    /// # Errors
+    /// As for [`Yard::survey`].
+    pub fn survey_with(&self, record: YardRecord) -> Result<Survey, YardError> {
+        let bytes = self.bytes(Layout::of(record))?;
+        Survey::new(bytes).map_err(YardError::Refused)
     }
 
     /// The number t of links of a tree.
@@ -98,14 +108,19 @@ impl Yard {
         usize::from(self.stations).saturating_sub(1)
     }
 
-    fn bytes(&self) -> Result<Vec<u8>, YardError> {
+    fn bytes(&self, layout: &Layout) -> Result<Vec<u8>, YardError> {
         let [k1, k2] = padded(&self.ranks).ok_or(YardError::Ceilings {
             found: self.ranks.len(),
         })?;
         let ceilings = self.ranks.len() as u8;
-        let mut bytes = Vec::with_capacity(YARD_LEN + LINK_LEN * self.links.len());
-        bytes.extend(YARD_MARK);
+        let mut bytes = Vec::with_capacity(layout.len + LINK_LEN * self.links.len());
+        bytes.extend(layout.mark);
         bytes.extend([self.stations, ceilings, k1, k2]);
+        if layout.has_count {
+            // The low byte of a count that needs more: so many links are declined as too many,
+            // whatever stands here.
+            bytes.push(self.links.len() as u8);
+        }
         for (number, link) in self.links.iter().enumerate() {
             let [c1, c2] = self.link_costs(number, link)?;
             bytes.extend(LINK_MARK);
@@ -131,7 +146,8 @@ impl Yard {
     pub(crate) fn read(survey: &[u8]) -> Yard {
         let [_, _, stations, ceilings, k1, k2] = part(survey, 0).unwrap_or_default();
         let present = usize::from(ceilings);
-        let records = survey.get(YARD_LEN..).unwrap_or_default();
+        let first_link = Layout::named_by(survey).len;
+        let records = survey.get(first_link..).unwrap_or_default();
         let ranks: Vec<u8> = [k1, k2].into_iter().take(present).collect();
         let links = records
             .chunks_exact(LINK_LEN)

@@ -8,7 +8,7 @@ use crate::files::{named, read_list, read_survey, shown};
 use crate::table::table;
 use crate::text;
 use crate::words::{number, Words};
-use ranqustei::{fetch, Plan, Refusal, Survey};
+use ranqustei::{fetch, Plan, Refusal, Survey, YardRecord};
 use std::ffi::{OsStr, OsString};
 use std::io::Read;
 
@@ -18,7 +18,7 @@ const COMMANDS: [(&str, &str); 9] = [
     ("best", "YARD BOUND..."),
     ("judge", "YARD LINK..."),
     ("text", "YARD"),
-    ("survey", "YARD"),
+    ("survey", "YARD [--record plain|counted]"),
     ("list", "YARD"),
     ("fetch", "FILE.list PLAN"),
     ("draw", "YARD [--plan PLAN]"),
@@ -42,16 +42,16 @@ pub fn answer(command: &OsStr, words: &Words, input: &mut dyn Read) -> Result<Ve
     let [file, rest @ ..] = words.operands.as_slice() else {
         return wrong();
     };
-    match (command, rest, words.plan) {
-        ("fetch", [plan], None) => fetched(file, plan, input),
-        ("draw", [], plan) => drawn(file, &read_survey(file, input)?, plan),
-        ("best", bounds, None) => best(file, &read_survey(file, input)?, bounds),
-        ("judge", links, None) => judge(file, &read_survey(file, input)?, links),
-        ("plans", [], None) => plans(file, &read_survey(file, input)?),
-        ("text", [], None) => Ok(text::write(read_survey(file, input)?.yard()).into_bytes()),
-        ("survey", [], None) => Ok(read_survey(file, input)?.as_bytes().to_vec()),
-        ("list", [], None) => list(file, &read_survey(file, input)?),
-        ("frontier", [], None) => frontier(file, &read_survey(file, input)?),
+    match (command, rest, words.plan, words.record) {
+        ("fetch", [plan], None, None) => fetched(file, plan, input),
+        ("draw", [], plan, None) => drawn(file, &read_survey(file, input)?, plan),
+        ("best", bounds, None, None) => best(file, &read_survey(file, input)?, bounds),
+        ("judge", links, None, None) => judge(file, &read_survey(file, input)?, links),
+        ("plans", [], None, None) => plans(file, &read_survey(file, input)?),
+        ("text", [], None, None) => Ok(text::write(read_survey(file, input)?.yard()).into_bytes()),
+        ("survey", [], None, record) => survey(file, &read_survey(file, input)?, record),
+        ("list", [], None, None) => list(file, &read_survey(file, input)?),
+        ("frontier", [], None, None) => frontier(file, &read_survey(file, input)?),
         _ => wrong(),
     }
 }
@@ -72,6 +72,14 @@ fn plans(file: &OsStr, survey: &Survey) -> Result<Vec<u8>, Failure> {
     let solved = counted(list.solved() as usize, "position");
     answer += &format!("{}, {solved} solved\n", counted(plans.len(), "plan"));
     Ok(answer.into_bytes())
+}
+
+/// The survey's bytes with the yard record that is asked for, else with its own.
+fn survey(file: &OsStr, survey: &Survey, record: Option<YardRecord>) -> Result<Vec<u8>, Failure> {
+    let record = record.unwrap_or(survey.record());
+    let written = survey.yard().survey_with(record);
+    let written = written.map_err(|error| named(file, error))?;
+    Ok(written.as_bytes().to_vec())
 }
 
 fn list(file: &OsStr, survey: &Survey) -> Result<Vec<u8>, Failure> {

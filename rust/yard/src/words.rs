@@ -1,6 +1,7 @@
 //! The words of the command line: operands and options.
 
 use crate::failure::Failure;
+use ranqustei::YardRecord;
 use std::ffi::{OsStr, OsString};
 use std::str::FromStr;
 
@@ -13,6 +14,8 @@ pub struct Words {
     pub output: Option<OsString>,
     /// The plan number of `--plan`.
     pub plan: Option<u32>,
+    /// The yard record of `--record`.
+    pub record: Option<YardRecord>,
 }
 
 impl Words {
@@ -26,6 +29,7 @@ impl Words {
                 Some("--plan") => {
                     sorted.plan = Some(number(&value(&word, words.next())?, "plan number")?)
                 }
+                Some("--record") => sorted.record = Some(record(&value(&word, words.next())?)?),
                 Some(text) if is_option(text) => {
                     return Err(Failure::usage(format!("`{text}` is no option")))
                 }
@@ -44,6 +48,17 @@ fn is_option(word: &str) -> bool {
 
 fn value(option: &OsStr, word: Option<OsString>) -> Result<OsString, Failure> {
     word.ok_or_else(|| Failure::usage(format!("`{}` needs a word after it", option.display())))
+}
+
+fn record(word: &OsStr) -> Result<YardRecord, Failure> {
+    match word.to_str() {
+        Some("plain") => Ok(YardRecord::Plain),
+        Some("counted") => Ok(YardRecord::Counted),
+        _ => Err(Failure::usage(format!(
+            "`{}` is no yard record, plain or counted",
+            word.display()
+        ))),
+    }
 }
 
 /// A number of the command line.

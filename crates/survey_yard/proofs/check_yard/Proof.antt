@@ -16,6 +16,15 @@ shared-slice-read-n c = search needs
 shared-slice-read-p : tie.Need-shared-slice-read-p
 shared-slice-read-p c = search needs
 
+bad-count-requires : tie.Need-bad-count-requires
+bad-count-requires c κs = search needs
+
+cast-too-many-ceilings : tie.Need-cast-too-many-ceilings
+cast-too-many-ceilings c = search needs
+
+mark-at-requires : tie.Need-mark-at-requires
+mark-at-requires c κs = search needs
+
 refuse-if-requires : tie.Need-refuse-if-requires
 refuse-if-requires c κs = search needs
 
@@ -31,11 +40,11 @@ or-refuse-if-requires c κs = search needs
 or-refuse-if-requires-2 : tie.Need-or-refuse-if-requires-2
 or-refuse-if-requires-2 c κs = search needs
 
-cast-or-refuse-if : tie.Need-cast-or-refuse-if
-cast-or-refuse-if c = search needs
-
 or-refuse-if-requires-3 : tie.Need-or-refuse-if-requires-3
 or-refuse-if-requires-3 c κs = search needs
+
+or-refuse-if-requires-4 : tie.Need-or-refuse-if-requires-4
+or-refuse-if-requires-4 c κs = search needs
 
 add-bad-ranks : tie.Need-add-bad-ranks
 add-bad-ranks c = search needs
@@ -52,21 +61,23 @@ part-bad-ranks-end c = search needs
 bad-ranks-requires : tie.Need-bad-ranks-requires
 bad-ranks-requires c κs = search needs
 
-or-refuse-if-requires-4 : tie.Need-or-refuse-if-requires-4
-or-refuse-if-requires-4 c κs = search needs
+or-refuse-if-requires-5 : tie.Need-or-refuse-if-requires-5
+or-refuse-if-requires-5 c κs = search needs
 
 returns : tie.Need-returns
 unfolding yardChecked
 returns c =
     let c5 = c .before .before .before in
-    let c4 = c5 .before in
+    let c15 = c5 .before in
+    let c4 = c15 .before in
     let c3 = c4 .before in
     let c2 = c3 .before .before in
-    let start = c2 .before .before .before .before .before in
+    let count = c2 .before .before in
+    let start = count .before .before .before .before .before in
     let room : yardSize ≤ length (start .args .s .now) = omega (arith, start .pre .0 .yard) in
     let ranks = c .before .bad-ranks .ensures ∙ ap (badRanks _ _) (ranks-part (start .args .s .now) room) in
-    rw (c .or-refuse-if4 .ensures, ranks, c5 .or-refuse-if3 .ensures, c4 .or-refuse-if2 .ensures)
-    (rw (c3 .or-refuse-if .ensures, c3 .before .is-outside .ensures, c2 .refuse-if .ensures))
+    rw (c .or-refuse-if5 .ensures, ranks, c5 .or-refuse-if4 .ensures, c15 .or-refuse-if3 .ensures, count .bad-count .ensures)
+    (rw (c4 .or-refuse-if2 .ensures, c3 .or-refuse-if .ensures, c3 .before .is-outside .ensures, c2 .refuse-if .ensures, c2 .before .mark-at .ensures))
 
 pub check-yard-spec : {M : Type 1} → statement M
 check-yard-spec =
@@ -74,17 +85,20 @@ check-yard-spec =
     (tie.spec
     shared-slice-read-n
     shared-slice-read-p
+    bad-count-requires
+    cast-too-many-ceilings
+    mark-at-requires
     refuse-if-requires
     cast-is-outside
     is-outside-requires
     or-refuse-if-requires
     or-refuse-if-requires-2
-    cast-or-refuse-if
     or-refuse-if-requires-3
+    or-refuse-if-requires-4
     add-bad-ranks
     sub-bad-ranks
     part-bad-ranks-start
     part-bad-ranks-end
     bad-ranks-requires
-    or-refuse-if-requires-4
+    or-refuse-if-requires-5
     returns)

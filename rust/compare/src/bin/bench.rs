@@ -6,6 +6,7 @@ use compare::planner::{Archive, Peer, Planner};
 use compare::rng::Rng;
 use compare::yards::{Layout, Recipe, Signs, Values};
 use peer::plan_list;
+use peer::records::COUNTED;
 use peer::survey::{Yard, MAX_LINKS};
 use peer::walk::Positions;
 use std::hint::black_box;
@@ -20,8 +21,8 @@ const QUESTIONS: usize = 64;
 const STATIONS: [u8; 7] = [6, 8, 10, 12, 16, 20, 24];
 const RANKS: [[u8; 2]; 5] = [[1, 1], [2, 1], [3, 1], [1, 3], [2, 2]];
 const HARD_LINKS: i64 = MAX_LINKS as i64;
-/// The stations of the yards with signed sums.
-const SIGNED_STATIONS: u8 = 16;
+/// The stations of the yards with signed sums or a link count.
+const VARIANT_STATIONS: u8 = 16;
 
 fn main() {
     println!(
@@ -32,8 +33,11 @@ fn main() {
     println!("Sets: large, any connected yard; hard, {HARD_LINKS} links and no value twice;");
     println!("opposed, {HARD_LINKS} links, the lower the sum the higher the ceiling costs.");
     println!("Their sums are not below 0; signed is hard with sums on both sides of 0.");
+    println!("Their yard record has no link count; counted is hard with one.");
     compare_planners();
-    compare_signed();
+    let yards = || hard(HARD_LINKS, Values::Different);
+    compare_variant("Signed sums", "signed", &yards().with_signs(Signs::Mixed));
+    compare_variant("Link counts", "counted", &yards().with_record(COUNTED));
     growth();
 }
 
@@ -64,15 +68,14 @@ fn compare_planners() {
     }
 }
 
-/// The table of both calls on yards with signed sums.
-fn compare_signed() {
-    println!("\n## Signed sums: the list call, then the ceilings question\n");
+/// The table of both calls on a variant of the hard set.
+fn compare_variant(title: &str, set: &str, recipe: &Recipe) {
+    println!("\n## {title}: the list call, then the ceilings question\n");
     println!("| set | n | k | solved | archive | peer | ratio | archive | peer | ratio |");
     println!("|---|---|---|---|---|---|---|---|---|---|");
-    let recipe = hard(HARD_LINKS, Values::Different).with_signs(Signs::Mixed);
     for ranks in RANKS {
-        let surveys = yards_of(&recipe, SIGNED_STATIONS, ranks);
-        let row = Row::new(label("signed", SIGNED_STATIONS, ranks), &surveys);
+        let surveys = yards_of(recipe, VARIANT_STATIONS, ranks);
+        let row = Row::new(label(set, VARIANT_STATIONS, ranks), &surveys);
         let (label, solved) = (&row.label, row.solved);
         let ([list, peer_list], [best, peer_best]) = (row.list, row.best);
         let [list_ratio, best_ratio] = [list / peer_list, best / peer_best];

@@ -13,7 +13,7 @@ use compare::planner::{Archive, Peer};
 use compare::rng::Rng;
 use peer::survey::Yard;
 use reached::unreached;
-use report::{print_listed, print_numbers, print_row, print_sums};
+use report::{print_listed, print_numbers, print_records, print_row, print_sums};
 use std::process::ExitCode;
 
 fn main() -> ExitCode {
@@ -49,6 +49,7 @@ fn compare_all(seed: Option<u64>) -> Result<Vec<String>, String> {
     print_row("all", &total);
     print_listed(&tallies, &total);
     print_sums(&tallies, &total);
+    print_records(&tallies, &total);
     print_numbers(&total);
     let legal = sum(tallies.iter().filter(|(kind, _)| kind.is_legal()));
     let damaged = sum(tallies.iter().filter(|(kind, _)| !kind.is_legal()));
@@ -95,11 +96,13 @@ fn compare_survey(
         Ok(yard) => yard,
         Err(refusal) => {
             tally.sums.count_refused(survey, refusal);
+            tally.records.count_refused(survey, refusal);
             return Ok(());
         }
     };
     tally.legal += 1;
     tally.sums.count_legal(&yard);
+    tally.records.count_legal(survey);
     if is_listed(&yard) {
         let by_listing = ByListing::of(&yard);
         tally.listed.count(&yard, &by_listing);

@@ -2,6 +2,7 @@
 
 use compare::comparison::Tally;
 use compare::kinds::Kind;
+use compare::records::marks;
 use compare::sums::{OUTSIDE, SORTS};
 
 /// A row of the table of calls.
@@ -45,6 +46,25 @@ pub fn print_sums(tallies: &[(&Kind, Tally)], total: &Tally) {
     for (sum, refused) in OUTSIDE.iter().zip(&total.sums.refused) {
         println!("| {sum} | {} | {} |", refused.surveys, refused.places());
     }
+}
+
+/// The yard records of the legal surveys, and the cuts that a link count gave away.
+pub fn print_records(tallies: &[(&Kind, Tally)], total: &Tally) {
+    let marks = marks();
+    println!(
+        "\n| yard records of legal surveys | {} |",
+        marks.join(" | ")
+    );
+    println!("|---|{}", "---|".repeat(marks.len()));
+    let rows = tallies.iter().map(|(kind, tally)| (kind.name, tally));
+    for (name, tally) in rows.chain([("all", total)]) {
+        let counts = tally.records.legal.map(|count| count.to_string());
+        println!("| {name} | {} |", counts.join(" | "));
+    }
+    println!(
+        "\nA yard of 40 links was cut at {} record ends and refused by 15.",
+        total.records.cuts()
+    );
 }
 
 /// How often each number was replied.

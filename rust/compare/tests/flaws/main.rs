@@ -1,37 +1,28 @@
 //! Wrong planners, each with one flaw, are told from the right one by the surveys and calls
 //! that the proved planner is held to.
 
+mod any_yard;
+mod link_counts;
+mod reading;
 mod signed_sums;
 mod two_ranks;
 
+use any_yard::{
+    AllSolved, ClearedTail, DifferentValues, KeptTail, LastTree, NoExceptions, NoPlace,
+    NumberFirst, OtherPlace, OverAllowance, Stale, Walking,
+};
 use compare::comparison::{Comparison, Tally};
 use compare::kinds::{Kind, KINDS};
 use compare::planner::{Peer, Planner};
 use compare::rng::Rng;
 use compare::sums::LOWEST;
-use peer::listing::Listing;
-use peer::plan::Plan;
-use peer::plan_list;
-use peer::survey::Yard;
-use peer::walk::Positions;
-use peer::{Costs, Refusal};
-use signed_sums::{none_below_0, Misreading, Pruning, UnsignedOrder};
-use std::cell::RefCell;
-use std::collections::{HashMap, HashSet};
+use link_counts::{is_counted, is_known, recounting, ClearedByCount};
+use reading::{refusing, Reading};
+use signed_sums::{misreading, none_below_0, Pruning, UnsignedOrder};
 use two_ranks::{Admitting, ThreeForTwo};
 
 /// Seeds of each kind that a flaw has to show on.
 const SEEDS: u64 = 200;
-
-/// Whether some call on surveys of small yards, whole or damaged, tells a planner from the peer.
-fn is_noticed(planner: &dyn Planner) -> bool {
-    is_noticed_among(is_small, |_| true, planner)
-}
-
-/// Whether some call tells them apart on these surveys or those with sums at the limits.
-fn is_noticed_by_sums(planner: &dyn Planner) -> bool {
-    is_noticed_among(is_small_or_at_limits, |_| true, planner)
-}
 
 /// Whether the surveys are of small yards, whole or damaged.
 fn is_small(kind: &Kind) -> bool {
@@ -43,7 +34,27 @@ fn is_small_or_at_limits(kind: &Kind) -> bool {
     is_small(kind) || kind.name == "sums at the limits"
 }
 
-/// Whether some call tells them apart on surveys of some kinds and some sort.
+/// Whether the surveys are of small yards, or were damaged twice, or cut.
+fn is_small_or_cut(kind: &Kind) -> bool {
+    is_small(kind) || ["damaged in pairs", "counted, cut"].contains(&kind.name)
+}
+
+/// Asserts that each flaw shows on surveys of some kinds, and on none of a sort that it spares.
+fn assert_noticed(
+    kinds: fn(&Kind) -> bool,
+    spared: fn(&[u8]) -> bool,
+    flawed: &[(&str, &dyn Planner)],
+) {
+    for (flaw, planner) in flawed {
+        let is_noticed = is_noticed_among(kinds, |_| true, *planner);
+        assert!(is_noticed, "not noticed: {flaw}");
+        let elsewhere = is_noticed_among(kinds, spared, *planner);
+        assert!(!elsewhere, "noticed where it should not be: {flaw}");
+        println!("noticed: {flaw}");
+    }
+}
+
+/// Whether some call on surveys of some kinds and some sort tells a planner from the peer.
 fn is_noticed_among(
     kinds: fn(&Kind) -> bool,
     sort: fn(&[u8]) -> bool,
@@ -63,213 +74,23 @@ fn is_noticed_among(
     })
 }
 
-/// Judges by the k-th largest of the different values.
-struct DifferentValues;
-
-impl Planner for DifferentValues {
-    fn judge(&self, survey: &[u8], drawn: &[u8]) -> Result<Costs, Refusal> {
-        let mut costs = peer::judge(survey, drawn)?;
-        let yard = Yard::read(survey)?;
-        for i in 0..yard.ceilings {
-            let links = drawn.iter().map(|&link| yard.links()[usize::from(link)]);
-            let mut falling: Vec<i16> = links.map(|link| link.costs[i]).collect();
-            falling.sort_by(|a, b| b.cmp(a));
-            falling.dedup();
-            costs.ceilings[i] = falling[(yard.ranks[i] - 1).min(falling.len() - 1)];
-        }
-        Ok(costs)
-    }
-}
-
-/// Refuses without a place.
-struct NoPlace;
-
-impl Planner for NoPlace {
-    fn judge(&self, survey: &[u8], drawn: &[u8]) -> Result<Costs, Refusal> {
-        peer::judge(survey, drawn).map_err(|refusal| Refusal::whole(refusal.number))
-    }
-}
-
-/// Of equal sums gives the last tree.
-struct LastTree;
-
-impl Planner for LastTree {
-    fn best(&self, survey: &[u8], ceilings: [i16; 2], tree: &mut [u8]) -> Result<Costs, Refusal> {
-        let sum = peer::best(survey, ceilings, tree)?.sum;
-        let yard = Yard::read(survey)?;
-        let listing = Listing::of(&yard);
-        let as_good = |plan: &&Plan| plan.costs.sum == sum && listing.fits(plan.costs, ceilings);
-        let last = listing.trees().iter().rfind(as_good).copied();
-        let last = last.ok_or(Refusal::whole(14))?;
-        last.tree.write(tree);
-        Ok(last.costs)
-    }
-}
-
-/// Drops every link above a ceiling although its rank is above 1.
-struct NoExceptions;
-
-impl Planner for NoExceptions {
-    fn best(&self, survey: &[u8], ceilings: [i16; 2], tree: &mut [u8]) -> Result<Costs, Refusal> {
-        let lent = tree.to_vec();
-        let costs = peer::best(survey, ceilings, tree)?;
-        let yard = Yard::read(survey)?;
-        let within = |&link: &u8| {
-            let link = yard.links()[usize::from(link)];
-            (0..yard.ceilings).all(|i| link.costs[i] <= ceilings[i])
-        };
-        if tree[..yard.tree_len()].iter().all(within) {
-            return Ok(costs);
-        }
-        tree.copy_from_slice(&lent);
-        Err(Refusal::whole(14))
-    }
-}
-
-/// Clears the tree buffer past the tree.
-struct ClearedTail;
-
-impl Planner for ClearedTail {
-    fn best(&self, survey: &[u8], ceilings: [i16; 2], tree: &mut [u8]) -> Result<Costs, Refusal> {
-        let costs = peer::best(survey, ceilings, tree)?;
-        tree[Yard::read(survey)?.tree_len()..].fill(0);
-        Ok(costs)
-    }
-}
-
-/// Solves one position more than is allowed.
-struct OverAllowance;
-
-impl Planner for OverAllowance {
-    fn list(&self, survey: &[u8], allowance: u32, buffer: &mut [u8]) -> Result<(), Refusal> {
-        peer::list(survey, allowance.saturating_add(1), buffer)
-    }
-}
-
-/// Leaves the last byte of the list buffer as it was.
-struct KeptTail;
-
-impl Planner for KeptTail {
-    fn list(&self, survey: &[u8], allowance: u32, buffer: &mut [u8]) -> Result<(), Refusal> {
-        let last = buffer.last().copied();
-        let reply = peer::list(survey, allowance, buffer);
-        if let Some((byte, last)) = buffer.last_mut().zip(last) {
-            *byte = last;
-        }
-        reply
-    }
-}
-
-/// Gives the number of positions for the solved count.
-struct AllSolved;
-
-impl Planner for AllSolved {
-    fn list(&self, survey: &[u8], allowance: u32, buffer: &mut [u8]) -> Result<(), Refusal> {
-        peer::list(survey, allowance, buffer)?;
-        let positions = Positions::of(&Yard::read(survey)?).count() as u32;
-        buffer[4..8].copy_from_slice(&positions.to_le_bytes());
-        Ok(())
-    }
-}
-
-/// Keeps the lists it made, and gives them again for other surveys of equal length and need.
-#[derive(Default)]
-struct Stale(RefCell<HashMap<[usize; 2], Vec<u8>>>);
-
-impl Planner for Stale {
-    fn list(&self, survey: &[u8], allowance: u32, buffer: &mut [u8]) -> Result<(), Refusal> {
-        peer::list(survey, allowance, buffer)?;
-        let mut kept = self.0.borrow_mut();
-        let outline = [survey.len(), buffer.len()];
-        buffer.copy_from_slice(kept.entry(outline).or_insert_with(|| buffer.to_vec()));
-        Ok(())
-    }
-}
-
-/// A walk of its own, which can be flawed.
-#[derive(Default)]
-struct Walking {
-    /// How many places too far it marks.
-    past: usize,
-    /// Whether it lists dominated vectors.
-    keeps_dominated: bool,
-}
-
-impl Walking {
-    fn walk(&self, listing: &Listing) -> (u32, Vec<Plan>) {
-        let values = [0, 1].map(|ceiling| listing.values(ceiling));
-        let (mut marked, mut solved, mut found) = (HashSet::new(), 0, Vec::new());
-        for a in 0..values[0].len() {
-            for b in 0..values[1].len() {
-                if marked.contains(&(a, b)) {
-                    continue;
-                }
-                solved += 1;
-                let plan = listing.best([values[0][a], values[1][b]]);
-                found.extend(plan);
-                let last = |i: usize| match plan {
-                    None => values[i].len(),
-                    Some(plan) => {
-                        let own = values[i].iter().position(|&v| v == plan.costs.ceilings[i]);
-                        own.unwrap_or(0) + self.past
-                    }
-                };
-                marked.extend((a..=last(0)).flat_map(|a| (b..=last(1)).map(move |b| (a, b))));
-            }
-        }
-        found.sort_by_key(|plan| plan.costs);
-        found.dedup();
-        let plans = listing.plans();
-        found.retain(|plan| self.keeps_dominated || plans.contains(plan));
-        (solved, found)
-    }
-}
-
-impl Planner for Walking {
-    fn list(&self, survey: &[u8], allowance: u32, buffer: &mut [u8]) -> Result<(), Refusal> {
-        // The peer's refusals, and its plans to be written over.
-        peer::list(survey, allowance, buffer)?;
-        let yard = Yard::read(survey)?;
-        if yard.links().len() <= 12 {
-            let (solved, plans) = self.walk(&Listing::of(&yard));
-            plan_list::write(buffer, &yard, solved, &plans);
-        }
-        Ok(())
-    }
-}
-
-/// Asks for the plan number before it looks at the list.
-struct NumberFirst;
-
-impl Planner for NumberFirst {
-    fn fetch<'l>(&self, list: &'l [u8], plan: u32) -> Result<&'l [u8], Refusal> {
-        match list.get(2..4) {
-            Some(count) if plan >= u32::from(count[0]) + 256 * u32::from(count[1]) => {
-                Err(Refusal::whole(13))
-            }
-            _ => peer::fetch(list, plan),
-        }
-    }
-}
-
-/// Gives the same links out of another place of the list.
-struct OtherPlace;
-
-impl Planner for OtherPlace {
-    fn fetch<'l>(&self, list: &'l [u8], plan: u32) -> Result<&'l [u8], Refusal> {
-        let part = peer::fetch(list, plan)?;
-        let mut windows = list.windows(part.len().max(1));
-        Ok(windows.find(|window| *window == part).unwrap_or(part))
-    }
-}
-
 #[test]
 fn right_planners_are_not_noticed() {
-    assert!(!is_noticed(&Peer));
-    assert!(!is_noticed(&Walking::default()));
-    assert!(!is_noticed(&Admitting(two_ranks::fit)));
-    assert!(!is_noticed_by_sums(&Misreading(|sum| sum)));
-    assert!(!is_noticed_by_sums(&Pruning { least: LOWEST }));
+    let is_noticed = |kinds, planner: &dyn Planner| is_noticed_among(kinds, |_| true, planner);
+    assert!(!is_noticed(is_small, &Peer));
+    assert!(!is_noticed(is_small, &Walking::default()));
+    assert!(!is_noticed(is_small, &Admitting(two_ranks::fit)));
+    let pruning = Pruning { least: LOWEST };
+    assert!(!is_noticed(is_small_or_at_limits, &pruning));
+    assert!(!is_noticed(is_small_or_at_limits, &misreading(|sum| sum)));
+    assert!(!is_noticed(
+        is_small_or_cut,
+        &recounting(|[written, _]| written)
+    ));
+    assert!(!is_noticed(
+        is_small_or_cut,
+        &refusing(|_, refusal| refusal)
+    ));
 }
 
 #[test]
@@ -297,10 +118,7 @@ fn flawed_planners_are_noticed() {
         ("plan number before the list", &NumberFirst),
         ("same links of another place", &OtherPlace),
     ];
-    for (flaw, planner) in flawed {
-        assert!(is_noticed(planner), "not noticed: {flaw}");
-        println!("noticed: {flaw}");
-    }
+    assert_noticed(is_small, |_| false, &flawed);
 }
 
 #[test]
@@ -322,12 +140,7 @@ fn flaws_of_two_ranks_are_noticed() {
         ("a rank of 3 taken for 2", &ThreeForTwo),
     ];
     let with_other_ranks = |survey: &[u8]| !matches!(survey, [_, _, _, _, 2..=3, 2..=3, ..]);
-    for (flaw, planner) in flawed {
-        assert!(is_noticed(planner), "not noticed: {flaw}");
-        let elsewhere = is_noticed_among(is_small, with_other_ranks, planner);
-        assert!(!elsewhere, "noticed by other ranks: {flaw}");
-        println!("noticed: {flaw}");
-    }
+    assert_noticed(is_small, with_other_ranks, &flawed);
 }
 
 #[test]
@@ -341,7 +154,7 @@ fn flaws_of_signed_sums_are_noticed() {
         |sum| sum.max(LOWEST),
     ];
     let [unsigned, without_sign, at_least_0, lowest_refused, next_accepted, all_accepted] =
-        readings.map(Misreading);
+        readings.map(misreading);
     let flawed: [(&str, &dyn Planner); 8] = [
         ("a sum below 0 read as above the limit", &unsigned),
         ("a sum read without its sign", &without_sign),
@@ -355,10 +168,55 @@ fn flaws_of_signed_sums_are_noticed() {
             &Pruning { least: 0 },
         ),
     ];
-    for (flaw, planner) in flawed {
-        assert!(is_noticed_by_sums(planner), "not noticed: {flaw}");
-        let elsewhere = is_noticed_among(is_small_or_at_limits, none_below_0, planner);
-        assert!(!elsewhere, "noticed without a sum below 0: {flaw}");
-        println!("noticed: {flaw}");
-    }
+    assert_noticed(is_small_or_at_limits, none_below_0, &flawed);
+}
+
+#[test]
+fn flaws_of_link_counts_are_noticed() {
+    let counts: [fn([usize; 2]) -> usize; 5] = [
+        |[_, present]| present,
+        |[written, present]| written.min(present),
+        |[written, present]| written.max(present),
+        |[written, _]| written + 1,
+        |[written, present]| if written == 0 { present } else { written },
+    ];
+    let [ignored, no_link_missing, no_link_too_many, one_link_less, none_of_0] =
+        counts.map(recounting);
+    let [before_4, after_5, with_place] = [
+        link_counts::count_before_4,
+        link_counts::count_after_5,
+        link_counts::count_with_place,
+    ]
+    .map(refusing);
+    let flawed: [(&str, &dyn Planner); 11] = [
+        ("the count ignored", &ignored),
+        ("links missing accepted", &no_link_missing),
+        ("links too many accepted", &no_link_too_many),
+        ("the count compared with one link less", &one_link_less),
+        ("a count of 0 taken for no count", &none_of_0),
+        ("15 before 4", &before_4),
+        ("15 after 5", &after_5),
+        ("15 with a place", &with_place),
+        ("a list buffer cleared with 15", &ClearedByCount),
+        ("6 bytes for 7", &Reading(link_counts::measured_as_plain)),
+        (
+            "refused by its mark",
+            &Reading(link_counts::without_counted_mark),
+        ),
+    ];
+    assert_noticed(is_small_or_cut, |survey| !is_counted(survey), &flawed);
+}
+
+#[test]
+fn flaws_of_unknown_marks_are_noticed() {
+    let [measured_as_counted, mark_before_length] = [
+        link_counts::unknown_measured_as_counted,
+        link_counts::mark_before_length,
+    ]
+    .map(refusing);
+    let flawed: [(&str, &dyn Planner); 2] = [
+        ("an unknown mark measured by 7", &measured_as_counted),
+        ("an unknown mark before the length", &mark_before_length),
+    ];
+    assert_noticed(is_small_or_cut, is_known, &flawed);
 }

@@ -1,5 +1,6 @@
 //! Planners that are wrong only where a sum cost is below 0.
 
+use crate::reading::Reading;
 use compare::draft::sum_bytes;
 use compare::listed::is_listed;
 use compare::planner::Planner;
@@ -12,40 +13,23 @@ use peer::{Costs, Refusal};
 
 /// Whether no link of a survey, legal or not, has a sum cost below 0.
 pub fn none_below_0(survey: &[u8]) -> bool {
-    let mut sums = (0..).map_while(|link| survey.get(sum_bytes(link)));
+    let mut sums = (0..).map_while(|link| survey.get(sum_bytes(survey, link)));
     sums.all(|sum| sum[3] < 0x80)
 }
 
 /// Takes a sum cost for another.
-pub struct Misreading(pub fn(i32) -> i32);
-
-impl Misreading {
-    fn misread(&self, survey: &[u8]) -> Vec<u8> {
-        let mut survey = survey.to_vec();
-        let mut link = 0;
-        while let Some(sum) = survey
-            .get_mut(sum_bytes(link))
-            .and_then(|bytes| bytes.first_chunk_mut())
-        {
-            *sum = (self.0)(i32::from_le_bytes(*sum)).to_le_bytes();
-            link += 1;
+pub fn misreading(read: fn(i32) -> i32) -> impl Planner {
+    Reading(move |survey: &[u8]| {
+        let mut misread = survey.to_vec();
+        for range in (0..).map(|link| sum_bytes(survey, link)) {
+            let bytes = misread.get_mut(range);
+            let Some(sum) = bytes.and_then(|bytes| bytes.first_chunk_mut()) else {
+                break;
+            };
+            *sum = read(i32::from_le_bytes(*sum)).to_le_bytes();
         }
-        survey
-    }
-}
-
-impl Planner for Misreading {
-    fn judge(&self, survey: &[u8], drawn: &[u8]) -> Result<Costs, Refusal> {
-        peer::judge(&self.misread(survey), drawn)
-    }
-
-    fn best(&self, survey: &[u8], ceilings: [i16; 2], tree: &mut [u8]) -> Result<Costs, Refusal> {
-        peer::best(&self.misread(survey), ceilings, tree)
-    }
-
-    fn list(&self, survey: &[u8], allowance: u32, buffer: &mut [u8]) -> Result<(), Refusal> {
-        peer::list(&self.misread(survey), allowance, buffer)
-    }
+        Ok(misread)
+    })
 }
 
 /// Lists plans in the order that their sums have without a sign.

@@ -1,7 +1,7 @@
 //! Random bytes and random yards: every call replies, and figures come back as they went in.
 
 use crate::random::Random;
-use crate::samples::bytes_a;
+use crate::samples::{bytes_a, bytes_of, yard_a, RECORDS};
 use ranqustei::{best, fetch, judge, list, Link, PlanList, Survey, Yard};
 
 /// Puts a survey to every call.
@@ -17,7 +17,7 @@ fn ask(survey: Vec<u8>, random: &mut Random) {
     );
     match Survey::new(survey) {
         Err(refusal) => {
-            assert!((1..=8).contains(&refusal.number));
+            assert!(matches!(refusal.number, 1..=8 | 15));
             assert_eq!(
                 (judged.err(), found.err(), listed.err()),
                 (Some(refusal), Some(refusal), Some(refusal))
@@ -45,8 +45,9 @@ fn any_bytes_are_a_survey_or_refused() {
 #[test]
 fn surveys_with_a_few_bytes_changed() {
     let mut random = Random(2);
+    let surveys = RECORDS.map(|record| bytes_of(&yard_a(1), record));
     for _ in 0..3_000 {
-        let mut bytes = bytes_a();
+        let mut bytes = surveys[random.below(2)].clone();
         for _ in 0..random.below(4) {
             let at = random.below(bytes.len());
             bytes[at] = random.below(12) as u8;
@@ -102,9 +103,18 @@ fn random_yard(random: &mut Random) -> Yard {
 #[test]
 fn yards_come_back_from_their_surveys() {
     let mut random = Random(4);
-    let yards = (0..5_000).map(|_| random_yard(&mut random));
-    let accepted = yards.filter_map(|yard| Some((yard.survey().ok()?, yard)));
-    let accepted: Vec<_> = accepted.collect();
-    assert!(accepted.len() > 100);
-    assert!(accepted.iter().all(|(survey, yard)| survey.yard() == yard));
+    let mut accepted = 0;
+    for _ in 0..5_000 {
+        let yard = random_yard(&mut random);
+        let [plain, counted] = RECORDS.map(|record| {
+            let survey = yard.survey_with(record);
+            survey.map(|survey| survey.yard().clone())
+        });
+        assert_eq!(plain, counted);
+        if let Ok(found) = plain {
+            assert_eq!(found, yard);
+            accepted += 1;
+        }
+    }
+    assert!(accepted > 100);
 }

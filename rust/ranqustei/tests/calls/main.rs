@@ -1,6 +1,7 @@
 //! The calls of the crate, on bytes and on figures.
 
 mod any_bytes;
+mod counted;
 mod random;
 mod refusals;
 mod samples;

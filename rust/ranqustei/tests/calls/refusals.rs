@@ -1,7 +1,7 @@
 //! Every refusal number: its call, its place, its cause and its sentence.
 
-use crate::samples::{bytes_a, told, yard_a};
-use ranqustei::{best, fetch, judge, list, Cause, Refusal, YardError};
+use crate::samples::{bytes_a, bytes_of, told, yard_a};
+use ranqustei::{best, fetch, judge, list, Cause, Refusal, YardError, YardRecord};
 
 /// Holds a refusal against what document 01 and the sentences say.
 fn check(refusal: Option<Refusal>, number: u8, place: u8, cause: Cause, sentence: &str) {
@@ -17,7 +17,11 @@ fn check(refusal: Option<Refusal>, number: u8, place: u8, cause: Cause, sentence
 
 /// The refusal of survey A with one byte changed.
 fn edited(at: usize, byte: u8) -> Option<Refusal> {
-    let mut survey = bytes_a();
+    edited_in(bytes_a(), at, byte)
+}
+
+/// The refusal of a survey with one byte changed.
+fn edited_in(mut survey: Vec<u8>, at: usize, byte: u8) -> Option<Refusal> {
     survey[at] = byte;
     let refusal = list(&survey, 9, &mut [0; 60]).err();
     assert_eq!(judge(&survey, &[0, 1]).err(), refusal);
@@ -35,7 +39,7 @@ fn surveys_of_a_wrong_length() {
             1,
             0,
             Cause::Length,
-            "a survey is 6 bytes, and then 12 bytes for each link",
+            "a survey is 6 bytes, or 7 with a link count, and then 12 bytes for each link",
         );
     }
 }
@@ -83,6 +87,16 @@ fn too_many_links() {
         Cause::Links,
         "a yard has at most 40 links",
     );
+}
+
+#[test]
+fn link_counts() {
+    let survey = bytes_of(&yard_a(1), YardRecord::Counted);
+    let words = "the survey has more or fewer links than its yard record counts: it may be cut off";
+    for count in [2, 4] {
+        let refusal = edited_in(survey.clone(), 6, count);
+        check(refusal, 15, 0, Cause::LinkCount, words);
+    }
 }
 
 #[test]

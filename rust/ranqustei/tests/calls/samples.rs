@@ -1,6 +1,9 @@
 //! Yards that several tests use.
 
-use ranqustei::{Link, Refusal, Yard};
+use ranqustei::{Link, Refusal, Yard, YardRecord};
+
+/// The yard records that a survey may have.
+pub const RECORDS: [YardRecord; 2] = [YardRecord::Plain, YardRecord::Counted];
 
 /// A yard from its stations, its ranks and its links: two ends, a sum, ceiling costs.
 pub fn yard(stations: u8, ranks: &[u8], links: &[(u8, u8, i32, &[i16])]) -> Yard {
@@ -19,19 +22,34 @@ pub fn yard_a(rank: u8) -> Yard {
     )
 }
 
-/// The bytes of survey A.
+/// The bytes of survey A, as document 01 has it.
 pub fn bytes_a() -> Vec<u8> {
-    yard_a(1)
-        .survey()
-        .expect("survey A is accepted")
-        .as_bytes()
-        .to_vec()
+    bytes_of(&yard_a(1), YardRecord::Plain)
+}
+
+/// The bytes of an accepted yard's survey.
+pub fn bytes_of(yard: &Yard, record: YardRecord) -> Vec<u8> {
+    let survey = yard.survey_with(record).expect("the yard is accepted");
+    survey.as_bytes().to_vec()
 }
 
 /// A chain of stations, one link of this sum from each to the next.
 pub fn chain(stations: u8, sum: i32) -> Yard {
     let links = (0..stations - 1).map(|end| Link::new([end, end + 1], sum, []));
     Yard::new(stations, [], links.collect::<Vec<_>>())
+}
+
+/// A yard at the limits: 24 stations, 40 links, 1,600 positions. Its first 23 links are a plan, and
+/// each link after them makes for one plan more.
+pub fn largest() -> Yard {
+    let mut yard = chain(24, 1);
+    yard.ranks = vec![1, 1];
+    let more = (0..17).map(|end| Link::new([end, end + 1], 2, []));
+    yard.links.extend(more);
+    for (number, link) in (0..).zip(&mut yard.links) {
+        link.costs = vec![20 - number, i16::MIN + number];
+    }
+    yard
 }
 
 /// A refusal's number and place.

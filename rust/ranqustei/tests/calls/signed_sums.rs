@@ -1,8 +1,8 @@
 //! Sums below 0, as relays with a panel have them.
 
-use crate::samples::{chain, told, yard, yard_a};
+use crate::samples::{bytes_of, chain, told, yard, yard_a};
 use crate::yards::check;
-use ranqustei::{PlanList, Survey, Yard, YardError};
+use ranqustei::{PlanList, Survey, Yard, YardError, YardRecord};
 
 /// Survey A with other sums.
 fn a_with(sums: [i32; 3]) -> Yard {
@@ -95,12 +95,13 @@ fn the_longest_tree_at_the_limits() {
 
 #[test]
 fn bytes_are_twos_complement() {
-    let survey = accepted(&a_with([-4, 3, -1_000_000]));
-    let sum = |link: usize| &survey.as_bytes()[10 + 12 * link..][..4];
+    let yard = a_with([-4, 3, -1_000_000]);
+    let survey = bytes_of(&yard, YardRecord::Plain);
+    let sum = |link: usize| &survey[10 + 12 * link..][..4];
     assert_eq!(sum(0), [0xFC, 0xFF, 0xFF, 0xFF]);
     assert_eq!(sum(1), [0x03, 0x00, 0x00, 0x00]);
     assert_eq!(sum(2), [0xC0, 0xBD, 0xF0, 0xFF]);
-    let plans = survey.plans().expect("an accepted survey lists");
+    let plans = accepted(&yard).plans().expect("an accepted survey lists");
     // -1,000,004
     assert_eq!(plans.as_bytes()[12..16], [0xBC, 0xBD, 0xF0, 0xFF]);
 }

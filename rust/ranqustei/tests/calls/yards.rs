@@ -1,7 +1,7 @@
 //! The yards of document 01 and yards at its limits, on figures.
 
-use crate::samples::{chain, told, yard, yard_a};
-use ranqustei::{Cause, Link, PlanList, Yard, YardError};
+use crate::samples::{chain, largest, told, yard, yard_a};
+use ranqustei::{Cause, PlanList, Yard, YardError};
 
 /// The plans of a yard as the planner's program prints them, and the solved count.
 fn listed(yard: &Yard) -> (Vec<String>, u32) {
@@ -138,16 +138,9 @@ fn ranks_beside_each_other() {
 
 #[test]
 fn the_longest_list_buffer() {
-    let mut yard = chain(24, 1);
-    yard.ranks = vec![1, 1];
-    let more = (0..17).map(|end| Link::new([end, end + 1], 2, []));
-    yard.links.extend(more);
-    for (number, link) in (0..).zip(&mut yard.links) {
-        link.costs = vec![number - 20, i16::MIN + number];
-    }
-    let survey = yard.survey().expect("the yard is accepted");
+    let survey = largest().survey().expect("the yard is accepted");
     assert_eq!((survey.positions(), survey.list_need()), (1_600, 52_810));
-    assert!(survey.plans().is_ok_and(|plans| !plans.is_empty()));
+    assert_eq!(survey.plans().map(|plans| plans.len()), Ok(18));
 }
 
 #[test]

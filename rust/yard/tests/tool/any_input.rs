@@ -1,7 +1,7 @@
 //! Random text, bytes and words: the tool answers or says what is wrong.
 
 use crate::random::Random;
-use crate::tool::{run_bytes, scratch};
+use crate::tool::{run_bytes, scratch, text_a};
 
 const COMMANDS: [&str; 9] = [
     "plans", "best", "judge", "text", "survey", "list", "fetch", "draw", "frontier",
@@ -54,27 +54,28 @@ fn any_text() {
 #[test]
 fn any_words() {
     let mut random = Random(6);
+    let text = text_a();
     let words = [
-        "-o", "--plan", "-", "0", "1", "-5", "300", "help", "", "--", "–", "x.list", "x.survey",
+        "-o", "--plan", "--record", "plain", "counted", "-", "0", "1", "-5", "300", "help", "",
+        "--", "–", "x.list", "x.survey",
     ];
     for _ in 0..4_000 {
         let command = COMMANDS[random.below(COMMANDS.len())];
         let rest = (0..random.below(5)).map(|_| words[random.below(words.len())]);
         let line: Vec<&str> = [command].into_iter().chain(rest).collect();
-        answers(&line, b"stations 3 ceilings 1\n0 1 4 7\n1 2 3 2\n0 2 1 9\n");
+        answers(&line, text.as_bytes());
     }
 }
 
 #[test]
 fn any_bytes_in_files() {
     let mut random = Random(7);
-    let good = run_bytes(
-        &["survey", "-"],
-        "stations 3 ceilings 1\n0 1 4 7\n1 2 3 2\n0 2 1 9\n",
-    );
-    let good = good.expect("survey A is accepted");
-    for _ in 0..300 {
-        let mut bytes = good.clone();
+    let good = ["plain", "counted"].map(|record| {
+        let survey = run_bytes(&["survey", "-", "--record", record], text_a());
+        survey.expect("survey A is accepted")
+    });
+    for round in 0..300 {
+        let mut bytes = good[round % 2].clone();
         for _ in 0..random.below(3) {
             let at = random.below(bytes.len());
             bytes[at] = random.below(16) as u8;

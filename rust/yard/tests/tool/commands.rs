@@ -80,16 +80,18 @@ fn a_list_is_stored_and_its_plans_fetched() {
 #[test]
 fn surveys_and_texts_keep_everything() {
     for name in example_yards() {
-        let survey = run_bytes(&["survey", &name], "").expect("the example is accepted");
         let text = run(&["text", &name], "").expect("the example is accepted");
-        assert_eq!(
-            run_bytes(&["survey", "-"], &text),
-            Ok(survey.clone()),
-            "{name}"
-        );
-        assert_eq!(run(&["text", "-"], &text), Ok(text), "{name}");
+        assert_eq!(run(&["text", "-"], &text), Ok(text.clone()), "{name}");
+        for record in ["plain", "counted"] {
+            let survey = |file| {
+                let written = run_bytes(&["survey", file, "--record", record], &text);
+                written.expect("the example is accepted")
+            };
+            assert_eq!(survey(&name), survey("-"), "{name}");
+        }
         if name.ends_with(".survey") {
-            assert_eq!(std::fs::read(&name).ok(), Some(survey), "{name}");
+            let survey = run_bytes(&["survey", &name], "");
+            assert_eq!(std::fs::read(&name).ok(), survey.ok(), "{name}");
         }
     }
 }
@@ -171,8 +173,16 @@ fn files_that_are_not_what_a_command_needs() {
 fn wrong_words() {
     assert_eq!(run(&[], ""), misused("a command is needed"));
     assert_eq!(run(&["plan", "-"], ""), misused("`plan` is no command"));
-    for command in ["plans", "text", "survey", "list", "frontier"] {
-        let takes = misused(&format!("the command is `yard {command} YARD [-o FILE]`"));
+    for (command, takes) in [
+        ("plans", "YARD"),
+        ("text", "YARD"),
+        ("survey", "YARD [--record plain|counted]"),
+        ("list", "YARD"),
+        ("frontier", "YARD"),
+    ] {
+        let takes = misused(&format!(
+            "the command is `yard {command} {takes} [-o FILE]`"
+        ));
         assert_eq!(run(&[command], ""), takes);
         assert_eq!(run(&[command, "-", "-"], ""), takes);
         assert_eq!(run(&[command, "-", "--plan", "1"], ""), takes);
@@ -190,6 +200,37 @@ fn wrong_words() {
     assert_eq!(run(&["fetch", "a.list", "0", "1"], ""), fetch);
     let draw = misused("the command is `yard draw YARD [--plan PLAN] [-o FILE]`");
     assert_eq!(run(&["draw", "-", "1"], ""), draw);
+}
+
+#[test]
+fn yard_records_are_for_surveys_alone() {
+    for words in [
+        &["plans", "-"][..],
+        &["best", "-", "8"],
+        &["judge", "-", "0", "2"],
+        &["text", "-"],
+        &["list", "-"],
+        &["fetch", "a.list", "0"],
+        &["draw", "-", "--plan", "0"],
+        &["frontier", "-"],
+    ] {
+        let answer = run(&[words, &["--record", "plain"]].concat(), text_a());
+        let (status, message) = answer.expect_err("the option is of another command");
+        let command = format!("the command is `yard {} ", words[0]);
+        assert_eq!((status, message.starts_with(&command)), (2, true));
+    }
+}
+
+#[test]
+fn wrong_yard_records() {
+    for record in ["", "x", "Plain", "59 45"] {
+        let words = format!("`{record}` is no yard record, plain or counted");
+        assert_eq!(on_a("survey", &["--record", record]), misused(&words));
+    }
+    assert_eq!(
+        on_a("survey", &["--record"]),
+        misused("`--record` needs a word after it")
+    );
 }
 
 #[test]

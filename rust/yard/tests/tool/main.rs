@@ -7,6 +7,7 @@ mod process;
 #[path = "../../../ranqustei/tests/calls/random.rs"]
 mod random;
 mod readme;
+mod records;
 mod signed_sums;
 mod tool;
 mod yard_text;

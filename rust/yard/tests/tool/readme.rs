@@ -32,14 +32,20 @@ fn examples(document: &str) -> Vec<Example> {
     examples
 }
 
-/// A folder with the example yards and room for what the commands write.
+/// A folder with the examples and room for what the commands write.
 fn folder() -> PathBuf {
     let folder = Path::new(env!("CARGO_TARGET_TMPDIR")).join("documents");
     for part in ["examples/yards", "docs/pictures"] {
         fs::create_dir_all(folder.join(part)).expect("the scratch folder can be written");
     }
-    for yard in ["survey-a", "orchard", "heather", "solar"] {
-        let name = format!("examples/yards/{yard}.txt");
+    for example in [
+        "yards/survey-a.txt",
+        "yards/orchard.txt",
+        "yards/heather.txt",
+        "yards/solar.txt",
+        "cut-off.survey",
+    ] {
+        let name = format!("examples/{example}");
         fs::copy(repository(&name), folder.join(&name)).expect("the example is there");
     }
     folder

@@ -32,7 +32,7 @@ div-m : tie.Need-div-m
 div-m c = search needs
 
 check-yard-requires : tie.Need-check-yard-requires
-check-yard-requires c κs = omega (arith, whole-records _ _ (right c))
+check-yard-requires c κs = (c .before .before .before .pre, omega (arith, whole-records _ _ (right c)))
 
 enum-told : tie.Need-enum-told
 enum-told c = search needs

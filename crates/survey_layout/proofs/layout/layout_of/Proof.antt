@@ -1,39 +1,68 @@
--- `survey_layout::layout::layout_of` meets its contract. By the mark; no mark stands in fewer than two bytes.
+-- `survey_layout::layout::layout_of` meets its contract. The rows from i on have the layout of the survey; no mark stands in fewer than two bytes.
+use Prim.Native.Nat.{_-_}
+use mathlib.Core.Path.{_≡_, refl, sym, _∙_}
 use borrow.Author.Needs.{needs}
-use mathlib.Core.Path.{sym, _∙_}
-use Rattle.network.specs.Survey.{layoutOf}
-use Rattle.survey_layout.specs.Mark.{no-mark}
+use lib.ListN.{length}
+use Rattle.network.specs.Survey.{layoutOf, layouts}
+use Rattle.network.specs.Layouts.{layout-short}
+use Rattle.survey_layout.specs.Rows.{found-roomy, fromRow, row-found, row-missed, row-none}
 use Rattle.survey_layout.proofs.layout.layout_of.Statement.{statement}
 use Rattle.survey_layout.proofs.layout.layout_of.Tie as tie
 
-unknown-layout-requires : tie.Need-unknown-layout-requires
-unknown-layout-requires c κs = search needs
+abbrev Inv-loop : tie.InvT-loop
+Inv-loop s i₀ i = fromRow s i ≡ layoutOf s
 
-returns : tie.Need-returns
-unfolding layoutOf
-returns c = rw (c .unknown-layout .ensures) (rw (no-mark _ (c .before .if1 .taken)), search needs)
+abbrev μ-loop : tie.MeasureT-loop
+μ-loop s i₀ i = length layouts - i
 
-mark-at-requires : tie.Need-mark-at-requires
+returns : tie.Need-returns Inv-loop μ-loop
+returns c = found-roomy _ _ (sym (layout-short _ (c .if1 .taken)))
+
+loop-holds : tie.Need-loop-holds Inv-loop μ-loop
+unfolding fromRow layoutOf
+loop-holds c = refl
+
+mul-row : tie.Need-mul-row Inv-loop μ-loop
+mul-row c = search needs
+
+array-copy-out-row : tie.Need-array-copy-out-row Inv-loop μ-loop
+array-copy-out-row c = search needs
+
+mark-at-requires : tie.Need-mark-at-requires Inv-loop μ-loop
 mark-at-requires c κs = search needs
 
-returns-2 : tie.Need-returns-2
-unfolding layoutOf
-returns-2 c = (rw (sym (c .before .mark-at .ensures) ∙ c .if2 .taken), search needs)
+returns-2 : tie.Need-returns-2 Inv-loop μ-loop
+returns-2 c =
+    let turn = c .before .before .before .before in
+    found-roomy _ _ (row-found _ _ _ (turn .loop-test .taken) (turn .before .loop .inv) (sym (c .before .mark-at .ensures) ∙ c .if2 .taken))
 
-unknown-layout-requires-2 : tie.Need-unknown-layout-requires-2
-unknown-layout-requires-2 c κs = search needs
+add-i : tie.Need-add-i Inv-loop μ-loop
+add-i c = search needs
 
-returns-3 : tie.Need-returns-3
-unfolding layoutOf
-returns-3 c = rw (c .unknown-layout2 .ensures) (rw (sym (c .before .before .mark-at .ensures) ∙ c .before .if2 .left), search needs)
+loop-less : tie.Need-loop-less Inv-loop μ-loop
+loop-less c = search needs
+
+loop-again : tie.Need-loop-again Inv-loop μ-loop
+loop-again c =
+    let turn = c .before .before .before .before in
+    row-missed _ _ _ (turn .loop-test .taken) (turn .before .loop .inv) (sym (c .before .mark-at .ensures) ∙ c .if2 .left)
+
+returns-3 : tie.Need-returns-3 Inv-loop μ-loop
+returns-3 c = found-roomy _ _ (row-none _ _ (c .loop-test .left) (c .before .loop .inv))
 
 pub layout-of-spec : {M : Type 1} → statement M
 layout-of-spec =
     tie.close
     (tie.spec
-    unknown-layout-requires
+    Inv-loop
+    μ-loop
     returns
+    loop-holds
+    mul-row
+    array-copy-out-row
     mark-at-requires
     returns-2
-    unknown-layout-requires-2
+    add-i
+    loop-less
+    loop-again
     returns-3)

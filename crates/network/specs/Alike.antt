@@ -1,0 +1,26 @@
+-- Two surveys that get the same refusal or none, and have the same network, get the same replies and lists from every call.
+use Prim.Native.Nat.{ℕ}
+use mathlib.Core.Path.{_≡_}
+use mathlib.Core.List.{List}
+use lib.IntN.{ℤ}
+use Rattle.network.specs.Survey.{networkOf}
+use Rattle.network.specs.Refusals.{checkedOf}
+use Rattle.network.specs.Calls.{asked, askedChecked, bestTree, drawnChecked, judged, listAfter, listChecked, listStatus, treeAfter}
+
+pub record Alike (s s′ : List ℕ) : Type 0 where
+  pub judge : (drawn : List ℕ) → judged s′ drawn ≡ judged s drawn
+  pub question : (b1 b2 : ℤ) (size : ℕ) → asked s′ b1 b2 size ≡ asked s b1 b2 size
+  pub tree : (b1 b2 : ℤ) (buffer : List ℕ) → treeAfter s′ b1 b2 buffer ≡ treeAfter s b1 b2 buffer
+  pub status : (allowance size : ℕ) → listStatus s′ allowance size ≡ listStatus s allowance size
+  pub list : (allowance : ℕ) (buffer : List ℕ) → listAfter s′ allowance buffer ≡ listAfter s allowance buffer
+
+pub alike : {s s′ : List ℕ} → checkedOf s′ ≡ checkedOf s → networkOf s′ ≡ networkOf s → Alike s s′
+unfolding judged drawnChecked asked askedChecked bestTree treeAfter listStatus listChecked listAfter
+alike c e =
+    record {
+      judge = λ drawn. rw (c, e);
+      question = λ b1 b2 size. rw (c, e);
+      tree = λ b1 b2 buffer. rw (c, e);
+      status = λ allowance size. rw (c, e);
+      list = λ allowance buffer. rw (c, e);
+    }

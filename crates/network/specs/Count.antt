@@ -1,0 +1,152 @@
+-- The link count in the yard record: with the right count a survey is read as without it, and a survey that has a count and is cut off is refused.
+use Prim.Native.Nat.{ℕ, _+_, _-_, _*_, _/_, _%_, _≤_, _<_}
+use mathlib.Core.Path.{_≡_, refl, sym, ap, ap₂, _∙_}
+use mathlib.Core.Bool.{Bool, true, false, cond, not}
+use mathlib.Core.List.{List, [], _∷_, _++_}
+use native.Mathlib.Nat.{add-assoc, add-zero}
+use native.Mathlib.Omega.{arith}
+use lib.Dec.{eqb, ltb}
+use lib.IntN.{pos}
+use lib.ListN.{length}
+use mir.Syntax.{w16, w32}
+use lib.Seq.{getD-append-add}
+use store.Seg.{eqb-same}
+use borrow.Author.Tests.{le-ltb}
+use Rattle.network.specs.Limits.{maxCeilings, maxLinks}
+use Rattle.network.specs.Bytes.{byteAt, markAt, signed, u16At, u32At}
+use Rattle.network.specs.Column.{column}
+use Rattle.network.specs.Survey.{costsIn, endsIn, linkCount, linkSize, linkStart, networkOf, networkWith, raised, sumsIn, yardSize}
+use Rattle.network.specs.Survey.{layoutAmong, layoutOf, plain, withCount}
+use Rattle.network.specs.Checked.{firstRefusal, refuseIf, _orElse_}
+use Rattle.network.specs.Refusals.{badCount, badLength, checkedOf, checkedWith, linkChecked, linkCheckedAt, linksChecked, yardChecked}
+use Rattle.network.specs.Alike.{Alike, alike}
+use Rattle.network.specs.declared.Checked.{Checked}
+use Rattle.network.specs.declared.Network.{Network}
+
+-- ---- the same bytes elsewhere
+
+-- the bytes of s from an index on stand in s′ from another one on
+record Moved (s : List ℕ) (at : ℕ) (s′ : List ℕ) (at′ : ℕ) : Type 0 where
+  each : (k : ℕ) → byteAt s′ (at′ + k) ≡ byteAt s (at + k)
+
+module _ {s s′ : List ℕ} {at at′ : ℕ} (m : Moved s at s′ at′) where
+  moved-on : (j : ℕ) → Moved s (at + j) s′ (at′ + j)
+  moved-on j = record { each = λ k. rw (add-assoc at′ j k, add-assoc at j k) (m .each (j + k)) }
+
+  moved-byte : byteAt s′ at′ ≡ byteAt s at
+  moved-byte = rw (add-zero at′, add-zero at) at (m .each 0)
+
+  moved-u16 : u16At s′ at′ ≡ u16At s at
+  moved-u16 = rw (moved-byte, m .each 1)
+
+  moved-mark : (mark : List ℕ) → markAt s′ at′ mark ≡ markAt s at mark
+  moved-mark mark = rw (moved-byte, m .each 1)
+
+moved-u32 : {s s′ : List ℕ} {at at′ : ℕ} → Moved s at s′ at′ → u32At s′ at′ ≡ u32At s at
+moved-u32 m = rw (moved-u16 m, moved-u16 (moved-on m 2))
+
+-- ---- the right count
+
+-- the survey with the yard record of mark 59 44 that has these fields and these bytes of link records
+abbrev pub plainSurvey : ℕ → ℕ → ℕ → ℕ → List ℕ → List ℕ
+plainSurvey n p k1 k2 links = plain .yard .mark ++ (n ∷ p ∷ k1 ∷ k2 ∷ []) ++ links
+
+-- the same survey with the yard record of mark 59 45 and its link count, which is a byte wherever number 4 does not come first
+abbrev pub countedSurvey : ℕ → ℕ → ℕ → ℕ → List ℕ → List ℕ
+countedSurvey n p k1 k2 links = withCount .yard .mark ++ (n ∷ p ∷ k1 ∷ k2 ∷ length links / linkSize ∷ []) ++ links
+
+-- a column of the same figures
+column-same : {A : Type 0} (size : ℕ) (filler : A) (f g : ℕ → A) → ((i : ℕ) → f i ≡ g i) → (m : ℕ) → column size filler f m ≡ column size filler g m
+column-same size filler f g e m = ap (λ (h : ℕ → _). column size filler h m) (λ i q. e q i)
+
+-- the first refusal of the same checks
+first-same : (f g : ℕ → Checked) → ((i : ℕ) → f i ≡ g i) → (m : ℕ) → firstRefusal f m ≡ firstRefusal g m
+first-same f g e m = ap (λ (h : ℕ → Checked). firstRefusal h m) (λ i q. e q i)
+
+module _ (n p k1 k2 : ℕ) (links : List ℕ) where
+  abbrev s : List ℕ
+  s = plainSurvey n p k1 k2 links
+
+  abbrev s′ : List ℕ
+  s′ = countedSurvey n p k1 k2 links
+
+  -- the link records
+  moved : Moved s yardSize s′ (yardSize + 1)
+  moved =
+      record {
+        each = λ k.
+            getD-append-add (0x59 ∷ 0x45 ∷ n ∷ p ∷ k1 ∷ k2 ∷ length links / linkSize ∷ []) links k 0
+            ∙ sym (getD-append-add (0x59 ∷ 0x44 ∷ n ∷ p ∷ k1 ∷ k2 ∷ []) links k 0);
+      }
+
+  -- link record i
+  moved-link : (i : ℕ) → Moved s (linkStart plain i) s′ (linkStart withCount i)
+  moved-link i = moved-on moved (i * linkSize)
+
+  link-same : (i : ℕ) → linkCheckedAt s′ withCount i ≡ linkCheckedAt s plain i
+  unfolding linkChecked
+  link-same i =
+      let m = moved-link i in
+      rw (moved-mark m (plain .link .mark), moved-on m 2 .each 0, moved-on m 2 .each 1, moved-u32 (moved-on m 4))
+      (rw (moved-u16 (moved-on (moved-on m 8) (2 * 0)), moved-u16 (moved-on (moved-on m 8) (2 * 1))))
+
+  links-same : (m : ℕ) → linksChecked s′ withCount m ≡ linksChecked s plain m
+  links-same m = first-same (linkCheckedAt s′ withCount) (linkCheckedAt s plain) link-same m
+
+  -- the yard records
+  yard-same : (m : ℕ) → m ≡ length links / linkSize → yardChecked s′ withCount m ≡ yardChecked s plain m
+  unfolding yardChecked badCount
+  yard-same m e = rw (e, eqb-same (length links / linkSize))
+
+  ends-same : (c : ℕ) → endsIn withCount s′ c ≡ endsIn plain s c
+  unfolding endsIn
+  ends-same c = column-same (2 * maxLinks) 0 _ _ (λ q. moved-on (moved-link (q / 2)) 2 .each (q % 2)) c
+
+  sums-same : (c : ℕ) → sumsIn withCount s′ c ≡ sumsIn plain s c
+  unfolding sumsIn
+  sums-same c = column-same maxLinks 0 _ _ (λ i. ap (λ (u : ℕ). raised (signed w32 u)) (moved-u32 (moved-on (moved-link i) 4))) c
+
+  costs-same : (c : ℕ) → costsIn withCount s′ c ≡ costsIn plain s c
+  unfolding costsIn
+  costs-same c =
+      column-same (maxCeilings * maxLinks) (pos 0) _ _
+      (λ q. ap (signed w16) (moved-u16 (moved-on (moved-on (moved-link (q / maxCeilings)) 8) (2 * (q % maxCeilings))))) c
+
+  network-same : (m : ℕ) → networkWith withCount s′ m ≡ networkWith plain s m
+  unfolding networkWith
+  network-same m = λ i. record { n = n; p = p; k = k1 ∷ k2 ∷ []; m = m; ends = ends-same (2 * m) i; sums = sums-same m i; costs = costs-same (2 * m) i }
+
+  -- the links are as many
+  links-plain : linkCount plain s ≡ length links / linkSize
+  links-plain = ap (λ (z : ℕ). z / linkSize) (omega arith)
+
+  links-counted : linkCount withCount s′ ≡ length links / linkSize
+  links-counted = ap (λ (z : ℕ). z / linkSize) (omega arith)
+
+  length-same : badLength withCount (length s′) ≡ badLength plain (length s)
+  unfolding badLength
+  length-same =
+      let rest : length s′ - (yardSize + 1) ≡ length s - yardSize = omega arith in
+      let room : ltb (length s) yardSize ≡ false = le-ltb (length s) yardSize (omega arith) in
+      let room′ : ltb (length s′) (yardSize + 1) ≡ false = le-ltb (length s′) (yardSize + 1) (omega arith) in
+      rw (rest, room, room′)
+
+  -- THE THEOREM: a survey and the same survey with the right count get the same refusal or none,
+  pub count-checked : checkedOf s′ ≡ checkedOf s
+  unfolding layoutOf layoutAmong checkedWith
+  count-checked =
+      let q = length links / linkSize in
+      let yard : yardChecked s′ withCount (linkCount withCount s′) ≡ yardChecked s plain (linkCount plain s) =
+      rw (links-counted, links-plain) (yard-same q refl) in
+      let link : linksChecked s′ withCount (linkCount withCount s′) ≡ linksChecked s plain (linkCount plain s) =
+      rw (links-counted, links-plain) (links-same q) in
+      λ i. refuseIf (length-same i) 1 0 orElse (yard i orElse link i)
+
+  -- and have the same network
+  pub count-network : networkOf s′ ≡ networkOf s
+  unfolding layoutOf layoutAmong
+  count-network = rw (links-counted, links-plain) (network-same (length links / linkSize))
+
+  -- so that every call replies the same and leaves the same
+  pub count-alike : Alike s s′
+  count-alike = alike count-checked count-network

@@ -1,0 +1,86 @@
+-- What holds of the layout of any survey, shown over the table of the layouts that are known.
+use Prim.Native.Nat.{ℕ, _≤_, _<_}
+use mathlib.Core.Path.{_≡_, refl}
+use mathlib.Core.Bool.{Bool, true, false, cond, not, _&&_, _||_}
+use mathlib.Core.List.{List, [], _∷_, List·Memᴰ·head as here, List·Memᴰ·tail as there}
+use native.Mathlib.Omega.{arith}
+use borrow.Author.Tests.{leb-true, ltb-true, not-true}
+use lib.Dec.{eqb, leb, ltb}
+use lib.ListN.{length, take, List·getD-eq-default}
+use lib.Seq.{getD-take}
+use Rattle.order.specs.Lists.{_∈_, all, all-mem}
+use Rattle.order.specs.Test.{left, right}
+use Rattle.network.specs.Bytes.{byteAt, markAt}
+use Rattle.network.specs.Survey.{layoutAmong, layoutOf, layouts, linkSize, plain, yardSize}
+use Rattle.network.specs.declared.Layout.{Layout}
+
+-- the records of a layout have room for the fields that all share, and the yard record for the link count where it has one
+pub record Roomy (l : Layout) : Type 0 where
+  pub yard : yardSize ≤ l .yard .size
+  pub count : l .counted ≡ true → yardSize < l .yard .size
+  pub link : linkSize ≤ l .link .size
+
+-- the same as tests
+abbrev yardRoomy : Layout → Bool
+yardRoomy l = leb yardSize (l .yard .size) && (not (l .counted) || ltb yardSize (l .yard .size))
+
+abbrev roomy : Layout → Bool
+roomy l = yardRoomy l && leb linkSize (l .link .size)
+
+roomy-row : (l : Layout) → roomy l ≡ true → Roomy l
+roomy-row l e =
+    let yard : yardRoomy l ≡ true = left (yardRoomy l) _ e in
+    let link : leb linkSize (l .link .size) ≡ true = right (yardRoomy l) _ e in
+    let count : not (l .counted) || ltb yardSize (l .yard .size) ≡ true = right (leb yardSize (l .yard .size)) _ yard in
+    record {
+      yard = leb-true _ _ (left (leb yardSize (l .yard .size)) _ yard);
+      count = λ c. ltb-true _ _ (rw c at count);
+      link = leb-true _ _ link;
+    }
+
+-- what holds of each layout that is known holds of the layout of a survey
+pub layout-has : (P : Layout → Type 0) → ((l : Layout) → l ∈ layouts → P l) → (s : List ℕ) → P (layoutOf s)
+unfolding layoutOf layoutAmong
+layout-has P each s = go layouts (each plain (here refl)) each
+  where
+    pick : (b : Bool) (l r : Layout) → P l → P r → P (cond b l r)
+    pick true l r p q = p
+    pick false l r p q = q
+
+    go : (ls : List Layout) → P plain → ((l : Layout) → l ∈ ls → P l) → P (layoutAmong ls s)
+    go [] p q = p
+    go (l ∷ ls) p q = pick (markAt s 0 (l .yard .mark)) l (layoutAmong ls s) (q l (here refl)) (go ls p (λ k m. q k (there m)))
+
+pub layout-roomy : (s : List ℕ) → Roomy (layoutOf s)
+layout-roomy = layout-has Roomy (λ l m. roomy-row l (all-mem roomy layouts refl l m))
+
+-- ---- the first two bytes
+
+-- the second byte of each mark is not 0
+abbrev second : Layout → Bool
+second l = not (eqb 0 (byteAt (l .yard .mark) 1))
+
+-- fewer than two bytes have no mark
+pub layout-short : (s : List ℕ) → length s < 2 → layoutOf s ≡ plain
+unfolding layoutOf layoutAmong
+layout-short s h = go layouts refl
+  where
+    missed : (a b : Bool) → not b ≡ true → a && b ≡ false
+    missed true b e = not-true b e
+    missed false b e = refl
+
+    absent : (l : Layout) → second l ≡ true → markAt s 0 (l .yard .mark) ≡ false
+    absent l e = rw (List·getD-eq-default s 0 {n = 1} (omega arith)) (missed (eqb (byteAt s 0) (byteAt (l .yard .mark) 0)) _ e)
+
+    go : (ls : List Layout) → all second ls ≡ true → layoutAmong ls s ≡ plain
+    go [] e = refl
+    go (l ∷ ls) e = rw (absent l (left (second l) _ e)) (go ls (right (second l) _ e))
+
+-- two bytes of a survey have its layout, and so has all that begins with them
+pub layout-kept : (s : List ℕ) (c : ℕ) → 2 ≤ c → layoutOf (take c s) ≡ layoutOf s
+unfolding layoutOf layoutAmong
+layout-kept s c h = go layouts
+  where
+    go : (ls : List Layout) → layoutAmong ls (take c s) ≡ layoutAmong ls s
+    go [] = refl
+    go (l ∷ ls) = rw (getD-take c s 0 0 (omega arith), getD-take c s 1 0 (omega arith), go ls)

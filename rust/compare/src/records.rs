@@ -1,0 +1,60 @@
+//! Which yard records the surveys have, and where a cut was noticed by the link count.
+
+use peer::link_set::LinkSet;
+use peer::records::{YardRecord, LINK_BYTES, YARD_RECORDS};
+use peer::survey::MAX_LINKS;
+use peer::Refusal;
+
+/// The mark of each of `YARD_RECORDS`, for reports.
+pub fn marks() -> [String; YARD_RECORDS.len()] {
+    YARD_RECORDS.map(|record| {
+        let [first, second] = record.mark;
+        format!("{first:02X} {second:02X}")
+    })
+}
+
+/// How much was compared, by yard records.
+#[derive(Clone, Copy, Default)]
+pub struct RecordTally {
+    /// Legal surveys with each of `YARD_RECORDS`.
+    pub legal: [u64; YARD_RECORDS.len()],
+    /// How many links were left of 40, for each cut at a record's end that was refused by 15.
+    left: LinkSet,
+}
+
+impl RecordTally {
+    /// Counts a legal survey.
+    pub fn count_legal(&mut self, survey: &[u8]) {
+        let kind = YardRecord::of(survey);
+        for (count, record) in self.legal.iter_mut().zip(YARD_RECORDS) {
+            *count += u64::from(record == kind);
+        }
+    }
+
+    /// Counts a refused survey, if it is what a cut left of 40 links.
+    pub fn count_refused(&mut self, survey: &[u8], refusal: Refusal) {
+        let kind = YardRecord::of(survey);
+        if refusal.number == 15 && kind.written_count(survey) == Some(MAX_LINKS) {
+            let left = (survey.len() - kind.bytes) / LINK_BYTES;
+            self.left = self.left.with(left as u8);
+        }
+    }
+
+    /// How many of the cuts at a record's end were refused by 15.
+    pub fn cuts(&self) -> usize {
+        self.left.links().count()
+    }
+
+    /// Whether each of them was.
+    pub fn is_cut_everywhere(&self) -> bool {
+        self.left == (0..MAX_LINKS as u8).collect()
+    }
+
+    /// Adds what another tally has.
+    pub fn add(&mut self, other: &RecordTally) {
+        self.left = self.left.or(other.left);
+        for (count, more) in self.legal.iter_mut().zip(other.legal) {
+            *count += more;
+        }
+    }
+}

@@ -1,0 +1,49 @@
+//! The records of a survey: their marks and lengths.
+
+/// The mark of a link record.
+pub const LINK_MARK: [u8; 2] = [0x4c, 0x4b];
+/// How many bytes a link record has.
+pub const LINK_BYTES: usize = 12;
+
+/// A kind of yard record. Every kind opens with its mark, n, p, k1 and k2.
+#[derive(Clone, Copy, PartialEq, Eq, Debug)]
+pub struct YardRecord {
+    /// Its mark.
+    pub mark: [u8; 2],
+    /// How many bytes it has.
+    pub bytes: usize,
+    /// Which of its bytes is the number of links, if that is written in it.
+    pub count_at: Option<usize>,
+}
+
+/// The yard record without a link count.
+pub const PLAIN: YardRecord = YardRecord {
+    mark: [0x59, 0x44],
+    bytes: 6,
+    count_at: None,
+};
+
+/// The yard record with a link count.
+pub const COUNTED: YardRecord = YardRecord {
+    mark: [0x59, 0x45],
+    bytes: 7,
+    count_at: Some(6),
+};
+
+/// All kinds of yard records.
+pub const YARD_RECORDS: [YardRecord; 2] = [PLAIN, COUNTED];
+
+impl YardRecord {
+    /// The kind that a survey is measured by: its first two bytes say which. Where they are no
+    /// known mark, or not there, it is the plain one.
+    pub fn of(survey: &[u8]) -> YardRecord {
+        let mut kinds = YARD_RECORDS.into_iter();
+        let known = kinds.find(|kind| survey.starts_with(&kind.mark));
+        known.unwrap_or(PLAIN)
+    }
+
+    /// The link count that is written in a record of this kind, if it has one.
+    pub fn written_count(&self, record: &[u8]) -> Option<usize> {
+        self.count_at.map(|at| record[at].into())
+    }
+}

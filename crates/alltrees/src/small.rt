@@ -104,12 +104,12 @@ pub const ZERO: u8 = 3;
 
 const ZEROS: u64 = 0x0303030303030303;
 
-// A yard of a kind with m links, whose survey writes their count or does not. Byte e of a column belongs to link e: a number that picks its pair of stations, and the codes of its sum cost
+// A yard of a kind with m links; `counted` is 1 where its survey writes their count, and else 0. Byte e of a column belongs to link e: a number that picks its pair of stations, and the codes of its sum cost
 // and of its ceiling costs.
 pub struct Yard {
     pub kind: u64,
     pub m: u8,
-    pub counted: bool,
+    pub counted: u8,
     pub pairs: u64,
     pub sums: u64,
     pub costs1: u64,
@@ -160,7 +160,7 @@ pub fn make(i: usize, x: u64) -> Yard {
     Yard {
         kind,
         m: links(x, byte(kind, 0)),
-        counted: i % 2 == 1,
+        counted: (i % 2) as u8,
         pairs,
         sums: sum_codes(sums, i / KINDS),
         costs1: codes(costs, p > 0),
@@ -198,18 +198,18 @@ fn link_costs(yard: Yard, e: u8) -> u64 {
 
 // The mark of the yard record, n, p, k1 and k2, and the link count.
 fn yard_record(yard: Yard) -> u64 {
-    let mark = if yard.counted { 0x4559 } else { 0x4459 };
-    mark + 65536 * (yard.kind % 4294967296) + 281474976710656 * (yard.m as u64)
+    let mark = 0x4459 + 256 * ((yard.counted % 2) as u64);
+    mark + 65536 * (yard.kind % 4294967296) + 281474976710656 * ((yard.m % 8) as u64)
 }
 
 // How many bytes of it the survey has.
-fn yard_size(yard: Yard) -> usize {
-    if yard.counted { 7 } else { 6 }
+fn yard_size(yard: Yard) -> u8 {
+    6 + yard.counted % 2
 }
 
 // The byte of the survey at an index.
 fn survey_byte(yard: Yard, i: usize) -> u8 {
-    let first = yard_size(yard);
+    let first = yard_size(yard) as usize;
     if i < first {
         return byte(yard_record(yard), (i % 8) as u8);
     }
@@ -232,5 +232,5 @@ pub fn survey_of(yard: Yard) -> [u8; 91] {
 
 // How many bytes the survey has.
 pub fn length(yard: Yard) -> usize {
-    12 * (yard.m as usize) + yard_size(yard)
+    yard_size(yard) as usize + 12 * (yard.m as usize)
 }

@@ -1,4 +1,4 @@
-/* Every call on survey A of document 01, with either yard record. */
+/* Every call on survey A of document 01, and the ceilings question with a yard record that counts the links. */
 #include "ranqustei.h"
 
 #include <stdio.h>

@@ -19,8 +19,9 @@
  * hexadecimal, everything else is decimal.
  *
  * A survey is a yard record and then m link records. Its first two bytes say which yard record it has: the plain one, of 6 bytes, or the counted one,
- * of 7, which also holds m, so that a survey is declined wherever it is cut off. With the plain one a survey has 6 + 12 * m bytes in all, and link i,
- * counted from 0, begins at byte 6 + 12 * i; with the counted one put 7 for 6. Bytes that begin with neither mark are measured as the plain one is.
+ * of 7, which also holds m, so that an accepted survey is declined once it is cut off, wherever that is. With the plain one a survey has 6 + 12 * m
+ * bytes in all, and link i, counted from 0, begins at byte 6 + 12 * i; with the counted one put 7 for 6. Bytes that begin with neither mark are measured
+ * as the plain one is.
  *
  *     plain yard record, 6 bytes
  *     offset  size  field                      range

@@ -104,8 +104,8 @@ pub const ZERO: u8 = 3;
 
 const ZEROS: u64 = 0x0303030303030303;
 
-// A yard of a kind with m links; `counted` is 1 where its survey writes their count, and else 0. Byte e of a column belongs to link e: a number that picks its pair of stations, and the codes of its sum cost
-// and of its ceiling costs.
+// A yard of a kind with m links; `counted` is 1 where its survey writes their count, and else 0. Byte e of a column belongs to link e: a number that
+// picks its pair of stations, and the codes of its sum cost and of its ceiling costs.
 pub struct Yard {
     pub kind: u64,
     pub m: u8,
@@ -150,7 +150,7 @@ fn sum_codes(x: u64, way: usize) -> u64 {
     wrapping_add_u64(x & DRAWN[way % 4], LEAST[way % 4])
 }
 
-// The yard of a number, every kind in its turn, and then once more with other sum costs; every other yard has its links counted.
+// The yard of a number, every kind in its turn, and then once more with other sum costs; whether its links are counted is drawn.
 pub fn make(i: usize, x: u64) -> Yard {
     let kind = KIND[i % KINDS];
     let p = byte(kind, 1);
@@ -160,7 +160,7 @@ pub fn make(i: usize, x: u64) -> Yard {
     Yard {
         kind,
         m: links(x, byte(kind, 0)),
-        counted: (i % 2) as u8,
+        counted: (x / 16 % 2) as u8,
         pairs,
         sums: sum_codes(sums, i / KINDS),
         costs1: codes(costs, p > 0),

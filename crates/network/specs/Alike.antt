@@ -1,4 +1,5 @@
--- Two surveys that get the same refusal or none, and have the same network, get the same replies and lists from every call.
+-- Two surveys that get the same refusal or none, and have the same network, get the same replies from judge, best and list, and have the
+-- same trees and lists left in their buffers.
 use Prim.Native.Nat.{ℕ}
 use mathlib.Core.Path.{_≡_}
 use mathlib.Core.List.{List}

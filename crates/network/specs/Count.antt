@@ -1,11 +1,11 @@
--- The link count in the yard record: with the right count a survey is read as without it, and a survey that has a count and is cut off is refused.
-use Prim.Native.Nat.{ℕ, _+_, _-_, _*_, _/_, _%_, _≤_, _<_}
-use mathlib.Core.Path.{_≡_, refl, sym, ap, ap₂, _∙_}
-use mathlib.Core.Bool.{Bool, true, false, cond, not}
+-- The link count in the yard record: with the right count a survey is read as the same survey without it.
+use Prim.Native.Nat.{ℕ, _+_, _-_, _*_, _/_, _%_}
+use mathlib.Core.Path.{_≡_, sym, ap, _∙_}
+use mathlib.Core.Bool.{false}
 use mathlib.Core.List.{List, [], _∷_, _++_}
 use native.Mathlib.Nat.{add-assoc, add-zero}
 use native.Mathlib.Omega.{arith}
-use lib.Dec.{eqb, ltb}
+use lib.Dec.{ltb}
 use lib.IntN.{pos}
 use lib.ListN.{length}
 use mir.Syntax.{w16, w32}
@@ -21,7 +21,6 @@ use Rattle.network.specs.Checked.{firstRefusal, refuseIf, _orElse_}
 use Rattle.network.specs.Refusals.{badCount, badLength, checkedOf, checkedWith, linkChecked, linkCheckedAt, linksChecked, yardChecked}
 use Rattle.network.specs.Alike.{Alike, alike}
 use Rattle.network.specs.declared.Checked.{Checked}
-use Rattle.network.specs.declared.Network.{Network}
 
 -- ---- the same bytes elsewhere
 
@@ -47,13 +46,17 @@ moved-u32 m = rw (moved-u16 m, moved-u16 (moved-on m 2))
 
 -- ---- the right count
 
--- the survey with the yard record of mark 59 44 that has these fields and these bytes of link records
-abbrev pub plainSurvey : ℕ → ℕ → ℕ → ℕ → List ℕ → List ℕ
-plainSurvey n p k1 k2 links = plain .yard .mark ++ (n ∷ p ∷ k1 ∷ k2 ∷ []) ++ links
+-- the yard record of mark 59 44 with these fields
+abbrev pub plainYard : ℕ → ℕ → ℕ → ℕ → List ℕ
+plainYard n p k1 k2 = plain .yard .mark ++ (n ∷ p ∷ k1 ∷ k2 ∷ [])
 
--- the same survey with the yard record of mark 59 45 and its link count, which is a byte wherever number 4 does not come first
-abbrev pub countedSurvey : ℕ → ℕ → ℕ → ℕ → List ℕ → List ℕ
-countedSurvey n p k1 k2 links = withCount .yard .mark ++ (n ∷ p ∷ k1 ∷ k2 ∷ length links / linkSize ∷ []) ++ links
+-- the one of mark 59 45, with its link count
+abbrev pub countedYard : ℕ → ℕ → ℕ → ℕ → ℕ → List ℕ
+countedYard n p k1 k2 count = withCount .yard .mark ++ (n ∷ p ∷ k1 ∷ k2 ∷ count ∷ [])
+
+-- the link count of the bytes of link records, which is a byte wherever number 4 does not come first
+abbrev pub rightCount : List ℕ → ℕ
+rightCount links = length links / linkSize
 
 -- a column of the same figures
 column-same : {A : Type 0} (size : ℕ) (filler : A) (f g : ℕ → A) → ((i : ℕ) → f i ≡ g i) → (m : ℕ) → column size filler f m ≡ column size filler g m
@@ -64,19 +67,20 @@ first-same : (f g : ℕ → Checked) → ((i : ℕ) → f i ≡ g i) → (m : �
 first-same f g e m = ap (λ (h : ℕ → Checked). firstRefusal h m) (λ i q. e q i)
 
 module _ (n p k1 k2 : ℕ) (links : List ℕ) where
+  abbrev q : ℕ
+  q = rightCount links
+
   abbrev s : List ℕ
-  s = plainSurvey n p k1 k2 links
+  s = plainYard n p k1 k2 ++ links
 
   abbrev s′ : List ℕ
-  s′ = countedSurvey n p k1 k2 links
+  s′ = countedYard n p k1 k2 q ++ links
 
   -- the link records
   moved : Moved s yardSize s′ (yardSize + 1)
   moved =
       record {
-        each = λ k.
-            getD-append-add (0x59 ∷ 0x45 ∷ n ∷ p ∷ k1 ∷ k2 ∷ length links / linkSize ∷ []) links k 0
-            ∙ sym (getD-append-add (0x59 ∷ 0x44 ∷ n ∷ p ∷ k1 ∷ k2 ∷ []) links k 0);
+        each = λ k. getD-append-add (countedYard n p k1 k2 q) links k 0 ∙ sym (getD-append-add (plainYard n p k1 k2) links k 0);
       }
 
   -- link record i
@@ -94,9 +98,9 @@ module _ (n p k1 k2 : ℕ) (links : List ℕ) where
   links-same m = first-same (linkCheckedAt s′ withCount) (linkCheckedAt s plain) link-same m
 
   -- the yard records
-  yard-same : (m : ℕ) → m ≡ length links / linkSize → yardChecked s′ withCount m ≡ yardChecked s plain m
+  yard-same : yardChecked s′ withCount q ≡ yardChecked s plain q
   unfolding yardChecked badCount
-  yard-same m e = rw (e, eqb-same (length links / linkSize))
+  yard-same = rw (eqb-same q)
 
   ends-same : (c : ℕ) → endsIn withCount s′ c ≡ endsIn plain s c
   unfolding endsIn
@@ -117,10 +121,10 @@ module _ (n p k1 k2 : ℕ) (links : List ℕ) where
   network-same m = λ i. record { n = n; p = p; k = k1 ∷ k2 ∷ []; m = m; ends = ends-same (2 * m) i; sums = sums-same m i; costs = costs-same (2 * m) i }
 
   -- the links are as many
-  links-plain : linkCount plain s ≡ length links / linkSize
+  links-plain : linkCount plain s ≡ q
   links-plain = ap (λ (z : ℕ). z / linkSize) (omega arith)
 
-  links-counted : linkCount withCount s′ ≡ length links / linkSize
+  links-counted : linkCount withCount s′ ≡ q
   links-counted = ap (λ (z : ℕ). z / linkSize) (omega arith)
 
   length-same : badLength withCount (length s′) ≡ badLength plain (length s)
@@ -135,9 +139,8 @@ module _ (n p k1 k2 : ℕ) (links : List ℕ) where
   pub count-checked : checkedOf s′ ≡ checkedOf s
   unfolding layoutOf layoutAmong checkedWith
   count-checked =
-      let q = length links / linkSize in
       let yard : yardChecked s′ withCount (linkCount withCount s′) ≡ yardChecked s plain (linkCount plain s) =
-      rw (links-counted, links-plain) (yard-same q refl) in
+      rw (links-counted, links-plain) yard-same in
       let link : linksChecked s′ withCount (linkCount withCount s′) ≡ linksChecked s plain (linkCount plain s) =
       rw (links-counted, links-plain) (links-same q) in
       λ i. refuseIf (length-same i) 1 0 orElse (yard i orElse link i)
@@ -145,8 +148,8 @@ module _ (n p k1 k2 : ℕ) (links : List ℕ) where
   -- and have the same network
   pub count-network : networkOf s′ ≡ networkOf s
   unfolding layoutOf layoutAmong
-  count-network = rw (links-counted, links-plain) (network-same (length links / linkSize))
+  count-network = rw (links-counted, links-plain) (network-same q)
 
-  -- so that every call replies the same and leaves the same
+  -- so that judge, best and list reply the same and leave the same
   pub count-alike : Alike s s′
   count-alike = alike count-checked count-network

@@ -1,22 +1,21 @@
--- A survey that writes its link count and is cut off is refused: by 15 at the end of a record before its last, and anywhere else by 1.
+-- An accepted survey that writes its link count and is then cut off is refused: by 15 at the end of a record before its last, and anywhere else by 1.
 use Prim.Native.Nat.{ℕ, _+_, _-_, _*_, _/_, _≤_, _<_}
-use mathlib.Core.Path.{_≡_, refl, sym, _∙_}
-use mathlib.Core.Bool.{Bool, true, false, cond}
+use mathlib.Core.Path.{_≡_}
+use mathlib.Core.Bool.{true, false, cond}
 use mathlib.Core.List.{List}
-use mathlib.Core.Logic.{⊎-elim}
 use native.Mathlib.Nat.{lt-of-mul-lt-mul-right}
 use native.Mathlib.Omega.{arith}
 use borrow.Author.Tests.{eqb-true, le-ltb, lt-ltb, ltb-false, ltb-true, ne-eqb, not-false}
-use lib.Dec.{eqb, leb, ltb}
+use lib.Dec.{eqb, ltb}
 use lib.ListN.{length, take}
 use lib.Seq.{getD-take, length-take-le}
 use Rattle.order.specs.Test.{by-test}
 use Rattle.network.specs.Limits.{maxLinks, maxStations}
 use Rattle.network.specs.Bytes.{byteAt, markAt}
-use Rattle.network.specs.Survey.{countIn, layoutOf, linkCount, plain, stationsIn, yardSize}
+use Rattle.network.specs.Survey.{countIn, hasCount, layoutOf, linkCount, plain, stationsIn}
 use Rattle.network.specs.Checked.{refuseIf, _orElse_}
 use Rattle.network.specs.Refusals.{badCount, badLength, checkedOf, checkedWith, outside, yardChecked}
-use Rattle.network.specs.Layouts.{Roomy, layout-kept, layout-roomy, layout-short}
+use Rattle.network.specs.Layouts.{layout-kept, layout-roomy, layout-short}
 use Rattle.network.specs.Accepted.{Accepted, accepted, whole-records}
 use Rattle.network.specs.declared.Checked.{Checked}
 use Rattle.network.specs.declared.Checked.the-variants.{Fine, Refused}
@@ -42,55 +41,55 @@ too-short : (l : Layout) (len : ℕ) → len < l .yard .size → badLength l len
 unfolding badLength
 too-short l len h = rw (lt-ltb len (l .yard .size) h)
 
-module _ (s : List ℕ) (l : Layout) (fine : Accepted s l) (counted : l .counted ≡ true) (c : ℕ) (h : c < length s) where
-  abbrev t : List ℕ
-  t = take c s
+module _ (s : List ℕ) (l : Layout) (fine : Accepted s l) (counts : hasCount l ≡ true) (c : ℕ) (h : c < length s) where
+  abbrev part : List ℕ
+  part = take c s
 
-  size : length t ≡ c
+  size : length part ≡ c
   size = length-take-le c s (omega arith)
 
   -- a byte in front of the cut
-  kept : (i : ℕ) → i < c → byteAt t i ≡ byteAt s i
+  kept : (i : ℕ) → i < c → byteAt part i ≡ byteAt s i
   kept i less = getD-take c s i 0 less
 
   -- the count that is written is that of the whole survey
-  written : countIn s ≡ linkCount l s
+  written : countIn l s ≡ linkCount l s
   unfolding badCount
-  written = eqb-true _ _ (not-false _ (rw counted at (fine .yard .count)))
+  written = eqb-true _ _ (not-false _ (rw counts at (fine .yard .count)))
 
   module _ (ends : badLength l c ≡ false) where
     -- at the end of a record before the last there are fewer links
-    fewer : linkCount l t < linkCount l s
+    fewer : linkCount l part < linkCount l s
     fewer =
         let cut : c ≡ l .yard .size + (c - l .yard .size) / l .link .size * l .link .size = whole-records l c ends in
         rw size (lt-of-mul-lt-mul-right (l .link .size) (omega (arith, fine .records .size)))
 
     -- and the fields of the yard record stand in front of the cut
-    cut-yard : yardChecked t l (linkCount l t) ≡ Refused (record { number = 15; place = 0 })
+    cut-yard : yardChecked part l (linkCount l part) ≡ Refused (record { number = 15; place = 0 })
     unfolding badCount
     cut-yard =
-        let room : yardSize < l .yard .size = fine .records .roomy .count counted in
+        let room = fine .records .roomy in
         let cut : c ≡ l .yard .size + (c - l .yard .size) / l .link .size * l .link .size = whole-records l c ends in
-        let mark : markAt t 0 (l .yard .mark) ≡ true = rw (kept 0 (omega arith), kept 1 (omega arith)) (fine .yard .mark) in
+        let mark : markAt part 0 (l .yard .mark) ≡ true = rw (kept 0 (omega arith), kept 1 (omega arith)) (fine .yard .mark) in
         let some : ltb (stationsIn s) 1 ≡ false = le-ltb _ _ (fine .yard .some-station) in
         let few : ltb maxStations (stationsIn s) ≡ false = le-ltb _ _ (fine .yard .few-stations) in
-        let other : eqb (countIn s) (linkCount l t) ≡ false = ne-eqb _ _ (λ (e : countIn s ≡ linkCount l t). omega (arith, written, fewer)) in
-        refused-count l t (linkCount l t) mark (rw (kept 2 (omega arith), some, few)) (omega (arith, fewer, fine .yard .few-links))
-        (rw (counted, kept yardSize (omega arith), other))
+        let other : eqb (countIn l s) (linkCount l part) ≡ false = ne-eqb _ _ (λ (e : countIn l s ≡ linkCount l part). omega (arith, written, fewer)) in
+        refused-count l part (linkCount l part) mark (rw (kept 2 (omega arith), some, few)) (omega (arith, fewer, fine .yard .few-links))
+        (rw (counts, kept (l .count) (omega arith), other))
 
-    cut-ends : checkedWith l t ≡ Refused (record { number = 15; place = 0 })
+    cut-ends : checkedWith l part ≡ Refused (record { number = 15; place = 0 })
     unfolding checkedWith refuseIf _orElse_
     cut-ends =
         let yard = cut-yard in
         rw (size, ends) (rw (rw size at yard))
 
-  cut-long : checkedWith l t ≡ cutRefusal l c
-  cut-long = by-test (badLength l c) (λ e. rw e (refused-length l t (rw size e))) (λ e. rw e (cut-ends e))
+  cut-long : checkedWith l part ≡ cutRefusal l c
+  cut-long = by-test (badLength l c) (λ e. rw e (refused-length l part (rw size e))) (λ e. rw e (cut-ends e))
 
 -- THE THEOREM: every part of an accepted survey with a link count that begins with its first byte, and is not all of it, is refused
-pub cut-off : (s : List ℕ) → checkedOf s ≡ Fine → layoutOf s .counted ≡ true → (c : ℕ) → c < length s
+pub cut-off : (s : List ℕ) → checkedOf s ≡ Fine → hasCount (layoutOf s) ≡ true → (c : ℕ) → c < length s
     → checkedOf (take c s) ≡ cutRefusal (layoutOf s) c
-cut-off s e counted c h = by-test (ltb c 2) short long
+cut-off s e counts c h = by-test (ltb c 2) short long
   where
     short : ltb c 2 ≡ true → checkedOf (take c s) ≡ cutRefusal (layoutOf s) c
     short q =
@@ -100,4 +99,4 @@ cut-off s e counted c h = by-test (ltb c 2) short long
         rw (layout-short (take c s) (rw size less), bad) (refused-length plain (take c s) (rw size (too-short plain c (omega arith))))
 
     long : ltb c 2 ≡ false → checkedOf (take c s) ≡ cutRefusal (layoutOf s) c
-    long q = rw (layout-kept s c (ltb-false c 2 q)) (cut-long s (layoutOf s) (accepted s (layoutOf s) (layout-roomy s) e) counted c h)
+    long q = rw (layout-kept s c (ltb-false c 2 q)) (cut-long s (layoutOf s) (accepted s (layoutOf s) (layout-roomy s) e) counts c h)

@@ -1,7 +1,7 @@
 -- What holds of the layout of any survey, shown over the table of the layouts that are known.
 use Prim.Native.Nat.{ℕ, _≤_, _<_}
 use mathlib.Core.Path.{_≡_, refl}
-use mathlib.Core.Bool.{Bool, true, false, cond, not, _&&_, _||_}
+use mathlib.Core.Bool.{Bool, true, false, cond, not, _&&_}
 use mathlib.Core.List.{List, [], _∷_, List·Memᴰ·head as here, List·Memᴰ·tail as there}
 use native.Mathlib.Omega.{arith}
 use borrow.Author.Tests.{leb-true, ltb-true, not-true}
@@ -14,28 +14,23 @@ use Rattle.network.specs.Bytes.{byteAt, markAt}
 use Rattle.network.specs.Survey.{layoutAmong, layoutOf, layouts, linkSize, plain, yardSize}
 use Rattle.network.specs.declared.Layout.{Layout}
 
--- the records of a layout have room for the fields that all share, and the yard record for the link count where it has one
+-- the records of a layout have room for the fields that all share, and the yard record for its link count
 pub record Roomy (l : Layout) : Type 0 where
   pub yard : yardSize ≤ l .yard .size
-  pub count : l .counted ≡ true → yardSize < l .yard .size
+  pub count : l .count < l .yard .size
   pub link : linkSize ≤ l .link .size
 
--- the same as tests
-abbrev yardRoomy : Layout → Bool
-yardRoomy l = leb yardSize (l .yard .size) && (not (l .counted) || ltb yardSize (l .yard .size))
-
+-- the same as a test
 abbrev roomy : Layout → Bool
-roomy l = yardRoomy l && leb linkSize (l .link .size)
+roomy l = leb yardSize (l .yard .size) && (ltb (l .count) (l .yard .size) && leb linkSize (l .link .size))
 
 roomy-row : (l : Layout) → roomy l ≡ true → Roomy l
 roomy-row l e =
-    let yard : yardRoomy l ≡ true = left (yardRoomy l) _ e in
-    let link : leb linkSize (l .link .size) ≡ true = right (yardRoomy l) _ e in
-    let count : not (l .counted) || ltb yardSize (l .yard .size) ≡ true = right (leb yardSize (l .yard .size)) _ yard in
+    let rest : ltb (l .count) (l .yard .size) && leb linkSize (l .link .size) ≡ true = right (leb yardSize (l .yard .size)) _ e in
     record {
-      yard = leb-true _ _ (left (leb yardSize (l .yard .size)) _ yard);
-      count = λ c. ltb-true _ _ (rw c at count);
-      link = leb-true _ _ link;
+      yard = leb-true _ _ (left (leb yardSize (l .yard .size)) _ e);
+      count = ltb-true _ _ (left (ltb (l .count) (l .yard .size)) _ rest);
+      link = leb-true _ _ (right (ltb (l .count) (l .yard .size)) _ rest);
     }
 
 -- what holds of each layout that is known holds of the layout of a survey
@@ -57,8 +52,8 @@ layout-roomy = layout-has Roomy (λ l m. roomy-row l (all-mem roomy layouts refl
 -- ---- the first two bytes
 
 -- the second byte of each mark is not 0
-abbrev second : Layout → Bool
-second l = not (eqb 0 (byteAt (l .yard .mark) 1))
+abbrev marked : Layout → Bool
+marked l = not (eqb 0 (byteAt (l .yard .mark) 1))
 
 -- fewer than two bytes have no mark
 pub layout-short : (s : List ℕ) → length s < 2 → layoutOf s ≡ plain
@@ -69,14 +64,14 @@ layout-short s h = go layouts refl
     missed true b e = not-true b e
     missed false b e = refl
 
-    absent : (l : Layout) → second l ≡ true → markAt s 0 (l .yard .mark) ≡ false
+    absent : (l : Layout) → marked l ≡ true → markAt s 0 (l .yard .mark) ≡ false
     absent l e = rw (List·getD-eq-default s 0 {n = 1} (omega arith)) (missed (eqb (byteAt s 0) (byteAt (l .yard .mark) 0)) _ e)
 
-    go : (ls : List Layout) → all second ls ≡ true → layoutAmong ls s ≡ plain
+    go : (ls : List Layout) → all marked ls ≡ true → layoutAmong ls s ≡ plain
     go [] e = refl
-    go (l ∷ ls) e = rw (absent l (left (second l) _ e)) (go ls (right (second l) _ e))
+    go (l ∷ ls) e = rw (absent l (left (marked l) _ e)) (go ls (right (marked l) _ e))
 
--- two bytes of a survey have its layout, and so has all that begins with them
+-- a survey that is cut off behind its first two bytes or later keeps its layout
 pub layout-kept : (s : List ℕ) (c : ℕ) → 2 ≤ c → layoutOf (take c s) ≡ layoutOf s
 unfolding layoutOf layoutAmong
 layout-kept s c h = go layouts

@@ -10,7 +10,7 @@ pub mod Bytes
 pub mod Column
 pub mod Survey
 pub mod PlanList
--- when the planner declines: the first of several refusals, numbers 1 to 8, then the calls with 9, 10, 11, 14
+-- when the planner declines: the first of several refusals, numbers 1 to 8 and 15, then the calls with 9, 10, 11, 14
 pub mod Checked
 pub mod Refusals
 pub mod Calls
@@ -18,16 +18,17 @@ pub mod Calls
 pub mod Fetching
 -- printing
 pub mod Printing
--- the yards worked through, P1 to P21
+-- the yards worked through, P1 to P25
 pub mod Worked
 -- theorems: what the definitions mean, what holds of a survey's layout, of an accepted survey's bytes, of its sum costs and of its network
 pub mod Meaning
 pub mod Layouts
 pub mod Accepted
 pub mod Sums
+pub mod NetworkFine
+-- the link count: surveys that are planned alike, the right count, and surveys that are cut off
 pub mod Alike
 pub mod Count
 pub mod Cut
-pub mod NetworkFine
 -- demand 3
 pub mod Promise

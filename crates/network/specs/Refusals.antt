@@ -10,7 +10,7 @@ use lib.Dec.{leb, ltb, eqb}
 use Rattle.kmax.specs.Ceilings.{slackOf}
 use Rattle.network.specs.Limits.{maxCeilings, maxLinks, maxRank, maxSlack, maxStations, maxSum, minSum}
 use Rattle.network.specs.Bytes.{markAt}
-use Rattle.network.specs.Survey.{ceilingsIn, costBitsIn, countIn, endIn, layoutOf, linkCount, linkStart, ranksIn, stationsIn, sumIn}
+use Rattle.network.specs.Survey.{ceilingsIn, costBitsIn, countIn, endIn, hasCount, layoutOf, linkCount, linkStart, ranksIn, stationsIn, sumIn}
 use Rattle.network.specs.Checked.{refuseIf, _orElse_, firstRefusal}
 use Rattle.network.specs.declared.Checked.{Checked}
 use Rattle.network.specs.declared.Layout.{Layout}
@@ -25,7 +25,7 @@ badLength l len = ltb len (l .yard .size) || not (eqb ((len - l .yard .size) % l
 
 -- 15: the link count that is written, where the layout has one, is not m
 unfoldable pub badCount : List ℕ → Layout → ℕ → Bool
-badCount s l m = l .counted && not (eqb (countIn s) m)
+badCount s l m = hasCount l && not (eqb (countIn l s) m)
 
 -- 6, of a present k: it is 1 to 3 and never above t, so below n
 abbrev pub badPresent : ℕ → ℕ → Bool

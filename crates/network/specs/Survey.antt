@@ -1,13 +1,15 @@
 -- Document 01, "Bytes": the survey, which is one yard record and then link records only, and the network that its bytes say.
-use mathlib.Core.Bool.{cond, false, true}
+use mathlib.Core.Bool.{Bool, cond}
 use mathlib.Core.List.{List, [], _∷_}
 use Prim.Native.Nat.{ℕ, suc, _+_, _-_, _*_, _/_, _%_}
+use lib.Dec.{ltb}
 use lib.IntN.{ℤ, negsuc, pos}
 use lib.ListN.{length}
 use mir.Syntax.{w16}
 use Rattle.network.specs.Limits.{maxCeilings, maxLinks, maxSum}
 use Rattle.network.specs.Bytes.{byteAt, i32At, markAt, signed, u16At}
 use Rattle.network.specs.Column.{column}
+use Rattle.network.specs.declared.Form.{Form}
 use Rattle.network.specs.declared.Layout.{Layout}
 use Rattle.network.specs.declared.Network.{Network}
 
@@ -21,23 +23,17 @@ linkSize = 12
 
 -- ---- the layouts
 
--- a survey whose yard record is that of document 01, with mark 59 44; link records have mark 4C 4B
-abbrev pub plain : Layout
-plain =
-    record {
-      yard = record { mark = 0x59 ∷ 0x44 ∷ []; size = yardSize };
-      counted = false;
-      link = record { mark = 0x4C ∷ 0x4B ∷ []; size = linkSize };
-    }
+-- the link record with mark 4C 4B
+abbrev pub linkForm : Form
+linkForm = record { mark = 0x4C ∷ 0x4B ∷ []; size = linkSize }
 
--- one whose yard record has mark 59 45 and ends with the link count
+-- surveys whose yard record is that of document 01, with mark 59 44
+abbrev pub plain : Layout
+plain = record { yard = record { mark = 0x59 ∷ 0x44 ∷ []; size = yardSize }; count = 0; link = linkForm }
+
+-- surveys whose yard record has mark 59 45 and the link count behind the other fields
 abbrev pub withCount : Layout
-withCount =
-    record {
-      yard = record { mark = 0x59 ∷ 0x45 ∷ []; size = yardSize + 1 };
-      counted = true;
-      link = record { mark = 0x4C ∷ 0x4B ∷ []; size = linkSize };
-    }
+withCount = record { yard = record { mark = 0x59 ∷ 0x45 ∷ []; size = yardSize + 1 }; count = yardSize; link = linkForm }
 
 -- the layouts that are known: a row for each mark of a yard record
 abbrev pub layouts : List Layout
@@ -51,6 +47,10 @@ layoutAmong (l ∷ ls) s = cond (markAt s 0 (l .yard .mark)) l (layoutAmong ls s
 -- the layout of a survey: its first two bytes say which
 unfoldable pub layoutOf : List ℕ → Layout
 layoutOf s = layoutAmong layouts s
+
+-- the yard record has a link count
+abbrev pub hasCount : Layout → Bool
+hasCount l = ltb 0 (l .count)
 
 -- how many link records follow the yard record
 abbrev pub linkCount : Layout → List ℕ → ℕ
@@ -79,8 +79,8 @@ abbrev pub ranksIn : List ℕ → List ℕ
 ranksIn s = rankIn s 0 ∷ rankIn s 1 ∷ []
 
 -- the link count as it is written
-abbrev pub countIn : List ℕ → ℕ
-countIn s = byteAt s yardSize
+abbrev pub countIn : Layout → List ℕ → ℕ
+countIn l s = byteAt s (l .count)
 
 -- ---- the fields of a link record that starts at an index: mark, two stations, s, c1, c2
 

@@ -20,7 +20,7 @@ use Rattle.network.specs.Limits.{maxPlans}
 use Rattle.network.specs.Walk.{plans, solvedCount, walked}
 use Rattle.network.specs.Bytes.{bitsOf, littleEndian, signed}
 use Rattle.network.specs.Column.{column}
-use Rattle.network.specs.Survey.{costsIn, endsIn, layoutAmong, layoutOf, networkOf, networkWith, plain, raised, sumsIn, withCount}
+use Rattle.network.specs.Survey.{costsIn, endsIn, layoutAmong, layoutOf, linkForm, networkOf, networkWith, raised, sumsIn}
 use Rattle.network.specs.PlanList.{bufferNeed, headMark, join, planMark}
 use Rattle.network.specs.Checked.{firstRefusal, refuseIf, _orElse_}
 use Rattle.network.specs.Refusals.{badCount, badLength, badRanks, badSum, checkedOf, checkedWith, linkChecked, yardChecked}
@@ -28,6 +28,7 @@ use Rattle.network.specs.Calls.{Reply, ifFine, reply, status}
 use Rattle.network.specs.Calls.{asked, askedChecked, bestTree, drawnChecked, judged, treeAfter, treeWith}
 use Rattle.network.specs.Calls.{listAfter, listChecked, listStatus, plansAfter, plansChecked, roomChecked}
 use Rattle.network.specs.Printing.{printed}
+use Rattle.network.specs.Count.{countedYard, plainYard}
 use Rattle.network.specs.declared.Status.{Status}
 
 -- ---- the rows
@@ -87,13 +88,13 @@ abbrev two : {A : Type 0} → A → A → List A
 two a b = a ∷ b ∷ []
 
 abbrev yard : ℕ → ℕ → ℕ → ℕ → List (List ℕ) → List ℕ
-yard n p k1 k2 links = plain .yard .mark ++ (n ∷ p ∷ k1 ∷ k2 ∷ []) ++ join links
+yard n p k1 k2 links = plainYard n p k1 k2 ++ join links
 
-abbrev counted : ℕ → ℕ → ℕ → ℕ → ℕ → List (List ℕ) → List ℕ
-counted n p k1 k2 count links = withCount .yard .mark ++ (n ∷ p ∷ k1 ∷ k2 ∷ count ∷ []) ++ join links
+abbrev tallied : ℕ → ℕ → ℕ → ℕ → ℕ → List (List ℕ) → List ℕ
+tallied n p k1 k2 count links = countedYard n p k1 k2 count ++ join links
 
 abbrev link : ℕ → ℕ → ℕ → ℕ → ℕ → List ℕ
-link a b s c1 c2 = plain .link .mark ++ (a ∷ b ∷ []) ++ (littleEndian 4 s ++ (littleEndian 2 c1 ++ littleEndian 2 c2))
+link a b s c1 c2 = linkForm .mark ++ (a ∷ b ∷ []) ++ (littleEndian 4 s ++ (littleEndian 2 c1 ++ littleEndian 2 c2))
 
 abbrev list : ℕ → ℕ → ℕ → ℕ → List (List ℕ) → List ℕ
 list count solved t p records = headMark ++ (littleEndian 2 count ++ (littleEndian 4 solved ++ (t ∷ p ∷ []))) ++ join records
@@ -111,8 +112,8 @@ costs s y1 y2 = record { number = 0; place = 0; values = s ∷ y1 ∷ y2 ∷ [] 
 abbrev refused : ℕ → ℕ → Reply
 refused number place = record { number = number; place = place; values = [] }
 
-abbrev at : ℕ → ℕ → Status
-at number place = record { number = number; place = place }
+abbrev replied : ℕ → ℕ → Status
+replied number place = record { number = number; place = place }
 
 -- the links of survey A
 abbrev linksA : List (List ℕ)
@@ -146,7 +147,7 @@ panels = yard 2 1 1 0 (link 0 1 (minus 5) 8 0 ∷ link 0 1 (minus 5) 3 0 ∷ [])
 
 -- A with its links counted; cut off behind link 1; link 0 of A 41 times
 abbrev countedA : List ℕ
-countedA = counted 3 1 1 0 3 linksA
+countedA = tallied 3 1 1 0 3 linksA
 
 abbrev cutA : List ℕ
 cutA = take 31 countedA
@@ -194,8 +195,8 @@ table =
     ∷ asks (A 1) (pos 6) (pos 0) (two 0xFF 0xFF) (refused 14 0) (two 0xFF 0xFF)
     ∷ draws (A 1) (two 0 2) (costs (pos 5) (pos 9) (pos 0))
     ∷ ranks 2 (pos 5 ∷ negsuc 2 ∷ pos 5 ∷ []) (pos 5)
-    ∷ allows (A 1) 3 46 (at 0 0) (listA ++ replicate 12 0)
-    ∷ allows (A 1) 2 46 (at 10 0) (replicate 46 0)
+    ∷ allows (A 1) 3 46 (replied 0 0) (listA ++ replicate 12 0)
+    ∷ allows (A 1) 2 46 (replied 10 0) (replicate 46 0)
     ∷ lists (A₂ 2 2) (two 1 2 ∷ two 0 2 ∷ two 0 1 ∷ []) 3 118 (list 3 3 2 2 (plan 4 2 3 (two 1 2) ∷ plan 5 7 1 (two 0 2) ∷ plan 7 2 1 (two 0 1) ∷ []))
     ∷ asks (A₂ 2 2) (pos 8) (pos 2) (two 0xFF 0xFF) (costs (pos 5) (pos 7) (pos 1)) (two 0 2)
     ∷ asks (A₂ 2 2) (pos 8) (pos 3) (two 0xFF 0xFF) (costs (pos 4) (pos 2) (pos 3)) (two 1 2)
@@ -212,19 +213,19 @@ table =
     (negsuc 999_999 ∷ negsuc 0 ∷ pos 0 ∷ pos 1_000_000 ∷ [])
     ∷ lists countedA (two (two 1 2) (two 0 1)) 3 46 listA
     ∷ prints countedA outputA
-    ∷ allows cutA 3 46 (at 15 0) (replicate 46 0xFF)
+    ∷ allows cutA 3 46 (replied 15 0) (replicate 46 0xFF)
     ∷ asks cutA (pos 8) (pos 0) (two 0xFF 0xFF) (refused 15 0) (two 0xFF 0xFF)
     ∷ draws cutA (two 0 1) (refused 15 0)
-    ∷ checks (counted 3 1 1 0 4 linksA) (at 15 0)
-    ∷ checks (counted 25 1 1 0 4 linksA) (at 3 0)
-    ∷ checks (counted 3 1 1 0 40 links41) (at 4 0)
-    ∷ checks (counted 3 3 1 0 4 linksA) (at 15 0)
-    ∷ checks (counted 3 3 1 0 3 linksA) (at 5 0)
-    ∷ checks (counted 1 0 0 0 0 []) (at 0 0)
-    ∷ checks (take 6 countedA) (at 1 0)
-    ∷ checks (take 1 countedA) (at 1 0)
-    ∷ checks (0x59 ∷ 0x46 ∷ 3 ∷ 1 ∷ 1 ∷ 0 ∷ []) (at 2 0)
-    ∷ checks (0x59 ∷ 0x46 ∷ 3 ∷ 1 ∷ 1 ∷ 0 ∷ 0 ∷ []) (at 1 0)
+    ∷ checks (tallied 3 1 1 0 4 linksA) (replied 15 0)
+    ∷ checks (tallied 25 1 1 0 4 linksA) (replied 3 0)
+    ∷ checks (tallied 3 1 1 0 40 links41) (replied 4 0)
+    ∷ checks (tallied 3 3 1 0 4 linksA) (replied 15 0)
+    ∷ checks (tallied 3 3 1 0 3 linksA) (replied 5 0)
+    ∷ checks (tallied 1 0 0 0 0 []) (replied 0 0)
+    ∷ checks (take 6 countedA) (replied 1 0)
+    ∷ checks (take 1 countedA) (replied 1 0)
+    ∷ checks (0x59 ∷ 0x46 ∷ 3 ∷ 1 ∷ 1 ∷ 0 ∷ []) (replied 2 0)
+    ∷ checks (0x59 ∷ 0x46 ∷ 3 ∷ 1 ∷ 1 ∷ 0 ∷ 0 ∷ []) (replied 1 0)
     ∷ []
 
 -- ---- the theorem

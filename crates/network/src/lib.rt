@@ -55,9 +55,9 @@ pub struct Form {
     pub size: usize,
 }
 
-// What the records of a survey are: its yard record, whether that ends with the number of links, and its link records.
+// What the records of a survey are: its yard record, the place of the link count in it, 0 where it has none, and its link records.
 pub struct Layout {
     pub yard: Form,
-    pub counted: bool,
+    pub count: usize,
     pub link: Form,
 }

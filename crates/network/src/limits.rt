@@ -32,7 +32,7 @@ pub const MAX_PLANS: usize = MAX_LINKS * MAX_LINKS;
 // Ceiling costs that a plan record holds, absent ones included.
 pub const PLAN_SLOTS: usize = MAX_CEILINGS;
 
-// Bytes that each yard record has, those after which the link count stands; and bytes that each link record has.
+// Bytes that each yard record has, and each link record.
 pub const YARD_SIZE: usize = 6;
 
 pub const LINK_SIZE: usize = 12;

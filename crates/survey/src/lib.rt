@@ -1,4 +1,4 @@
-// Reads a survey from bytes: its first refusal of the numbers 1 to 8, or the network that it says.
+// Reads a survey from bytes: its first refusal of the numbers 1 to 8 and 15, or the network that it says.
 use crate::rules::check_with;
 use network::Checked;
 use network::Layout;

@@ -1,4 +1,4 @@
-// The rules that a survey alone must keep, in the order of their numbers: its length, the yard record, the link records.
+// The rules that a survey alone must keep, in document 01's order: its length, the yard record, the link records.
 use network::Checked;
 use network::Layout;
 use survey_checks::refuse_if;

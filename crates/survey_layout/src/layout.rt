@@ -12,28 +12,29 @@ ghost use Rattle.network.specs.Refusals.{badLength};
 ghost use Rattle.network.specs.Accepted.{Whole};
 ghost use Rattle.network.specs.Layouts.{Roomy};
 
+// The link record.
 const LINK: Form = Form {
     mark: *b"LK",
     size: LINK_SIZE,
 };
 
-// The yard record of document 01.
+// Surveys with the yard record of document 01.
 const PLAIN: Layout = Layout {
     yard: Form {
         mark: *b"YD",
         size: YARD_SIZE,
     },
-    counted: false,
+    count: 0,
     link: LINK,
 };
 
-// The yard record that ends with the link count.
+// Surveys with the yard record that has the link count behind the other fields.
 const WITH_COUNT: Layout = Layout {
     yard: Form {
         mark: *b"YE",
         size: YARD_SIZE + 1,
     },
-    counted: true,
+    count: YARD_SIZE,
     link: LINK,
 };
 

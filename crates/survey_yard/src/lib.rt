@@ -9,7 +9,6 @@ use survey_checks::is_outside;
 use survey_checks::or_refuse_if;
 use survey_checks::refuse_if;
 use survey_layout::fields::CEILINGS;
-use survey_layout::fields::COUNT;
 use survey_layout::fields::RANKS;
 use survey_layout::fields::STATIONS;
 use survey_ranks::bad_ranks;
@@ -21,7 +20,7 @@ ghost use lib.ListN.{length};
 ghost use Rattle.network.specs.Layouts.{Roomy};
 ghost use Rattle.network.specs.Refusals.{badCount, yardChecked};
 
-// Whether a written count is not m.
+// Whether a written count is not m. It stands apart so that the byte is a parameter, whose range is known.
 fn differs(count: u8, m: usize) -> bool
     ensures { λ r. ⌜ r ≡ not (eqb count m) ⌝ }
 {
@@ -33,11 +32,8 @@ fn bad_count(s: &[u8], l: Layout, m: usize) -> bool
     requires { ⌜ Roomy l × (l .yard .size ≤ length (now s)) ⌝ }
     ensures { λ r. ⌜ r ≡ badCount (now (s .entry)) l m ⌝ }
 {
-    if l.counted {
-        differs(s[COUNT], m)
-    } else {
-        false
-    }
+    let at = l.count;
+    if 0 < at { differs(s[at], m) } else { false }
 }
 
 // The yard record of a survey with m links.

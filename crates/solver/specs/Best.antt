@@ -1,7 +1,7 @@
 -- THE THEOREM: the program's search finds the best tree of document 01.
 use Prim.Native.Nat.{ℕ, _-_, _<_}
 use mathlib.Core.Bool.{Bool, true, not, _&&_}
-use mathlib.Core.List.{List, [], _∷_, List·Memᴰ·eq-of-singleton}
+use mathlib.Core.List.{List, [], _∷_, List·Memᴰ·eq-of-singleton, Sublistᴰ}
 use mathlib.Core.Path.{_≡_, sym, ap, _∙_, fun-ext, subst}
 use native.Mathlib.Omega.{arith}
 use borrow.Author.Tests.{not-false, not-true}
@@ -33,7 +33,7 @@ use Rattle.kruskal.specs.Base.{kept}
 use Rattle.kruskal.specs.Grown.{kept-kruskal}
 use Rattle.solver.specs.Filter.{filter-ext, filter-sort}
 use Rattle.search_best.specs.Sets.{trials, trials-among, trials-complete, trials-sound}
-use Rattle.exceptions_patterns.specs.Patterns.{Patterned, admitted, normal, patternAt}
+use Rattle.exceptions_patterns.specs.Patterns.{admitted, normal, patternAt}
 use Rattle.exceptions_patterns.specs.OfNetwork.{net-admitted, net-bounds, net-few, net-normal, net-pattern, net-patterned, netPatterns}
 use Rattle.exceptions.specs.Keep.{exceptions-of, exceptions-sublist, kept-exceptions, keptExceptions, pattern-known}
 use Rattle.search_best.specs.Search.{bestOf}
@@ -98,29 +98,29 @@ module _ (net : Network) (fine : NetworkFine net) (b1 b2 : ℤ) where
 
   -- ---- the sets that the program tries are enough
 
-  patterned : Patterned (ranks net) (netPatterns net b1 b2)
-  patterned = net-patterned net fine b1 b2
-
   order-within : (x : ℕ) → x ∈ linkOrder (net .sums) (net .m) → x < maxLinks
   order-within = within (linkOrder (net .sums) (net .m)) (order-below (net .sums) (net .m))
 
+  -- they stand in their order among the links
+  odd-sublist : Sublistᴰ odd (linkOrder (net .sums) (net .m))
+  odd-sublist = exceptions-sublist (net .ends) (ranks net) (netPatterns net b1 b2) (linkOrder (net .sums) (net .m)) (net-patterned net fine b1 b2)
+
   odd-among : odd ⊆ linkOrder (net .sums) (net .m)
-  odd-among = sublist-⊆ (exceptions-sublist (net .ends) (ranks net) (netPatterns net b1 b2) (linkOrder (net .sums) (net .m)) patterned)
+  odd-among = sublist-⊆ odd-sublist
 
   odd-below : (x : ℕ) → x ∈ odd → x < net .m
   odd-below x k = order-below (net .sums) (net .m) x (odd-among x k)
 
   -- no link is there twice
   odd-apart : Apart (λ x. x) odd
-  odd-apart =
-      pairwise-sublist (λ x y. ¬ (y ≡ x)) (exceptions-sublist (net .ends) (ranks net) (netPatterns net b1 b2) (linkOrder (net .sums) (net .m)) patterned)
-      (order-apart (net .sums) (net .m))
+  odd-apart = pairwise-sublist (λ x y. ¬ (y ≡ x)) odd-sublist (order-apart (net .sums) (net .m))
 
   -- each is above some bound, and may be in a tree all the same
   odd-exceptional : odd ⊆ exceptionals (graph net) bs
   unfolding normal
   odd-exceptional x k =
-      let known = kept-exceptions (net .ends) (ranks net) (netPatterns net b1 b2) (linkOrder (net .sums) (net .m)) patterned order-within in
+      let known =
+      kept-exceptions (net .ends) (ranks net) (netPatterns net b1 b2) (linkOrder (net .sums) (net .m)) (net-patterned net fine b1 b2) order-within in
       let above = sym (net-normal net fine b1 b2 x (order-within x (odd-among x k))) ∙ not-true _ (known .above x k) in
       mem-filter (exceptional orderℤ cs) (mem-numbers (net .m) 0 x (omega arith) (omega (arith, odd-below x k))) (not-false _ above)
 
@@ -147,8 +147,8 @@ module _ (net : Network) (fine : NetworkFine net) (b1 b2 : ℤ) where
       let few = fine .few-links in
       let known : x < maxLinks = omega arith in
       let q = patternAt (netPatterns net b1 b2) x in
-      let own = exceptions-of (net .ends) (ranks net) (netPatterns net b1 b2) (linkOrder (net .sums) (net .m)) patterned q
-      (pattern-known (ranks net) (netPatterns net b1 b2) patterned x known) (needed-fit x known (K .alone)) in
+      let own = exceptions-of (net .ends) (ranks net) (netPatterns net b1 b2) (linkOrder (net .sums) (net .m)) (net-patterned net fine b1 b2) q
+      (pattern-known (ranks net) (netPatterns net b1 b2) (net-patterned net fine b1 b2) x known) (needed-fit x known (K .alone)) in
       let kept : x ∈ keeps (graph net) bs q = subst (λ (p : ℕ). x ∈ keeps (graph net) bs p) (sym (net-pattern net fine b1 b2 x known)) (K .kept) in
       let there : x ∈ filter (λ e. eqb (patternAt (netPatterns net b1 b2) e) q) odd =
       subst (λ (l : List ℕ). x ∈ l) (sym (own ∙ pattern-links q)) kept in

@@ -8,33 +8,16 @@ use network::limits::MAX_STATIONS;
 use survey_checks::is_outside;
 use survey_checks::or_refuse_if;
 use survey_checks::refuse_if;
+use survey_count::bad_count;
 use survey_layout::fields::CEILINGS;
 use survey_layout::fields::RANKS;
 use survey_layout::fields::STATIONS;
 use survey_ranks::bad_ranks;
-ghost use mathlib.Core.Bool.{not};
 ghost use mathlib.Core.Path.{_≡_};
 ghost use Prim.Native.Nat.{_≤_};
-ghost use lib.Dec.{eqb};
 ghost use lib.ListN.{length};
 ghost use Rattle.network.specs.Layouts.{Roomy};
-ghost use Rattle.network.specs.Refusals.{badCount, yardChecked};
-
-// Whether a written count is not m. It stands apart so that the byte is a parameter, whose range is known.
-fn differs(count: u8, m: usize) -> bool
-    ensures { λ r. ⌜ r ≡ not (eqb count m) ⌝ }
-{
-    count as usize != m
-}
-
-// Whether the link count that is written, where the layout has one, is not m.
-fn bad_count(s: &[u8], l: Layout, m: usize) -> bool
-    requires { ⌜ Roomy l × (l .yard .size ≤ length (now s)) ⌝ }
-    ensures { λ r. ⌜ r ≡ badCount (now (s .entry)) l m ⌝ }
-{
-    let at = l.count;
-    if 0 < at { differs(s[at], m) } else { false }
-}
+ghost use Rattle.network.specs.Refusals.{yardChecked};
 
 // The yard record of a survey with m links.
 pub fn check_yard(s: &[u8], l: Layout, m: usize) -> Checked

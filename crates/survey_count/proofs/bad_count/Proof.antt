@@ -1,10 +1,10 @@
--- `survey_yard::bad_count` meets its contract. The count stands inside the yard record.
+-- `survey_count::bad_count` meets its contract. The count stands inside the yard record.
 use native.Mathlib.Omega.{arith}
 use borrow.Author.Needs.{needs}
 use borrow.Author.Tests.{le-ltb, lt-ltb}
 use Rattle.network.specs.Refusals.{badCount}
-use Rattle.survey_yard.proofs.bad_count.Statement.{statement}
-use Rattle.survey_yard.proofs.bad_count.Tie as tie
+use Rattle.survey_count.proofs.bad_count.Statement.{statement}
+use Rattle.survey_count.proofs.bad_count.Tie as tie
 
 shared-slice-read-differs : tie.Need-shared-slice-read-differs
 shared-slice-read-differs c =

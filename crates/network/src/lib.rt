@@ -58,6 +58,6 @@ pub struct Form {
 // What the records of a survey are: its yard record, the place of the link count in it, 0 where it has none, and its link records.
 pub struct Layout {
     pub yard: Form,
-    pub count: usize,
+    pub count: u8,
     pub link: Form,
 }

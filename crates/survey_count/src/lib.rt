@@ -20,6 +20,6 @@ pub fn bad_count(s: &[u8], l: Layout, m: usize) -> bool
     requires { ⌜ Roomy l × (l .yard .size ≤ length (now s)) ⌝ }
     ensures { λ r. ⌜ r ≡ badCount (now (s .entry)) l m ⌝ }
 {
-    let at = l.count;
+    let at = l.count as usize;
     if 0 < at { differs(s[at], m) } else { false }
 }

@@ -34,7 +34,7 @@ const WITH_COUNT: Layout = Layout {
         mark: *b"YE",
         size: YARD_SIZE + 1,
     },
-    count: YARD_SIZE,
+    count: YARD_SIZE as u8,
     link: LINK,
 };
 

@@ -6,9 +6,12 @@ use Rattle.network.specs.Refusals.{badCount}
 use Rattle.survey_count.proofs.bad_count.Statement.{statement}
 use Rattle.survey_count.proofs.bad_count.Tie as tie
 
+cast-at : tie.Need-cast-at
+cast-at c = search needs
+
 shared-slice-read-differs : tie.Need-shared-slice-read-differs
 shared-slice-read-differs c =
-    let start = c .before .before .before in
+    let start = c .before .before .before .before in
     omega (arith, start .pre .0 .count, start .pre .1)
 
 differs-requires : tie.Need-differs-requires
@@ -23,4 +26,4 @@ unfolding badCount
 returns-2 c = rw (le-ltb _ _ (c .if1 .left))
 
 pub bad-count-spec : {M : Type 1} → statement M
-bad-count-spec = tie.close (tie.spec shared-slice-read-differs differs-requires returns returns-2)
+bad-count-spec = tie.close (tie.spec cast-at shared-slice-read-differs differs-requires returns returns-2)

@@ -28,10 +28,11 @@ pub enum YardRecord {
     Counted,
 }
 
+/// Every yard record.
+const RECORDS: [YardRecord; 2] = [YardRecord::Plain, YardRecord::Counted];
+
 /// How a yard record is laid out: a mark, the fields that every yard record has, the link count.
 pub(crate) struct Layout {
-    /// The record that is laid out so.
-    pub(crate) record: YardRecord,
     /// Its first two bytes.
     pub(crate) mark: [u8; 2],
     /// Its bytes in all; the links follow.
@@ -40,39 +41,29 @@ pub(crate) struct Layout {
     pub(crate) has_count: bool,
 }
 
-/// Every yard record, the oldest first.
-static LAYOUTS: [Layout; 2] = [
-    Layout {
-        record: YardRecord::Plain,
-        mark: *b"YD",
-        len: 6,
-        has_count: false,
-    },
-    Layout {
-        record: YardRecord::Counted,
-        mark: *b"YE",
-        len: 7,
-        has_count: true,
-    },
-];
-
-impl Layout {
-    /// The layout of a yard record.
-    pub(crate) fn of(record: YardRecord) -> &'static Layout {
-        Layout::find(|layout| layout.record == record)
+impl YardRecord {
+    /// How it is laid out.
+    pub(crate) fn layout(self) -> Layout {
+        match self {
+            YardRecord::Plain => Layout {
+                mark: *b"YD",
+                len: 6,
+                has_count: false,
+            },
+            YardRecord::Counted => Layout {
+                mark: *b"YE",
+                len: 7,
+                has_count: true,
+            },
+        }
     }
 
-    /// The layout that a survey's first two bytes name.
-    pub(crate) fn named_by(survey: &[u8]) -> &'static Layout {
-        Layout::find(|layout| survey.starts_with(&layout.mark))
-    }
-
-    /// The layout that the test picks, else the oldest: by it the planner measures a survey whose
-    /// mark it does not know.
-    fn find(picks: impl Fn(&Layout) -> bool) -> &'static Layout {
-        let [oldest, later @ ..] = &LAYOUTS;
-        let found = later.iter().find(|layout| picks(layout));
-        found.unwrap_or(oldest)
+    /// The record that a survey's first two bytes name; the plain one if they name none, since the
+    /// planner measures such a survey by it.
+    pub(crate) fn named_by(survey: &[u8]) -> YardRecord {
+        let mut records = RECORDS.into_iter();
+        let named = records.find(|record| survey.starts_with(&record.layout().mark));
+        named.unwrap_or(YardRecord::Plain)
     }
 }
 

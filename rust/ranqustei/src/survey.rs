@@ -1,6 +1,6 @@
 //! A survey that the planner accepts, and the questions to it.
 
-use crate::record::{plan_len, Layout, HEAD_LEN};
+use crate::record::{plan_len, HEAD_LEN};
 use crate::{best, judge, list, Cause, Costs, Plan, PlanList, Refusal, Yard, YardRecord};
 use std::collections::BTreeSet;
 
@@ -35,7 +35,7 @@ impl Survey {
 
     /// The yard record that the survey opens with.
     pub fn record(&self) -> YardRecord {
-        Layout::named_by(&self.bytes).record
+        YardRecord::named_by(&self.bytes)
     }
 
     /// The yard that the survey describes.

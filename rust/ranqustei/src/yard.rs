@@ -99,7 +99,7 @@ impl Yard {
     /// # Errors
     /// As for [`Yard::survey`].
     pub fn survey_with(&self, record: YardRecord) -> Result<Survey, YardError> {
-        let bytes = self.bytes(Layout::of(record))?;
+        let bytes = self.bytes(record.layout())?;
         Survey::new(bytes).map_err(YardError::Refused)
     }
 
@@ -108,7 +108,7 @@ impl Yard {
         usize::from(self.stations).saturating_sub(1)
     }
 
-    fn bytes(&self, layout: &Layout) -> Result<Vec<u8>, YardError> {
+    fn bytes(&self, layout: Layout) -> Result<Vec<u8>, YardError> {
         let [k1, k2] = padded(&self.ranks).ok_or(YardError::Ceilings {
             found: self.ranks.len(),
         })?;
@@ -146,7 +146,7 @@ impl Yard {
     pub(crate) fn read(survey: &[u8]) -> Yard {
         let [_, _, stations, ceilings, k1, k2] = part(survey, 0).unwrap_or_default();
         let present = usize::from(ceilings);
-        let first_link = Layout::named_by(survey).len;
+        let first_link = YardRecord::named_by(survey).layout().len;
         let records = survey.get(first_link..).unwrap_or_default();
         let ranks: Vec<u8> = [k1, k2].into_iter().take(present).collect();
         let links = records

@@ -7,6 +7,7 @@ use network::Status;
 ghost use mathlib.Core.Path.{_≡_};
 ghost use lib.ListN.{length};
 ghost use Rattle.network.specs.Calls.{asked, judged, listAfter, listStatus, treeAfter};
+ghost use Rattle.network.specs.Cut.{CutNoticed};
 ghost use Rattle.network.specs.Promise.{Promised};
 ghost use Rattle.capi_part.specs.Parts.{PartOf, partOf};
 ghost use Rattle.capi_reply.specs.Replies.{flatReply};
@@ -27,6 +28,7 @@ pub extern "C" fn ranqustei_version() -> u32
 #[no_mangle]
 pub extern "C" fn ranqustei_judge(survey: &[u8], drawn: &[u8]) -> Reply
     ensures reply { λ r. ⌜ r ≡ flatReply (judged (now (survey .entry)) (now (drawn .entry))) ⌝ }
+    ensures noticed { λ r. ⌜ CutNoticed (now (survey .entry)) (r .number) (r .place) ⌝ }
 {
     flat(planner::judge(survey, drawn))
 }
@@ -36,6 +38,7 @@ pub extern "C" fn ranqustei_judge(survey: &[u8], drawn: &[u8]) -> Reply
 pub extern "C" fn ranqustei_best(survey: &[u8], b1: i16, b2: i16, tree: &mut [u8]) -> Reply
     ensures reply { λ r. ⌜ r ≡ flatReply (asked (now (survey .entry)) b1 b2 (length (now (tree .entry)))) ⌝ }
     ensures leaves { λ _. ⌜ now (tree .exit) ≡ treeAfter (now (survey .entry)) b1 b2 (now (tree .entry)) ⌝ }
+    ensures noticed { λ r. ⌜ CutNoticed (now (survey .entry)) (r .number) (r .place) ⌝ }
 {
     flat(planner::best(survey, b1, b2, tree))
 }
@@ -46,6 +49,7 @@ pub extern "C" fn ranqustei_list(survey: &[u8], allowance: u32, buffer: &mut [u8
     ensures reply { λ r. ⌜ r ≡ listStatus (now (survey .entry)) allowance (length (now (buffer .entry))) ⌝ }
     ensures leaves { λ _. ⌜ now (buffer .exit) ≡ listAfter (now (survey .entry)) allowance (now (buffer .entry)) ⌝ }
     ensures promised { λ r. ⌜ Promised (now (survey .entry)) allowance (now (buffer .entry)) r (now (buffer .exit)) ⌝ }
+    ensures noticed { λ r. ⌜ CutNoticed (now (survey .entry)) (r .number) (r .place) ⌝ }
 {
     planner::list(survey, allowance, buffer)
 }

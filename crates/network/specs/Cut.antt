@@ -1,12 +1,13 @@
 -- An accepted survey that writes its link count and is then cut off is refused: by 15 at the end of a record before its last, and anywhere else by 1.
 use Prim.Native.Nat.{ℕ, _+_, _-_, _*_, _/_, _≤_, _<_}
-use mathlib.Core.Path.{_≡_}
+use mathlib.Core.Path.{_≡_, ap, _∙_}
 use mathlib.Core.Bool.{true, false, cond}
 use mathlib.Core.List.{List}
 use native.Mathlib.Nat.{lt-of-mul-lt-mul-right}
 use native.Mathlib.Omega.{arith}
 use borrow.Author.Tests.{eqb-true, le-ltb, lt-ltb, ltb-false, ltb-true, ne-eqb, not-false}
 use lib.Dec.{eqb, ltb}
+use lib.IntN.{ℤ}
 use lib.ListN.{length, take}
 use lib.Seq.{getD-take, length-take-le}
 use Rattle.order.specs.Test.{by-test}
@@ -15,11 +16,14 @@ use Rattle.network.specs.Bytes.{byteAt, markAt}
 use Rattle.network.specs.Survey.{countIn, hasCount, layoutOf, linkCount, plain, stationsIn}
 use Rattle.network.specs.Checked.{refuseIf, _orElse_}
 use Rattle.network.specs.Refusals.{badCount, badLength, checkedOf, checkedWith, outside, yardChecked}
+use Rattle.network.specs.Calls.{Reply, asked, askedChecked, drawnChecked, judged, listChecked, listStatus, reply, status}
 use Rattle.network.specs.Layouts.{layout-kept, layout-roomy, layout-short}
 use Rattle.network.specs.Accepted.{Accepted, accepted, whole-records}
 use Rattle.network.specs.declared.Checked.{Checked}
 use Rattle.network.specs.declared.Checked.the-variants.{Fine, Refused}
 use Rattle.network.specs.declared.Layout.{Layout}
+use Rattle.network.specs.declared.Refusal.{Refusal}
+use Rattle.network.specs.declared.Status.{Status}
 
 -- what a survey of a layout gets that is cut off after c bytes: 15 at the end of a record, 1 anywhere else, at place 0
 abbrev pub cutRefusal : Layout → ℕ → Checked
@@ -100,3 +104,34 @@ cut-off s e counts c h = by-test (ltb c 2) short long
 
     long : ltb c 2 ≡ false → checkedOf (take c s) ≡ cutRefusal (layoutOf s) c
     long q = rw (layout-kept s c (ltb-false c 2 q)) (cut-long s (layoutOf s) (accepted s (layoutOf s) (layout-roomy s) e) counts c h)
+
+-- ---- what callers rely on
+
+-- What a call on bytes that replied with this number and place has noticed: where an accepted survey with a link count was cut off and these bytes are
+-- left of it, it has declined them.
+pub record CutNoticed (bytes : List ℕ) (number place : ℕ) : Type 0 where
+  pub declined : (s : List ℕ) → checkedOf s ≡ Fine → hasCount (layoutOf s) ≡ true → (c : ℕ) → c < length s → bytes ≡ take c s
+      → (number ≡ cond (badLength (layoutOf s) c) 1 15) × (place ≡ 0)
+
+-- a call has that replies with what the survey alone decides, where that is a refusal
+noticed : (bytes : List ℕ) {number place : ℕ} → ((r : Refusal) → checkedOf bytes ≡ Refused r → (number ≡ r .number) × (place ≡ r .place))
+    → CutNoticed bytes number place
+noticed bytes h = record { declined = λ s fine counts c less q. h _ (rw q (cut-off s fine counts c less)) }
+
+-- the judge does,
+pub cut-judged : (bytes drawn : List ℕ) {a : Reply} → a ≡ judged bytes drawn → CutNoticed bytes (a .number) (a .place)
+unfolding judged drawnChecked reply _orElse_
+cut-judged bytes drawn e =
+    noticed bytes (λ r k. (ap (λ (a : Reply). a .number) e ∙ rw k, ap (λ (a : Reply). a .place) e ∙ rw k))
+
+-- the ceilings question does,
+pub cut-asked : (bytes : List ℕ) (b1 b2 : ℤ) (size : ℕ) {a : Reply} → a ≡ asked bytes b1 b2 size → CutNoticed bytes (a .number) (a .place)
+unfolding asked askedChecked reply _orElse_
+cut-asked bytes b1 b2 size e =
+    noticed bytes (λ r k. (ap (λ (a : Reply). a .number) e ∙ rw k, ap (λ (a : Reply). a .place) e ∙ rw k))
+
+-- and so does the list call
+pub cut-listed : (bytes : List ℕ) (allowance size : ℕ) {a : Status} → a ≡ listStatus bytes allowance size → CutNoticed bytes (a .number) (a .place)
+unfolding listStatus listChecked status _orElse_
+cut-listed bytes allowance size e =
+    noticed bytes (λ r k. (ap (λ (a : Status). a .number) e ∙ rw k, ap (λ (a : Status). a .place) e ∙ rw k))

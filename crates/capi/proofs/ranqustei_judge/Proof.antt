@@ -12,7 +12,10 @@ flat-requires : tie.Need-flat-requires
 flat-requires c κs = search needs
 
 returns : tie.Need-returns
-returns c = c .flat .ensures ∙ ap flatReply (c .before .judge .ensures)
+unfolding flatReply
+returns c =
+    let judged = c .before .judge .ensures in
+    (c .flat .ensures ∙ ap flatReply (judged .0), rw (c .flat .ensures) (judged .1))
 
 pub ranqustei-judge-spec : {M : Type 1} → statement M
 ranqustei-judge-spec = tie.close (tie.spec judge-requires flat-requires returns)

@@ -3,6 +3,7 @@ use mathlib.Core.Path.{sym, _∙_}
 use native.Mathlib.Omega.{arith}
 use mir.Facts.{toZ-ofZ}
 use denote.Ref.{now}
+use Rattle.network.specs.Cut.{cut-asked}
 use Rattle.survey.specs.Survey.{Read, read-accepted, read-checked}
 use Rattle.planner_best.specs.Best.{answer-after, asked-answer, asked-refused, asked-short, refused-after, short-after}
 use borrow.Author.Needs.{needs}
@@ -33,7 +34,8 @@ returns : tie.Need-returns
 returns c =
     let r = read (c .before .before) in
     let tree = now (c .before .before .before .before .before .before .before .before .args .tree) in
-    (asked-short _ _ _ tree _ r (omega arith), short-after _ _ _ tree _ r (omega arith))
+    let e = asked-short _ _ _ tree _ r (omega arith) in
+    (e, (short-after _ _ _ tree _ r (omega arith), cut-asked _ _ _ _ e))
 
 slice-aggregate-order-links : tie.Need-slice-aggregate-order-links
 slice-aggregate-order-links c = search needs
@@ -53,9 +55,10 @@ solve-requires c κs =
 
 returns-2 : tie.Need-returns-2
 returns-2 c =
-    let e = sym (read-checked _ _ (c .before .before .before .before .read-survey .ensures)) ∙ c .before .checked .given .1 in
+    let refused = sym (read-checked _ _ (c .before .before .before .before .read-survey .ensures)) ∙ c .before .checked .given .1 in
     let tree = now (c .before .before .before .before .before .before .before .args .tree) in
-    (asked-refused _ _ _ tree _ e, refused-after _ _ _ tree _ e)
+    let e = asked-refused _ _ _ tree _ refused in
+    (e, (refused-after _ _ _ tree _ refused, cut-asked _ _ _ _ e))
 
 same-length : tie.Need-same-length
 same-length c = search needs
@@ -64,9 +67,10 @@ returns-3 : tie.Need-returns-3
 returns-3 c =
     let r = read (c .before .before .before .before .before .before .before .before .before .before) in
     let i = c .before .before .before .before .before .before .before .before .before .before .before .before .before .before .before .before in
-    let e = rw (toZ-ofZ (i .fits .b1), toZ-ofZ (i .fits .b2)) at (c .before .before .solve .ensures) in
+    let solved = rw (toZ-ofZ (i .fits .b1), toZ-ofZ (i .fits .b2)) at (c .before .before .solve .ensures) in
     let tree = now (i .args .tree) in
-    (asked-answer _ _ _ tree _ r _ (omega arith) (e .0), answer-after _ _ _ tree _ r _ (omega arith) (e .1))
+    let e = asked-answer _ _ _ tree _ r _ (omega arith) (solved .0) in
+    (e, (answer-after _ _ _ tree _ r _ (omega arith) (solved .1), cut-asked _ _ _ _ e))
 
 pub best-spec : {M : Type 1} → statement M
 best-spec =

@@ -2,6 +2,7 @@
 use borrow.Author.Needs.{needs}
 use mathlib.Core.Path.{sym, _∙_}
 use denote.Ref.{now}
+use Rattle.network.specs.Cut.{cut-judged}
 use Rattle.survey.specs.Survey.{Read, read-accepted, read-checked}
 use Rattle.trees_costs.specs.TreeCosts.{tree-links}
 use Rattle.planner_judge.specs.Judge.{judged-no-tree, judged-refused, judged-tree}
@@ -29,14 +30,20 @@ tree-costs-requires : tie.Need-tree-costs-requires
 tree-costs-requires c κs = (read (c .before .before) .fine, tree-links _ _ (sym (c .before .is-tree .ensures) ∙ c .if1 .taken))
 
 returns : tie.Need-returns
-returns c = judged-refused _ _ _ (sym (read-checked _ _ (c .before .before .before .before .read-survey .ensures)) ∙ c .before .checked .given .1)
+returns c =
+    let e = judged-refused _ _ _ (sym (read-checked _ _ (c .before .before .before .before .read-survey .ensures)) ∙ c .before .checked .given .1) in
+    (e, cut-judged _ _ e)
 
 returns-2 : tie.Need-returns-2
 returns-2 c =
-    judged-tree _ _ _ (read (c .before .before .before)) _ (sym (c .before .before .is-tree .ensures) ∙ c .before .if1 .taken) (c .tree-costs .ensures)
+    let tree = sym (c .before .before .is-tree .ensures) ∙ c .before .if1 .taken in
+    let e = judged-tree _ _ _ (read (c .before .before .before)) _ tree (c .tree-costs .ensures) in
+    (e, cut-judged _ _ e)
 
 returns-3 : tie.Need-returns-3
-returns-3 c = judged-no-tree _ _ _ (read (c .before .before)) (sym (c .before .is-tree .ensures) ∙ c .if1 .left)
+returns-3 c =
+    let e = judged-no-tree _ _ _ (read (c .before .before)) (sym (c .before .is-tree .ensures) ∙ c .if1 .left) in
+    (e, cut-judged _ _ e)
 
 pub judge-spec : {M : Type 1} → statement M
 judge-spec =

@@ -1,6 +1,7 @@
 -- The survey's check, then the walk on its network.
 use mathlib.Core.Path.{sym, _∙_}
 use denote.Ref.{now}
+use Rattle.network.specs.Cut.{cut-listed}
 use Rattle.network.specs.Promise.{promised}
 use Rattle.survey.specs.Survey.{Read, read-accepted, read-checked}
 use Rattle.planner_list.specs.Listing.{list-accepted, list-refused}
@@ -28,7 +29,7 @@ list-plans-requires c κs = read (c .before) .fine
 returns : tie.Need-returns
 returns c =
     let e = list-refused _ _ _ _ (sym (read-checked _ _ (c .before .before .before .before .read-survey .ensures)) ∙ c .before .checked .given .1) in
-    (e .0, (e .1, promised _ _ _ (e .0) (e .1)))
+    (e .0, (e .1, (promised _ _ _ (e .0) (e .1), cut-listed _ _ _ (e .0))))
 
 same-length : tie.Need-same-length
 same-length c = search needs
@@ -37,7 +38,7 @@ returns-2 : tie.Need-returns-2
 returns-2 c =
     let left = c .before .before .list-plans .ensures in
     let e = list-accepted _ _ _ _ (read (c .before .before .before .before)) _ _ (left .0) (left .1) in
-    (e .0, (e .1, promised _ _ _ (e .0) (e .1)))
+    (e .0, (e .1, (promised _ _ _ (e .0) (e .1), cut-listed _ _ _ (e .0))))
 
 pub list-spec : {M : Type 1} → statement M
 list-spec =

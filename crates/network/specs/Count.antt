@@ -6,21 +6,21 @@ use mathlib.Core.List.{List, [], _∷_, _++_}
 use native.Mathlib.Nat.{add-assoc, add-zero}
 use native.Mathlib.Omega.{arith}
 use lib.Dec.{ltb}
-use lib.IntN.{pos}
+use lib.IntN.{ℤ, pos}
 use lib.ListN.{length}
-use mir.Syntax.{w16, w32}
 use lib.Seq.{getD-append-add}
 use store.Seg.{eqb-same}
 use borrow.Author.Tests.{le-ltb}
 use Rattle.network.specs.Limits.{maxCeilings, maxLinks}
-use Rattle.network.specs.Bytes.{byteAt, markAt, signed, u16At, u32At}
+use Rattle.network.specs.Bytes.{byteAt, markAt, u16At, u32At}
 use Rattle.network.specs.Column.{column}
-use Rattle.network.specs.Survey.{costsIn, endsIn, linkCount, linkSize, linkStart, networkOf, networkWith, raised, sumsIn, yardSize}
+use Rattle.network.specs.Survey.{costIn, costsIn, endsIn, linkCount, linkSize, linkStart, networkOf, networkWith, raised, sumIn, sumsIn, yardSize}
 use Rattle.network.specs.Survey.{layoutAmong, layoutOf, plain, withCount}
 use Rattle.network.specs.Checked.{firstRefusal, refuseIf, _orElse_}
 use Rattle.network.specs.Refusals.{badCount, badLength, checkedOf, checkedWith, linkChecked, linkCheckedAt, linksChecked, yardChecked}
 use Rattle.network.specs.Alike.{Alike, alike}
 use Rattle.network.specs.declared.Checked.{Checked}
+use Rattle.network.specs.declared.Layout.{Layout}
 
 -- ---- the same bytes elsewhere
 
@@ -108,13 +108,16 @@ module _ (n p k1 k2 : ℕ) (links : List ℕ) where
 
   sums-same : (c : ℕ) → sumsIn withCount s′ c ≡ sumsIn plain s c
   unfolding sumsIn
-  sums-same c = column-same maxLinks 0 _ _ (λ i. ap (λ (u : ℕ). raised (signed w32 u)) (moved-u32 (moved-on (moved-link i) 4))) c
+  sums-same c =
+      column-same maxLinks 0 (λ i. raised (sumIn s′ (linkStart withCount i))) (λ i. raised (sumIn s (linkStart plain i)))
+      (λ i. rw (moved-u32 (moved-on (moved-link i) 4))) c
 
   costs-same : (c : ℕ) → costsIn withCount s′ c ≡ costsIn plain s c
   unfolding costsIn
   costs-same c =
-      column-same (maxCeilings * maxLinks) (pos 0) _ _
-      (λ q. ap (signed w16) (moved-u16 (moved-on (moved-on (moved-link (q / maxCeilings)) 8) (2 * (q % maxCeilings))))) c
+      let cost : Layout → List ℕ → ℕ → ℤ = λ l t q. costIn t (linkStart l (q / maxCeilings)) (q % maxCeilings) in
+      column-same (maxCeilings * maxLinks) (pos 0) (cost withCount s′) (cost plain s)
+      (λ q. rw (moved-u16 (moved-on (moved-on (moved-link (q / maxCeilings)) 8) (2 * (q % maxCeilings))))) c
 
   network-same : (m : ℕ) → networkWith withCount s′ m ≡ networkWith plain s m
   unfolding networkWith

@@ -113,24 +113,29 @@ pub record CutNoticed (bytes : List ℕ) (number place : ℕ) : Type 0 where
   pub declined : (s : List ℕ) → checkedOf s ≡ Fine → hasCount (layoutOf s) ≡ true → (c : ℕ) → c < length s → bytes ≡ take c s
       → (number ≡ cond (badLength (layoutOf s) c) 1 15) × (place ≡ 0)
 
--- a call has that replies with what the survey alone decides, where that is a refusal
+-- a call notices it that replies with what the survey alone decides, where that is a refusal
 noticed : (bytes : List ℕ) {number place : ℕ} → ((r : Refusal) → checkedOf bytes ≡ Refused r → (number ≡ r .number) × (place ≡ r .place))
     → CutNoticed bytes number place
 noticed bytes h = record { declined = λ s fine counts c less q. h _ (rw q (cut-off s fine counts c less)) }
 
--- the judge does,
+-- one that replies by a check does, where that check has the refusal of the survey alone
+cut-replied : (bytes : List ℕ) (c : Checked) (vs : List ℤ) {a : Reply} → ((r : Refusal) → checkedOf bytes ≡ Refused r → c ≡ Refused r) → a ≡ reply c vs
+    → CutNoticed bytes (a .number) (a .place)
+unfolding reply
+cut-replied bytes c vs first e =
+    noticed bytes (λ r k. let q = first r k in (ap (λ (a : Reply). a .number) e ∙ rw q, ap (λ (a : Reply). a .place) e ∙ rw q))
+
+-- the judge is such a call,
 pub cut-judged : (bytes drawn : List ℕ) {a : Reply} → a ≡ judged bytes drawn → CutNoticed bytes (a .number) (a .place)
-unfolding judged drawnChecked reply _orElse_
-cut-judged bytes drawn e =
-    noticed bytes (λ r k. (ap (λ (a : Reply). a .number) e ∙ rw k, ap (λ (a : Reply). a .place) e ∙ rw k))
+unfolding judged drawnChecked _orElse_
+cut-judged bytes drawn e = cut-replied bytes (drawnChecked bytes drawn) _ (λ r k. rw k) e
 
--- the ceilings question does,
+-- the ceilings question is one,
 pub cut-asked : (bytes : List ℕ) (b1 b2 : ℤ) (size : ℕ) {a : Reply} → a ≡ asked bytes b1 b2 size → CutNoticed bytes (a .number) (a .place)
-unfolding asked askedChecked reply _orElse_
-cut-asked bytes b1 b2 size e =
-    noticed bytes (λ r k. (ap (λ (a : Reply). a .number) e ∙ rw k, ap (λ (a : Reply). a .place) e ∙ rw k))
+unfolding asked askedChecked _orElse_
+cut-asked bytes b1 b2 size e = cut-replied bytes (askedChecked bytes b1 b2 size) _ (λ r k. rw k) e
 
--- and so does the list call
+-- and the list call notices it too
 pub cut-listed : (bytes : List ℕ) (allowance size : ℕ) {a : Status} → a ≡ listStatus bytes allowance size → CutNoticed bytes (a .number) (a .place)
 unfolding listStatus listChecked status _orElse_
 cut-listed bytes allowance size e =

@@ -217,6 +217,7 @@ table =
     ∷ asks cutA (pos 8) (pos 0) (two 0xFF 0xFF) (refused 15 0) (two 0xFF 0xFF)
     ∷ draws cutA (two 0 1) (refused 15 0)
     ∷ checks (tallied 3 1 1 0 4 linksA) (replied 15 0)
+    ∷ checks (tallied 3 1 1 0 2 linksA) (replied 15 0)
     ∷ checks (tallied 25 1 1 0 4 linksA) (replied 3 0)
     ∷ checks (tallied 3 1 1 0 40 links41) (replied 4 0)
     ∷ checks (tallied 3 3 1 0 4 linksA) (replied 15 0)
@@ -264,5 +265,5 @@ table-right = every Right (
     ▸ (refl, refl) ▸ refl ▸ (refl, refl)
     ▸ record { promised = refl; by-walk = refl; counted = refl; needed = refl; succeeds = refl; bytes = refl }
     ▸ refl
-    ▸ (refl, refl) ▸ (refl, refl) ▸ refl ▸ refl ▸ refl ▸ refl ▸ refl ▸ refl ▸ refl ▸ refl ▸ refl ▸ refl ▸ refl ▸ done
+    ▸ (refl, refl) ▸ (refl, refl) ▸ refl ▸ refl ▸ refl ▸ refl ▸ refl ▸ refl ▸ refl ▸ refl ▸ refl ▸ refl ▸ refl ▸ refl ▸ done
     )

@@ -13,6 +13,10 @@ static const uint8_t survey_a[] = {
 };
 static const uint8_t single[] = {0x59, 0x44, 1, 0, 0, 0};
 
+/* A plan list of one plan, and one of none. */
+static const uint8_t one_plan[] = {0x50, 0x48, 1, 0, 1, 0, 0, 0, 1, 1, 0x50, 0x4C, 5, 0, 0, 0, 3, 0, 0, 0, 0};
+static const uint8_t no_plan[] = {0x50, 0x48, 0, 0, 0, 0, 0, 0, 1, 1};
+
 enum { LENT = 50, FILLER = 0xAA };
 static uint8_t lent[LENT];
 
@@ -40,6 +44,11 @@ static int bare_status(ranqustei_status status, int number)
 static int bare_part(ranqustei_part part, int number)
 {
     return part.number == number && part.start == 0 && part.count == 0;
+}
+
+static int bare_found(ranqustei_found found, int number)
+{
+    return found.number == number && found.place == 0 && found.plan == 0;
 }
 
 static int lent_stays(void)
@@ -80,6 +89,23 @@ static void fetch(void)
     check("fetch the last plan of no list", bare_part(ranqustei_fetch(NULL, 0, UINT32_MAX), RANQUSTEI_DAMAGED_LIST));
 }
 
+static void build_index(void)
+{
+    check("index, no list", bare_status(ranqustei_index(NULL, 0, lent, LENT), RANQUSTEI_DAMAGED_LIST));
+    check("index, neither", bare_status(ranqustei_index(NULL, 0, NULL, 0), RANQUSTEI_DAMAGED_LIST));
+    check("index, no buffer", bare_status(ranqustei_index(one_plan, sizeof one_plan, NULL, 0), RANQUSTEI_SHORT_INDEX));
+    check("index, no buffer for no plan", bare_status(ranqustei_index(no_plan, sizeof no_plan, NULL, 0), RANQUSTEI_OK));
+    check("index, a buffer for no plan", bare_status(ranqustei_index(no_plan, sizeof no_plan, lent, LENT), RANQUSTEI_OK));
+}
+
+static void look_up(void)
+{
+    check("lookup, no list", bare_found(ranqustei_index_lookup(NULL, 0, lent, LENT, 8), RANQUSTEI_DAMAGED_LIST));
+    check("lookup, neither", bare_found(ranqustei_index_lookup(NULL, 0, NULL, 0, 8), RANQUSTEI_DAMAGED_LIST));
+    check("lookup, no index", bare_found(ranqustei_index_lookup(one_plan, sizeof one_plan, NULL, 0, 8), RANQUSTEI_SHORT_INDEX));
+    check("lookup, no index of no plan", bare_found(ranqustei_index_lookup(no_plan, sizeof no_plan, NULL, 0, 8), RANQUSTEI_NO_SUCH_PLAN));
+}
+
 int main(void)
 {
     memset(lent, FILLER, sizeof lent);
@@ -87,6 +113,8 @@ int main(void)
     best();
     list();
     fetch();
+    build_index();
+    look_up();
     check("what was lent stays", lent_stays());
     return failures != 0;
 }

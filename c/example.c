@@ -1,4 +1,4 @@
-/* Every call on survey A of document 01, and the ceilings question with a yard record that counts the links. */
+/* Every call on survey A of document 01 and its list, and the ceilings question with a yard record that counts the links. */
 #include "ranqustei.h"
 
 #include <stdio.h>
@@ -29,9 +29,18 @@ static void print_reply(const char *what, ranqustei_reply reply)
         printf("%s: refused %d at %d\n", what, reply.number, reply.place);
 }
 
+static void print_found(const char *what, ranqustei_found found)
+{
+    if (found.number == RANQUSTEI_OK)
+        printf("%s: plan %u\n", what, (unsigned)found.plan);
+    else
+        printf("%s: refused %d at %d\n", what, found.number, found.place);
+}
+
+static uint8_t list[RANQUSTEI_LIST_BYTES];
+
 static void list_and_fetch(void)
 {
-    static uint8_t list[RANQUSTEI_LIST_BYTES];
     ranqustei_status status = ranqustei_list(survey, sizeof survey, RANQUSTEI_POSITIONS, list, sizeof list);
     printf("list: number %d, place %d\n", status.number, status.place);
     ranqustei_part part = ranqustei_fetch(list, sizeof list, 0);
@@ -40,6 +49,23 @@ static void list_and_fetch(void)
         print_links(list + part.start, part.count);
     }
     printf("after the last plan: number %d\n", part.number);
+}
+
+static void index_and_look_up(void)
+{
+    uint8_t index[RANQUSTEI_INDEX_BYTES];
+    ranqustei_status status = ranqustei_index(list, sizeof list, index, sizeof index);
+    printf("index: number %d, place %d\n", status.number, status.place);
+    printf("plans by ceiling cost:");
+    for (size_t i = 0; i < 2; i++)
+        printf(" %d", index[2 * i] + 256 * index[2 * i + 1]);
+    printf("\n");
+    print_found("cheapest up to 9", ranqustei_index_lookup(list, sizeof list, index, sizeof index, 9));
+    print_found("cheapest up to 8", ranqustei_index_lookup(list, sizeof list, index, sizeof index, 8));
+    print_found("cheapest up to 6", ranqustei_index_lookup(list, sizeof list, index, sizeof index, 6));
+    print_found("an index cut short", ranqustei_index_lookup(list, sizeof list, index, 3, 8));
+    index[0] = 0;
+    print_found("an index with a plan twice", ranqustei_index_lookup(list, sizeof list, index, sizeof index, 8));
 }
 
 int main(void)
@@ -52,6 +78,7 @@ int main(void)
         return 1;
     }
     list_and_fetch();
+    index_and_look_up();
     print_reply("best under 8", ranqustei_best(survey, sizeof survey, 8, 0, tree, sizeof tree));
     printf("its links");
     print_links(tree, 2);

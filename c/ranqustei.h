@@ -64,6 +64,9 @@
  *     6       2     ceiling cost 1             -32,768 to 32,767; 0 if p = 0
  *     8       2     ceiling cost 2             -32,768 to 32,767; 0 if p is below 2
  *     10      t     link numbers, a byte each  0 to m - 1, each larger than the one before
+ *
+ * An index of a plan list has 2 bytes for each plan: the numbers of all plans, each once. They rise by ceiling cost 1 of the plan, then by sum, then
+ * by ceiling cost 2, then by plan number; if the head's p is 0, by sum and then by plan number. Costs count as they stand in the plan records.
  */
 #ifndef RANQUSTEI_H
 #define RANQUSTEI_H
@@ -75,11 +78,12 @@
 extern "C" {
 #endif
 
-/* The most bytes of a tree, of a survey that is accepted, and of a plan list; and the most positions that a list call solves. */
+/* The most bytes of a tree, of a survey that is accepted, of a plan list and of an index; and the most positions that a list call solves. */
 enum {
     RANQUSTEI_TREE_BYTES = 23,
     RANQUSTEI_SURVEY_BYTES = 487,
     RANQUSTEI_LIST_BYTES = 52810,
+    RANQUSTEI_INDEX_BYTES = 3200,
     RANQUSTEI_POSITIONS = 1600
 };
 
@@ -90,6 +94,8 @@ enum {
  *     best    as judge up to the last link; then 9, 14
  *     list    as judge up to the last link; then 9, 10
  *     fetch   12 for head or length; then 13; then 12 for the mark of plan r
+ *     index   12 for head or length, or for the mark of any plan; then 16
+ *     lookup  as index; then 12 for the index; then 13
  *
  * The place is the link's number plus 1 where a link record is at fault (2, 7, 8), and 0 everywhere else.
  */
@@ -118,20 +124,22 @@ enum {
     RANQUSTEI_PAST_ALLOWANCE = 10,
     /* The drawn links are not t, do not rise, are not all in the survey, or have a ring. */
     RANQUSTEI_NOT_A_TREE = 11,
-    /* The plan list is damaged. */
+    /* The plan list is damaged, or the index is not its own. */
     RANQUSTEI_DAMAGED_LIST = 12,
-    /* The plan list has no plan r. */
+    /* The plan list has no plan r, or no plan that meets the value. */
     RANQUSTEI_NO_SUCH_PLAN = 13,
     /* No tree fits the ceilings. */
     RANQUSTEI_NO_TREE_FITS = 14,
     /* The counted yard record holds another number than the links that follow: the survey may be cut off. */
-    RANQUSTEI_WRONG_COUNT = 15
+    RANQUSTEI_WRONG_COUNT = 15,
+    /* The index buffer has fewer than 2 bytes for each plan. */
+    RANQUSTEI_SHORT_INDEX = 16
 };
 
 /* The version of what this header declares: it changes whenever a struct, a call or the meaning of a reply changes. */
-enum { RANQUSTEI_VERSION = 3 };
+enum { RANQUSTEI_VERSION = 4 };
 
-/* The reply of the list call: RANQUSTEI_OK and place 0, or the refusal and its place. */
+/* The reply of the list call and of the index call: RANQUSTEI_OK and place 0, or the refusal and its place. */
 typedef struct {
     uint8_t number;
     uint8_t place;
@@ -155,6 +163,13 @@ typedef struct {
     size_t start;
     size_t count;
 } ranqustei_part;
+
+/* The reply of a lookup. With RANQUSTEI_OK and place 0, the number of a plan; with another number, the refusal and its place, and plan 0. */
+typedef struct {
+    uint8_t number;
+    uint8_t place;
+    uint16_t plan;
+} ranqustei_found;
 
 /* The version of the archive. Where it is not RANQUSTEI_VERSION, archive and header are of different times: make no other call. */
 uint32_t ranqustei_version(void);
@@ -186,6 +201,20 @@ ranqustei_status ranqustei_list(const uint8_t *survey, size_t survey_length, uin
  * plan r is wrong; nothing else in it is looked at.
  */
 ranqustei_part ranqustei_fetch(const uint8_t *list, size_t list_length, uint32_t r);
+
+/*
+ * The index of a plan list; bytes after the list do not matter. The list is damaged as for fetching, with the mark of every plan looked at. Nothing
+ * else in it is tested: it need not be a list that the planner made. RANQUSTEI_INDEX_BYTES are always enough for `index`.
+ * On success the index stands at the front of `index`, and the bytes after it are as they were. On a refusal all of `index` is as it was.
+ */
+ranqustei_status ranqustei_index(const uint8_t *list, size_t list_length, uint8_t *index, size_t index_length);
+
+/*
+ * The number of the cheapest plan that meets a value: a plan meets it if its ceiling cost 1 is at most `value`, or if the list's p is 0. The cheapest
+ * has the least sum, and of several such plans it is the first in the list. Nothing is written. `index` holds the list's own index, byte for byte what
+ * ranqustei_index gives for the list; bytes after it do not matter.
+ */
+ranqustei_found ranqustei_index_lookup(const uint8_t *list, size_t list_length, const uint8_t *index, size_t index_length, int16_t value);
 
 #ifdef __cplusplus
 }

@@ -1,6 +1,7 @@
 /*
- * The stack that each call takes, for every survey that is named. The call runs in a thread whose stack was filled with a pattern; counted are the
- * bytes from the caller's stack pointer down to the lowest byte that lost the pattern.
+ * The stack that each call takes, for every survey that is named and its list, and that each call on a list takes for one of the most plans. The call
+ * runs in a thread whose stack was filled with a pattern; counted are the bytes from the caller's stack pointer down to the lowest byte that lost the
+ * pattern.
  *
  *     cc -std=c11 -O2 -pthread c/stack.c target/staticlib/libcapi.a -o target/c-stack && target/c-stack examples/large.survey
  */
@@ -12,9 +13,10 @@
 #include <string.h>
 
 enum { STACK = 1 << 18, PATTERN = 0xA5 };
+enum { PLANS = RANQUSTEI_POSITIONS, HEAD_BYTES = 10, PLAN_BYTES = 10 + RANQUSTEI_TREE_BYTES };
 
 static _Alignas(4096) uint8_t stack[STACK];
-static uint8_t survey[4096], list[RANQUSTEI_LIST_BYTES], tree[RANQUSTEI_TREE_BYTES];
+static uint8_t survey[4096], list[RANQUSTEI_LIST_BYTES], tree[RANQUSTEI_TREE_BYTES], built[RANQUSTEI_INDEX_BYTES];
 static size_t survey_length;
 static uint8_t *caller;
 
@@ -52,6 +54,21 @@ static void *fetch(void *unused)
     return unused;
 }
 
+static void *build_index(void *unused)
+{
+    NOTE_CALLER();
+    ranqustei_index(list, sizeof list, built, sizeof built);
+    return unused;
+}
+
+/* Looks up in the index that `build_index` built. */
+static void *look_up(void *unused)
+{
+    NOTE_CALLER();
+    ranqustei_index_lookup(list, sizeof list, built, sizeof built, INT16_MAX);
+    return unused;
+}
+
 /* The bytes of stack that the call has taken; 0 if its thread could not run. */
 static size_t taken(void *(*call)(void *))
 {
@@ -66,6 +83,14 @@ static size_t taken(void *(*call)(void *))
     while (lowest < caller && *lowest == PATTERN)
         lowest++;
     return (size_t)(caller - lowest);
+}
+
+/* The calls on a list. */
+static void measure_list(void)
+{
+    printf(" %zu |", taken(fetch));
+    printf(" %zu |", taken(build_index));
+    printf(" %zu |\n", taken(look_up));
 }
 
 static int measure(const char *name)
@@ -83,16 +108,40 @@ static int measure(const char *name)
     printf("| %s | %zu |", name, taken(plans));
     printf(" %zu |", taken(best));
     printf(" %zu |", taken(judge));
-    printf(" %zu |\n", taken(fetch));
+    measure_list();
     return 0;
+}
+
+/* A list of the most plans there can be, in no order by ceiling cost 1. */
+static void fill_list(void)
+{
+    static const uint8_t head[HEAD_BYTES] = {0x50, 0x48, PLANS % 256, PLANS / 256, 0, 0, 0, 0, RANQUSTEI_TREE_BYTES, 2};
+
+    memset(list, 0, sizeof list);
+    memcpy(list, head, sizeof head);
+    for (unsigned i = 0; i < PLANS; i++) {
+        unsigned y1 = i * 997 % PLANS;
+        uint8_t record[] = {0x50, 0x4C, 0, 0, 0, 0, (uint8_t)(y1 % 256), (uint8_t)(y1 / 256)};
+        memcpy(list + HEAD_BYTES + i * PLAN_BYTES, record, sizeof record);
+    }
+}
+
+static int measure_longest_list(void)
+{
+    fill_list();
+    build_index(NULL); /* for the dynamic linker, as for a survey */
+    printf("| a list of %d plans | | | |", PLANS);
+    measure_list();
+    return ranqustei_index_lookup(list, sizeof list, built, sizeof built, INT16_MAX).number != RANQUSTEI_OK;
 }
 
 int main(int count, char **names)
 {
     int failures = 0;
 
-    printf("| survey | list | best | judge | fetch |\n|---|---|---|---|---|\n");
+    printf("| survey | list | best | judge | fetch | index | lookup |\n|---|---|---|---|---|---|---|\n");
     for (int i = 1; i < count; i++)
         failures += measure(names[i]);
+    failures += measure_longest_list();
     return failures != 0;
 }

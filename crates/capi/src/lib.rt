@@ -1,4 +1,6 @@
 // The calls of `planner` for programs in C and Rust: replies are structs of plain numbers.
+use capi_found::FoundPlan;
+use capi_found::found_plan;
 use capi_part::Part;
 use capi_part::part_of;
 use capi_reply::Reply;
@@ -8,13 +10,16 @@ ghost use mathlib.Core.Path.{_≡_};
 ghost use lib.ListN.{length};
 ghost use Rattle.network.specs.Calls.{asked, judged, listAfter, listStatus, treeAfter};
 ghost use Rattle.network.specs.Cut.{CutNoticed};
+ghost use Rattle.network.specs.Indexing.{indexAfter, indexStatus, lookedUp};
 ghost use Rattle.network.specs.Promise.{Promised};
+ghost use Rattle.network.specs.IndexPromise.{IndexPromised};
+ghost use Rattle.capi_found.specs.Flat.{FoundPromised, flatFound};
 ghost use Rattle.capi_part.specs.Parts.{PartOf, partOf};
 ghost use Rattle.capi_reply.specs.Replies.{flatReply};
 ghost use Rattle.capi.specs.Version.{version};
 
 // The version of these calls: it changes whenever a struct, a call or the meaning of a reply does.
-pub const VERSION: u32 = 3;
+pub const VERSION: u32 = 4;
 
 // The version of the calls that this archive has.
 #[no_mangle]
@@ -61,4 +66,23 @@ pub extern "C" fn ranqustei_fetch(list: &[u8], r: u32) -> Part
     ensures links { λ part. ⌜ PartOf (now (list .entry)) r part ⌝ }
 {
     part_of(list, r)
+}
+
+// The index of a plan list by first ceiling.
+#[no_mangle]
+pub extern "C" fn ranqustei_index(list: &[u8], buffer: &mut [u8]) -> Status
+    ensures reply { λ r. ⌜ r ≡ indexStatus (now (list .entry)) (length (now (buffer .entry))) ⌝ }
+    ensures leaves { λ _. ⌜ now (buffer .exit) ≡ indexAfter (now (list .entry)) (now (buffer .entry)) ⌝ }
+    ensures promised { λ r. ⌜ IndexPromised (now (list .entry)) (now (buffer .entry)) r (now (buffer .exit)) ⌝ }
+{
+    planner::index(list, buffer)
+}
+
+// The cheapest plan of a list whose y1 is at most `value`, by its index.
+#[no_mangle]
+pub extern "C" fn ranqustei_index_lookup(list: &[u8], buffer: &[u8], value: i16) -> FoundPlan
+    ensures reply { λ r. ⌜ r ≡ flatFound (lookedUp (now (list .entry)) (now (buffer .entry)) value) ⌝ }
+    ensures promised { λ r. ⌜ FoundPromised (now (list .entry)) (now (buffer .entry)) value r ⌝ }
+{
+    found_plan(list, buffer, value)
 }

@@ -4,3 +4,5 @@ pub mod Overwrite
 pub mod Stores
 -- loops that copy, turn by turn
 pub mod Copies
+-- the part from an index to the end, lent and handed back
+pub mod Tail

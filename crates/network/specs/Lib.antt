@@ -16,6 +16,8 @@ pub mod Refusals
 pub mod Calls
 -- fetching: 12, 13
 pub mod Fetching
+-- the index by first ceiling: 12, 13, 16
+pub mod Indexing
 -- printing
 pub mod Printing
 -- the yards worked through, P1 to P25
@@ -30,5 +32,6 @@ pub mod NetworkFine
 pub mod Alike
 pub mod Count
 pub mod Cut
--- demand 3
+-- demand 3, and what callers rely on in an index
 pub mod Promise
+pub mod IndexPromise

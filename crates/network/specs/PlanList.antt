@@ -5,7 +5,7 @@ use lib.IntN.{pos}
 use lib.ListN.{getD, length, replicate}
 use mir.Syntax.{w16, w32}
 use Rattle.network.specs.Limits.{maxCeilings, maxPlans, maxTree}
-use Rattle.network.specs.Bytes.{bitsOf, littleEndian}
+use Rattle.network.specs.Bytes.{bitsOf, i16At, i32At, littleEndian}
 use Rattle.network.specs.Yard.{ceilingCosts, treeSize, treeSum}
 use Rattle.network.specs.Walk.{plans, positionCount, solvedCount}
 use Rattle.network.specs.declared.Costs.{Costs}
@@ -27,6 +27,10 @@ headBytes count solved t p = headMark ++ (littleEndian 2 count ++ (littleEndian 
 abbrev pub planBytes : Costs → List ℕ → List ℕ
 planBytes v links =
     planMark ++ (littleEndian 4 (bitsOf w32 (v .sum)) ++ (littleEndian 2 (bitsOf w16 (v .y1)) ++ (littleEndian 2 (bitsOf w16 (v .y2)) ++ links)))
+
+-- the costs that the plan record at an index holds
+unfoldable pub costsAt : List ℕ → ℕ → Costs
+costsAt bs i = record { sum = i32At bs (i + 2); y1 = i16At bs (i + 6); y2 = i16At bs (i + 8) }
 
 -- the size of the head
 abbrev pub headSize : ℕ

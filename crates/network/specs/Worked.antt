@@ -21,14 +21,19 @@ use Rattle.network.specs.Walk.{plans, solvedCount, walked}
 use Rattle.network.specs.Bytes.{bitsOf, littleEndian, signed}
 use Rattle.network.specs.Column.{column}
 use Rattle.network.specs.Survey.{costsIn, endsIn, layoutAmong, layoutOf, linkForm, networkOf, networkWith, raised, sumsIn}
-use Rattle.network.specs.PlanList.{bufferNeed, headMark, join, planMark}
+use Rattle.network.specs.PlanList.{bufferNeed, costsAt, headMark, join, planMark}
 use Rattle.network.specs.Checked.{firstRefusal, refuseIf, _orElse_}
 use Rattle.network.specs.Refusals.{badCount, badLength, badRanks, badSum, checkedOf, checkedWith, linkChecked, yardChecked}
 use Rattle.network.specs.Calls.{Reply, ifFine, reply, status}
 use Rattle.network.specs.Calls.{asked, askedChecked, bestTree, drawnChecked, judged, treeAfter, treeWith}
 use Rattle.network.specs.Calls.{listAfter, listChecked, listStatus, plansAfter, plansChecked, roomChecked}
+use Rattle.network.specs.Fetching.{damaged}
+use Rattle.network.specs.Indexing.{cheapest, declined, entriesFrom, foundBy, foundPlan, indexAfter, indexChecked, indexIn, indexKey, indexOf, indexStatus}
+use Rattle.network.specs.Indexing.{isIndex, lookedUp, lookupChecked, meets, unfit}
 use Rattle.network.specs.Printing.{printed}
 use Rattle.network.specs.Count.{countedYard, plainYard}
+use Rattle.network.specs.declared.Found.{Found}
+use Rattle.network.specs.declared.Found.the-variants.{Plan}
 use Rattle.network.specs.declared.Status.{Status}
 
 -- ---- the rows
@@ -51,6 +56,10 @@ pub data Row : Type 0 where
   prices : (bits : List ℕ) (meant passed : List ℤ) → Row
   -- a survey, and the number and place that decline it in every call; 0 and 0 if it is accepted
   checks : (survey : List ℕ) → Status → Row
+  -- building the index of a list into a buffer: its reply, and the buffer after it
+  builds : (list buffer : List ℕ) → Status → List ℕ → Row
+  -- a lookup by a list and an index, with the given value, and the reply
+  looks : (list index : List ℕ) (y : ℤ) → Found → Row
   -- standard input, and what the program prints
   prints : (input output : List ℕ) → Row
 
@@ -77,6 +86,8 @@ Right (ranks k vs v) = kmax orderℤ k vs (pos 0) ≡ v
 Right (accepts n p pairs) = filter (λ ks. not (badRanks n p ks)) rankPairs ≡ pairs
 Right (prices bits meant passed) = (map (signed w32) bits ≡ meant) × (filter (λ s. not (badSum s)) meant ≡ passed)
 Right (checks s r) = status (checkedOf s) ≡ r
+Right (builds l buffer r after) = (indexStatus l (length buffer) ≡ r) × (indexAfter l buffer ≡ after)
+Right (looks l index y found) = lookedUp l index y ≡ found
 Right (prints input output) = printed input ≡ output
 
 -- ---- bytes as document 01 writes them
@@ -114,6 +125,21 @@ refused number place = record { number = number; place = place; values = [] }
 
 abbrev replied : ℕ → ℕ → Status
 replied number place = record { number = number; place = place }
+
+-- the bytes of an index
+abbrev entries : List ℕ → List ℕ
+entries numbers = join (map (littleEndian 2) numbers)
+
+-- five plans of no links with p ceilings, of which only one has another y1, and one another sum, and two are alike
+abbrev mixed : ℕ → List ℕ
+mixed p = list 5 0 0 p (plan 5 3 1 [] ∷ plan 5 0xFFFE 4 [] ∷ plan (minus 1) 3 9 [] ∷ plan 5 3 0xFFF9 [] ∷ plan 5 3 1 [] ∷ [])
+
+-- two plans of one sum, the later with the lower y1; and the same where the mark of the later is wrong
+abbrev tied : List ℕ
+tied = list 2 0 0 1 (two (plan 5 3 0 []) (plan 5 0xFFFE 0 []))
+
+abbrev unmarked : List ℕ
+unmarked = list 2 0 0 1 (two (plan 5 3 0 []) (0x50 ∷ 0x4D ∷ replicate 8 0))
 
 -- the links of survey A
 abbrev linksA : List (List ℕ)
@@ -180,7 +206,9 @@ listA = list 2 3 2 1 (two (plan 4 9 0 (two 1 2)) (plan 7 7 0 (two 0 1)))
 -- P1 to P12, in their order; P1 is two rows (the list in the 46 bytes that the buffer needs, and the whole output), and P12 is two. Then both
 -- ranks may be 2: P13, P14 whose tree has one link above both bounds, P15 whose tree has two, one above each, and P16 in three rows. Then sum costs
 -- may be negative: P17 in two rows, P18 to P20, and P21 on the sum costs that pass. Then yard records may write their link count: P22 in two rows,
--- P23 in three on a survey that is cut off, P24 on where 15 stands among the numbers, P25 on lengths and marks
+-- P23 in three on a survey that is cut off, P24 on where 15 stands among the numbers, P25 on lengths and marks. Then plan lists
+-- have an index: P26 in four rows on that of A's list, P27 in four on signs and ties, P28 in two without ceilings, P29 in eight on equal sums, on
+-- indexes and lists that are declined, and on the empty list
 pub table : List Row
 table =
     lists (A 1) (two (two 1 2) (two 0 1)) 3 46 listA
@@ -227,6 +255,24 @@ table =
     ∷ checks (take 1 countedA) (replied 1 0)
     ∷ checks (0x59 ∷ 0x46 ∷ 3 ∷ 1 ∷ 1 ∷ 0 ∷ []) (replied 2 0)
     ∷ checks (0x59 ∷ 0x46 ∷ 3 ∷ 1 ∷ 1 ∷ 0 ∷ 0 ∷ []) (replied 1 0)
+    ∷ builds listA (replicate 4 0xFF) (replied 0 0) (entries (two 1 0))
+    ∷ looks listA (entries (two 1 0)) (pos 9) (Plan 0)
+    ∷ looks listA (entries (two 1 0)) (pos 8) (Plan 1)
+    ∷ looks listA (entries (two 1 0)) (pos 6) (declined 13)
+    ∷ builds (mixed 2) (replicate 12 0xFF) (replied 0 0) (entries (1 ∷ 2 ∷ 3 ∷ 0 ∷ 4 ∷ []) ++ two 0xFF 0xFF)
+    ∷ looks (mixed 2) (entries (1 ∷ 2 ∷ 3 ∷ 0 ∷ 4 ∷ []) ++ two 0xFF 0xFF) (pos 3) (Plan 2)
+    ∷ looks (mixed 2) (entries (1 ∷ 2 ∷ 3 ∷ 0 ∷ 4 ∷ [])) (pos 2) (Plan 1)
+    ∷ looks (mixed 2) (entries (1 ∷ 2 ∷ 3 ∷ 0 ∷ 4 ∷ [])) (negsuc 2) (declined 13)
+    ∷ builds (mixed 0) (replicate 10 0xFF) (replied 0 0) (entries (2 ∷ 0 ∷ 1 ∷ 3 ∷ 4 ∷ []))
+    ∷ looks (mixed 0) (entries (2 ∷ 0 ∷ 1 ∷ 3 ∷ 4 ∷ [])) (negsuc 32_767) (Plan 2)
+    ∷ looks tied (entries (two 1 0)) (pos 3) (Plan 0)
+    ∷ looks tied (entries (two 0 1)) (pos 3) (declined 12)
+    ∷ looks tied (entries (two 1 1)) (pos 3) (declined 12)
+    ∷ looks tied (take 3 (entries (two 1 0))) (pos 3) (declined 16)
+    ∷ builds tied (replicate 3 0xFF) (replied 16 0) (replicate 3 0xFF)
+    ∷ builds unmarked (replicate 3 0xFF) (replied 12 0) (replicate 3 0xFF)
+    ∷ builds (list 0 0 2 1 []) [] (replied 0 0) []
+    ∷ looks (list 0 0 2 1 []) [] (pos 3) (declined 13)
     ∷ []
 
 -- ---- the theorem
@@ -247,6 +293,8 @@ unfolding table endsIn sumsIn costsIn column layoutAmong layoutOf networkWith ra
     spanningTrees choose chooseFrom tree.isTree tree.isTreeFrom tree.isForest tree.isOneComponent crosses merge numbersFrom isListed
     badCount badLength badRanks badSum checkedWith linkChecked yardChecked firstRefusal refuseIf _orElse_ reply status ifFine
     judged drawnChecked asked askedChecked bestTree treeAfter treeWith roomChecked plansChecked plansAfter listChecked listStatus listAfter printed
+    costsAt damaged indexKey indexOf unfit indexChecked indexStatus indexIn indexAfter entriesFrom isIndex meets cheapest lookupChecked
+    foundPlan foundBy lookedUp
 table-right = every Right (
     record { promised = refl; by-walk = refl; counted = refl; needed = refl; succeeds = refl; bytes = refl }
     ▸ refl
@@ -265,5 +313,7 @@ table-right = every Right (
     ▸ (refl, refl) ▸ refl ▸ (refl, refl)
     ▸ record { promised = refl; by-walk = refl; counted = refl; needed = refl; succeeds = refl; bytes = refl }
     ▸ refl
-    ▸ (refl, refl) ▸ (refl, refl) ▸ refl ▸ refl ▸ refl ▸ refl ▸ refl ▸ refl ▸ refl ▸ refl ▸ refl ▸ refl ▸ refl ▸ refl ▸ done
+    ▸ (refl, refl) ▸ (refl, refl) ▸ refl ▸ refl ▸ refl ▸ refl ▸ refl ▸ refl ▸ refl ▸ refl ▸ refl ▸ refl ▸ refl ▸ refl
+    ▸ (refl, refl) ▸ refl ▸ refl ▸ refl ▸ (refl, refl) ▸ refl ▸ refl ▸ refl ▸ (refl, refl) ▸ refl
+    ▸ refl ▸ refl ▸ refl ▸ refl ▸ (refl, refl) ▸ (refl, refl) ▸ (refl, refl) ▸ refl ▸ done
     )

@@ -43,6 +43,12 @@ pub enum Answer {
     Refused(Refusal),
 }
 
+// The reply to a lookup in an index: a plan's number, or the refusal.
+pub enum Found {
+    Plan(u16),
+    Refused(Refusal),
+}
+
 // What a check finds: nothing, or the first refusal.
 pub enum Checked {
     Fine,

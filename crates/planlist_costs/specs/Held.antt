@@ -7,15 +7,11 @@ use mir.Syntax.{w16, w32}
 use mir.Val.{SFits}
 use lib.ListN.{take, drop}
 use lib.Seq.{getD-take, getD-drop}
-use Rattle.network.specs.Bytes.{byteAt, i16At, i32At}
-use Rattle.network.specs.PlanList.{planBytes, planSize, planSlots}
+use Rattle.network.specs.Bytes.{byteAt}
+use Rattle.network.specs.PlanList.{costsAt, planBytes, planSize, planSlots}
 use Rattle.network.specs.declared.Costs.{Costs}
 use Rattle.encoding_signed.specs.RoundTrip.{i16-bytes, i32-bytes}
 use Rattle.planlist_records.specs.Blocks.{blocks, blocks-turn}
-
--- the costs that the plan record at an index holds
-unfoldable pub costsAt : List ℕ → ℕ → Costs
-costsAt bs i = record { sum = i32At bs (i + 2); y1 = i16At bs (i + 6); y2 = i16At bs (i + 8) }
 
 -- costs that a record can hold
 pub record Writable (v : Costs) : Type 0 where

@@ -10,8 +10,7 @@ use planlist_records::Y2_AT;
 ghost use mathlib.Core.Path.{_≡_};
 ghost use Prim.Native.Nat.{_+_, _≤_};
 ghost use lib.ListN.{length};
-ghost use Rattle.network.specs.PlanList.{planSize, planSlots};
-ghost use Rattle.planlist_costs.specs.Held.{costsAt};
+ghost use Rattle.network.specs.PlanList.{costsAt, planSize, planSlots};
 ghost use Rattle.planlist_costs.specs.Orders.{atMost, inOrder};
 
 // No entry of v is above that of w.

@@ -14,9 +14,10 @@ use Rattle.network.specs.PlanList.{headMark, headSize, planMark, planSize, plan
 use Rattle.network.specs.Accepted.{or-false}
 use Rattle.network.specs.Fetching.{headCeilings, headCount, damaged, fetchNumber, planStart, headTreeSize}
 
--- a list with room for its head and for its plans
+-- a list with room for its head and for its plans, which are not too many
 pub record Whole (list : List ℕ) : Type 0 where
   pub long : headSize ≤ length list
+  pub few : headCount list ≤ maxPlans
   pub room : planStart list (headCount list) ≤ length list
 
 -- a list that is not damaged has it
@@ -28,7 +29,7 @@ whole list e =
     let h = or-false _ (ltb maxTree (headTreeSize list)) (g .0) in
     let i = or-false _ (ltb maxPlans (headCount list)) (h .0) in
     let j = or-false (ltb (length list) headSize) (not (markAt list 0 headMark)) (i .0) in
-    record { long = ltb-false _ _ (j .0); room = ltb-false _ _ (f .1) }
+    record { long = ltb-false _ _ (j .0); few = ltb-false _ _ (i .1); room = ltb-false _ _ (f .1) }
 
 -- a list that is shorter than a head is damaged
 pub damaged-short : (list : List ℕ) → length list < headSize → damaged list ≡ true

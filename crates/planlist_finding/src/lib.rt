@@ -19,7 +19,7 @@ ghost use Rattle.network.specs.PlanList.{planSize, planSlots};
 ghost use Rattle.network.specs.Fetching.{headCount, damaged, fetchNumber, planStart, headTreeSize};
 
 // Whether the list is damaged, whichever plan is asked for.
-fn is_damaged(list: &[u8]) -> bool
+pub fn is_damaged(list: &[u8]) -> bool
     ensures { λ r. ⌜ r ≡ damaged (now (list .entry)) ⌝ }
 {
     if list.len() < HEAD_SIZE {

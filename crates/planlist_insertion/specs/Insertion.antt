@@ -13,7 +13,7 @@ use Rattle.order.specs.Sorted.{Rising, Sorted, insert, rising-sorted}
 use Rattle.frontier.specs.Dominance.{leAll, leAll-refl, leAll→dictionaryLe, dominates, le-cases}
 use Rattle.frontier.specs.Frontier.{Problem, insertPlan, vector, vectorOrder}
 use Rattle.network.specs.declared.Costs.{Costs}
-use Rattle.planlist_costs.specs.Held.{costsAt}
+use Rattle.network.specs.PlanList.{costsAt}
 use Rattle.planlist_costs.specs.Orders.{atMost, inOrder}
 
 -- records as solutions: the sum is the objective, and y1 and y2 are the ceiling costs

@@ -13,7 +13,7 @@ use Rattle.order.specs.Sorted.{Rising}
 use Rattle.frontier.specs.Frontier.{vector, vectorOrder}
 use Rattle.network.specs.Calls.{costValues}
 use Rattle.network.specs.declared.Costs.{Costs}
-use Rattle.planlist_costs.specs.Held.{costsAt}
+use Rattle.network.specs.PlanList.{costsAt}
 use Rattle.planlist_costs.specs.Orders.{atMost, inOrder, at-most-before, in-order-higher, in-order-lower}
 use Rattle.planlist_place.specs.Place.{freePlace}
 use Rattle.planlist_pruning.specs.Pruned.{prunedLevel}

@@ -17,12 +17,12 @@ use Rattle.frontier.specs.Plans.{collect-member}
 use Rattle.planning.specs.Graph.{Graph, costsFrom}
 use Rattle.network.specs.Limits.{maxCeilings}
 use Rattle.network.specs.Yard.{ceilingCosts, graph, ranks, treeSum, yard}
-use Rattle.network.specs.PlanList.{costsOf}
+use Rattle.network.specs.PlanList.{costsAt, costsOf}
 use Rattle.network.specs.Calls.{costValues}
 use Rattle.network.specs.declared.Costs.{Costs}
 use Rattle.network.specs.declared.Network.{Network}
 use Rattle.planlist_records.specs.Blocks.{blocks, blocks-none, length-blocks}
-use Rattle.planlist_costs.specs.Held.{Writable, costs-encoded, costsAt}
+use Rattle.planlist_costs.specs.Held.{Writable, costs-encoded}
 use Rattle.planlist_costs.specs.Orders.{atMost}
 use Rattle.planlist_records.specs.Records.{encode}
 use Rattle.planlist_insertion.specs.Insertion.{RecordsRise, insertRecord, records}

@@ -6,10 +6,10 @@ use Prim.Native.Nat.{ℕ, suc, _+_, _-_, _≤_, _<_}
 use native.Mathlib.Omega.{arith}
 use lib.ListN.{length, drop}
 use lib.Signed.{leZ}
-use Rattle.network.specs.PlanList.{planSize, planSlots}
+use Rattle.network.specs.PlanList.{costsAt, planSize, planSlots}
 use Rattle.network.specs.declared.Costs.{Costs}
 use Rattle.planlist_records.specs.Blocks.{blocks, length-blocks}
-use Rattle.planlist_costs.specs.Held.{costsAt, costs-turn}
+use Rattle.planlist_costs.specs.Held.{costs-turn}
 use Rattle.planlist_costs.specs.Orders.{atMost, inOrder}
 
 -- the number of records that stand before v; one more than all where, before that place, one of no lower sum is at most v

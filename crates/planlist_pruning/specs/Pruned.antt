@@ -5,10 +5,10 @@ use mathlib.Core.List.{List, [], _∷_}
 use Prim.Native.Nat.{ℕ, _+_, _-_, _≤_, _<_}
 use lib.ListN.{take, drop}
 use lib.Signed.{leZ}
-use Rattle.network.specs.PlanList.{planSize, planSlots}
+use Rattle.network.specs.PlanList.{costsAt, planSize, planSlots}
 use Rattle.network.specs.declared.Costs.{Costs}
 use Rattle.planlist_records.specs.Blocks.{blocks, blocks-turn}
-use Rattle.planlist_costs.specs.Held.{costsAt, costs-turn}
+use Rattle.planlist_costs.specs.Held.{costs-turn}
 use Rattle.planlist_costs.specs.Orders.{atMost}
 
 -- the records whose costs v is not at most, and all from the first with a higher sum on

@@ -12,3 +12,9 @@ pub use planner_list::list;
 // One plan of a list: the number of fetching it, and its link bytes, a part of the list.
 pub use planner_fetch::fetch_links;
 pub use planner_fetch::fetch_number;
+
+// The index of a list by first ceiling, into the index buffer: number 0 and place 0, or the refusal.
+pub use planner_index::index;
+
+// The cheapest plan of a list whose first ceiling cost is at most a value, by its index: the plan's number, or the refusal.
+pub use planner_index::index_lookup;

@@ -1,63 +1,11 @@
 //! One call on two planners, and what differs.
 
-use crate::fetching::plan_sums;
-use crate::listed::Listed;
+use crate::index_rules::{build_fault, lookup_fault};
+use crate::list_bytes::Plans;
 use crate::planner::Planner;
-use crate::records::RecordTally;
-use crate::sums::SumTally;
+use crate::tally::{Call, Tally};
 use peer::{Costs, Refusal};
 use std::fmt::{self, Debug, Display, Formatter};
-
-/// The four calls.
-#[derive(Clone, Copy)]
-pub enum Call {
-    /// The costs of a drawn tree.
-    Judge,
-    /// The best tree under ceilings.
-    Best,
-    /// The list of plans.
-    List,
-    /// One plan of a list.
-    Fetch,
-}
-
-/// How much was compared.
-#[derive(Clone, Copy, Default)]
-pub struct Tally {
-    /// Surveys.
-    pub surveys: u64,
-    /// Surveys that are legal.
-    pub legal: u64,
-    /// Calls, each made on both planners, by `Call`.
-    pub calls: [u64; 4],
-    /// Bytes of lent buffers and returned parts.
-    pub bytes: u64,
-    /// How many calls replied with each number; 0 is success.
-    pub numbers: [u64; 16],
-    /// What was held against a listing of all trees.
-    pub listed: Listed,
-    /// Which sum costs there were.
-    pub sums: SumTally,
-    /// Which yard records there were.
-    pub records: RecordTally,
-}
-
-impl Tally {
-    /// Adds another tally to this one.
-    pub fn add(&mut self, other: &Tally) {
-        self.surveys += other.surveys;
-        self.legal += other.legal;
-        self.bytes += other.bytes;
-        self.listed.add(&other.listed);
-        self.sums.add(&other.sums);
-        self.records.add(&other.records);
-        let calls = self.calls.iter_mut().zip(other.calls);
-        let numbers = self.numbers.iter_mut().zip(other.numbers);
-        for (count, more) in calls.chain(numbers) {
-            *count += more;
-        }
-    }
-}
 
 /// A call on which two planners differ.
 #[derive(Debug)]
@@ -144,8 +92,8 @@ impl<'a> Comparison<'a> {
         let outcome = self.settle(Call::List, outcomes, || {
             format!("list allowance {allowance} lent {} bytes", lent.len())
         })?;
-        if outcome.reply.is_ok() {
-            self.tally.sums.count_list(&plan_sums(&outcome.bytes));
+        if let (Ok(()), Some(plans)) = (outcome.reply, Plans::read(&outcome.bytes)) {
+            self.tally.sums.count_list(&plans.costs);
         }
         Ok(outcome)
     }
@@ -166,6 +114,42 @@ impl<'a> Comparison<'a> {
         .map(|_| ())
     }
 
+    /// Builds the index of a list, with a buffer that holds the bytes of `lent`.
+    pub fn index(&mut self, list: &[u8], lent: &[u8]) -> Result<Outcome<()>, Difference> {
+        let outcomes = self.planners.map(|planner| {
+            let mut bytes = lent.to_vec();
+            let reply = planner.index(list, &mut bytes);
+            Outcome { reply, bytes }
+        });
+        let describe = || format!("index of {list:?} lent {lent:?}");
+        let outcome = self.settle(Call::Index, outcomes, describe)?;
+        let fault = build_fault(list, lent, &outcome);
+        hold(outcome, fault, describe)
+    }
+
+    /// Looks up a value in the index of a list.
+    pub fn lookup(
+        &mut self,
+        list: &[u8],
+        index: &[u8],
+        value: i16,
+    ) -> Result<Outcome<u16>, Difference> {
+        let outcomes = self.planners.map(|planner| {
+            let bytes = index.to_vec();
+            let reply = planner.index_lookup(list, &bytes, value);
+            Outcome { reply, bytes }
+        });
+        let describe = || format!("lookup of {value} in {list:?} by {index:?}");
+        let outcome = self.settle(Call::Lookup, outcomes, describe)?;
+        let fault = lookup_fault(list, index, value, &outcome);
+        hold(outcome, fault, describe)
+    }
+
+    /// What was compared so far.
+    pub fn tally(&mut self) -> &mut Tally {
+        self.tally
+    }
+
     /// Counts a call, and gives its outcome if both planners agree.
     fn settle<T: PartialEq + Debug>(
         &mut self,
@@ -174,16 +158,10 @@ impl<'a> Comparison<'a> {
         describe: impl Fn() -> String,
     ) -> Result<Outcome<T>, Difference> {
         let [left, right] = outcomes;
-        self.tally.calls[call as usize] += 1;
         self.tally.bytes += left.bytes.len() as u64;
-        let number = left
-            .reply
-            .as_ref()
-            .err()
-            .map_or(0, |refusal| refusal.number);
-        if let Some(count) = self.tally.numbers.get_mut(usize::from(number)) {
-            *count += 1;
-        }
+        let refusal = left.reply.as_ref().err();
+        self.tally
+            .count(call, refusal.map_or(0, |refusal| refusal.number));
         if left == right {
             return Ok(left);
         }
@@ -191,5 +169,20 @@ impl<'a> Comparison<'a> {
             call: describe(),
             replies: [left, right].map(|outcome| format!("{outcome:?}")),
         })
+    }
+}
+
+/// The outcome that both planners agree on, unless it has a fault.
+fn hold<T: Debug>(
+    outcome: Outcome<T>,
+    fault: Option<String>,
+    describe: impl Fn() -> String,
+) -> Result<Outcome<T>, Difference> {
+    match fault {
+        None => Ok(outcome),
+        Some(fault) => Err(Difference {
+            call: describe(),
+            replies: [format!("{outcome:?}"), fault],
+        }),
     }
 }

@@ -65,20 +65,20 @@ pub fn damaged_in_pairs(draft: &Draft, rng: &mut Rng) -> Vec<Vec<u8>> {
     surveys
 }
 
-/// All surveys that are a part of one, from its start.
-pub fn cuts(survey: &[u8]) -> Vec<Vec<u8>> {
-    let lengths = 0..survey.len();
-    lengths.map(|len| survey[..len].to_vec()).collect()
+/// All parts of a survey or a list, from its start.
+pub fn cuts(whole: &[u8]) -> Vec<Vec<u8>> {
+    let lengths = 0..whole.len();
+    lengths.map(|len| whole[..len].to_vec()).collect()
 }
 
-/// All surveys that differ from one by a cut or a single bit.
-pub fn cuts_and_flips(survey: &[u8]) -> Vec<Vec<u8>> {
-    let flips = (0..survey.len() * 8).map(|bit| {
-        let mut bytes = survey.to_vec();
+/// All bytes that differ from a survey or a list by a cut or a single bit.
+pub fn cuts_and_flips(whole: &[u8]) -> Vec<Vec<u8>> {
+    let flips = (0..whole.len() * 8).map(|bit| {
+        let mut bytes = whole.to_vec();
         bytes[bit / 8] ^= 1 << (bit % 8);
         bytes
     });
-    cuts(survey).into_iter().chain(flips).collect()
+    cuts(whole).into_iter().chain(flips).collect()
 }
 
 /// All surveys that differ from one by a sum cost at a limit or outside, on any link.
@@ -94,7 +94,8 @@ pub fn sums_at_limits(draft: &Draft) -> Vec<Vec<u8>> {
     surveys
 }
 
-fn wrong_byte(byte: &mut u8, rng: &mut Rng) {
+/// Changes a byte to any other.
+pub fn wrong_byte(byte: &mut u8, rng: &mut Rng) {
     *byte = byte.wrapping_add(rng.within(1..=255) as u8);
 }
 
@@ -214,14 +215,16 @@ fn lengthen(bytes: &mut Vec<u8>, rng: &mut Rng) {
     bytes.extend(rng.bytes(count));
 }
 
-fn flip_bits(bytes: &mut [u8], rng: &mut Rng) {
+/// Turns one to three bits.
+pub fn flip_bits(bytes: &mut [u8], rng: &mut Rng) {
     for _ in 0..rng.within(1..=3) {
         let at = rng.below(bytes.len());
         bytes[at] ^= 1 << rng.below(8);
     }
 }
 
-fn randomize(bytes: &mut Vec<u8>, rng: &mut Rng) {
+/// Puts random bytes in place of all.
+pub fn randomize(bytes: &mut Vec<u8>, rng: &mut Rng) {
     *bytes = rng.bytes(bytes.len());
 }
 

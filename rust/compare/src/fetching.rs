@@ -1,32 +1,15 @@
 //! The fetch calls made on one plan list, whole and damaged.
 
 use crate::comparison::{Comparison, Difference};
+use crate::list_bytes::{plan_bytes, plan_count, used_bytes};
+use crate::list_damage::heads;
 use crate::rng::Rng;
-
-const HEAD_BYTES: usize = 10;
-
-/// The solved count in the head of a list.
-pub fn solved_count(list: &[u8]) -> u32 {
-    u32::from_le_bytes([list[4], list[5], list[6], list[7]])
-}
-
-/// The sums of a list's plans.
-pub fn plan_sums(list: &[u8]) -> Vec<i32> {
-    let plans = list[HEAD_BYTES..].chunks_exact(HEAD_BYTES + usize::from(list[8]));
-    let sum = |plan: &[u8]| i32::from_le_bytes([plan[2], plan[3], plan[4], plan[5]]);
-    plans.take(plan_count(list) as usize).map(sum).collect()
-}
-
-/// The number of plans in the head of a list.
-fn plan_count(list: &[u8]) -> u32 {
-    u16::from_le_bytes([list[2], list[3]]).into()
-}
+use peer::plan_list::HEAD_BYTES;
 
 /// Fetches every plan, numbers past the last, and plans of damaged lists.
 pub fn fetch_calls(c: &mut Comparison, list: &[u8], rng: &mut Rng) -> Result<(), Difference> {
-    let count = plan_count(list);
-    let plan_bytes = HEAD_BYTES + usize::from(list[8]);
-    let used = HEAD_BYTES + count as usize * plan_bytes;
+    let count = plan_count(list) as u32;
+    let used = used_bytes(list);
     for plan in (0..count + 2).chain([u32::MAX, rng.bits() as u32]) {
         c.fetch(list, plan)?;
     }
@@ -37,7 +20,7 @@ pub fn fetch_calls(c: &mut Comparison, list: &[u8], rng: &mut Rng) -> Result<(),
     head_damage(c, &mut damaged, count, rng)?;
     for _ in 0..4 {
         let plan = rng.below(count as usize + 1);
-        mark_damage(c, &mut damaged, plan, plan_bytes)?;
+        mark_damage(c, &mut damaged, plan)?;
         any_damage(c, &damaged, rng)?;
     }
     Ok(())
@@ -50,26 +33,8 @@ fn head_damage(
     count: u32,
     rng: &mut Rng,
 ) -> Result<(), Difference> {
-    let original: [u8; HEAD_BYTES] = std::array::from_fn(|i| list[i]);
-    let mut heads: Vec<[u8; HEAD_BYTES]> = Vec::new();
-    for bit in 0..HEAD_BYTES * 8 {
-        let mut head = original;
-        head[bit / 8] ^= 1 << (bit % 8);
-        heads.push(head);
-    }
-    for other in [count + 1, count.wrapping_sub(1), 0, 1600, 1601, 0xffff] {
-        let mut head = original;
-        head[2..4].copy_from_slice(&other.to_le_bytes()[..2]);
-        heads.push(head);
-    }
-    for (at, others) in [(8, [0, 22, 23, 24, 255]), (9, [0, 1, 2, 3, 255])] {
-        for other in others {
-            let mut head = original;
-            head[at] = other;
-            heads.push(head);
-        }
-    }
-    for head in heads {
+    let original = list[..HEAD_BYTES].to_vec();
+    for head in heads(list) {
         list[..HEAD_BYTES].copy_from_slice(&head);
         for plan in [
             0,
@@ -86,13 +51,8 @@ fn head_damage(
 }
 
 /// Fetches a plan and the next with each bit of the plan's mark flipped.
-fn mark_damage(
-    c: &mut Comparison,
-    list: &mut [u8],
-    plan: usize,
-    plan_bytes: usize,
-) -> Result<(), Difference> {
-    let start = HEAD_BYTES + plan * plan_bytes;
+fn mark_damage(c: &mut Comparison, list: &mut [u8], plan: usize) -> Result<(), Difference> {
+    let start = HEAD_BYTES + plan * plan_bytes(list);
     for bit in 0..16 {
         let Some(byte) = list.get_mut(start + bit / 8) else {
             break;

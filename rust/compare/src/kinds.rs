@@ -104,16 +104,18 @@ impl Kind {
         }
     }
 
-    /// Makes the calls on one of its surveys.
+    /// Makes the calls on one of its surveys; gives the list of one that is meant to be legal.
     pub fn calls(
         &self,
         c: &mut Comparison,
         survey: &[u8],
         rng: &mut Rng,
-    ) -> Result<(), Difference> {
+    ) -> Result<Option<Vec<u8>>, Difference> {
         match self.damage {
-            Whole => all_calls(c, survey, rng),
-            Random | Each | EachSum | EachPair | EachCut => few_calls(c, survey, rng),
+            Whole => all_calls(c, survey, rng).map(Some),
+            Random | Each | EachSum | EachPair | EachCut => {
+                few_calls(c, survey, rng).map(|()| None)
+            }
         }
     }
 }

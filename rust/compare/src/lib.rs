@@ -1,4 +1,4 @@
-//! Holds two planners against each other: generated surveys, calls, comparison.
+//! Holds two planners against each other: generated surveys and lists, calls, comparison.
 //!
 //! `cargo test --release` compares the proved planner with the independent one and prints how
 //! much was compared; `cargo run --release --bin bench` times both.
@@ -10,11 +10,20 @@ pub mod comparison;
 pub mod damage;
 pub mod draft;
 pub mod fetching;
+pub mod index_damage;
+pub mod index_rules;
+pub mod index_tally;
+pub mod indexing;
 pub mod kinds;
+pub mod list_bytes;
+pub mod list_damage;
+pub mod list_draft;
+pub mod list_kinds;
 pub mod listed;
 pub mod planner;
 pub mod records;
 pub mod rng;
 pub mod round;
 pub mod sums;
+pub mod tally;
 pub mod yards;

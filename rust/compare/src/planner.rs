@@ -2,7 +2,7 @@
 
 use peer::{Costs, Refusal};
 
-/// The four calls. Where a planner does not say otherwise, they are the independent planner's.
+/// The calls. Where a planner does not say otherwise, they are the independent planner's.
 pub trait Planner {
     /// The costs of a drawn tree.
     fn judge(&self, survey: &[u8], drawn: &[u8]) -> Result<Costs, Refusal> {
@@ -22,6 +22,16 @@ pub trait Planner {
     /// One plan's links as a part of the list.
     fn fetch<'l>(&self, list: &'l [u8], plan: u32) -> Result<&'l [u8], Refusal> {
         peer::fetch(list, plan)
+    }
+
+    /// The index of a plan list by first ceiling.
+    fn index(&self, list: &[u8], index: &mut [u8]) -> Result<(), Refusal> {
+        peer::index(list, index)
+    }
+
+    /// The cheapest plan whose first ceiling cost is at most a value.
+    fn index_lookup(&self, list: &[u8], index: &[u8], value: i16) -> Result<u16, Refusal> {
+        peer::index_lookup(list, index, value)
     }
 }
 
@@ -49,6 +59,14 @@ impl Planner for Archive {
 
     fn fetch<'l>(&self, list: &'l [u8], plan: u32) -> Result<&'l [u8], Refusal> {
         ranqustei::fetch(list, plan).map_err(refusal)
+    }
+
+    fn index(&self, list: &[u8], index: &mut [u8]) -> Result<(), Refusal> {
+        ranqustei::index(list, index).map_err(refusal)
+    }
+
+    fn index_lookup(&self, list: &[u8], index: &[u8], value: i16) -> Result<u16, Refusal> {
+        ranqustei::index_lookup(list, index, value).map_err(refusal)
     }
 }
 

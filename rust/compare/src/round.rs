@@ -1,7 +1,8 @@
 //! The calls made on one survey: judge, best, list, and fetch on the list.
 
 use crate::comparison::{Comparison, Difference};
-use crate::fetching::{fetch_calls, solved_count};
+use crate::fetching::fetch_calls;
+use crate::list_bytes::solved_count;
 use crate::rng::Rng;
 use peer::plan_list;
 use peer::survey::{Yard, MAX_LINKS};
@@ -10,8 +11,8 @@ use peer::walk::Positions;
 /// How many trees of a survey are drawn, each in several variants.
 const DRAWN_TREES: usize = 6;
 
-/// Makes all calls on a legal survey.
-pub fn all_calls(c: &mut Comparison, survey: &[u8], rng: &mut Rng) -> Result<(), Difference> {
+/// Makes all calls on a legal survey; gives its list.
+pub fn all_calls(c: &mut Comparison, survey: &[u8], rng: &mut Rng) -> Result<Vec<u8>, Difference> {
     let yard = Yard::read(survey).map_err(|refusal| Difference {
         call: "the peer's reader".into(),
         replies: ["meant to be legal".into(), format!("{refusal:?}")],
@@ -19,7 +20,8 @@ pub fn all_calls(c: &mut Comparison, survey: &[u8], rng: &mut Rng) -> Result<(),
     let list = list_calls(c, survey, &yard, rng)?;
     fetch_calls(c, &list, rng)?;
     let trees = best_calls(c, survey, &yard, rng)?;
-    judge_calls(c, survey, &yard, trees, rng)
+    judge_calls(c, survey, &yard, trees, rng)?;
+    Ok(list)
 }
 
 /// Makes one call of each kind that takes a survey, with any arguments.

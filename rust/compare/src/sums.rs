@@ -3,7 +3,7 @@
 use crate::draft::sum_bytes;
 use peer::link_set::LinkSet;
 use peer::survey::{Yard, MAX_LINKS};
-use peer::Refusal;
+use peer::{Costs, Refusal};
 
 /// The lowest legal sum cost of a link.
 pub const LOWEST: i32 = -1_000_000;
@@ -94,8 +94,9 @@ impl SumTally {
     }
 
     /// Counts the sums of a list's plans.
-    pub fn count_list(&mut self, sums: &[i32]) {
-        let is_across = sums.iter().any(|&sum| sum < 0) && sums.iter().any(|&sum| sum >= 0);
+    pub fn count_list(&mut self, plans: &[Costs]) {
+        let is_across =
+            plans.iter().any(|plan| plan.sum < 0) && plans.iter().any(|plan| plan.sum >= 0);
         self.across += u64::from(is_across);
     }
 

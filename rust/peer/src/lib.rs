@@ -1,5 +1,5 @@
-//! An independent planner: the four calls of document 01, with the requests of document 02, in
-//! plain Rust.
+//! An independent planner: the calls of document 01, with the requests of document 02, in plain
+//! Rust.
 //!
 //! It is written from the documents alone and shares nothing with the proved planner, so that
 //! the two can be held against each other. `walk` answers for any yard, `listing` by
@@ -11,6 +11,7 @@ pub mod kruskal;
 pub mod link_set;
 pub mod listing;
 pub mod plan;
+mod plan_index;
 pub mod plan_list;
 pub mod records;
 mod reply;
@@ -20,6 +21,7 @@ pub mod walk;
 use kruskal::{Groups, Solver};
 use link_set::LinkSet;
 use plan::Plan;
+pub use plan_index::{index, index_lookup};
 pub use plan_list::fetch;
 pub use reply::{Costs, Refusal};
 use survey::Yard;

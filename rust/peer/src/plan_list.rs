@@ -1,16 +1,23 @@
-//! The bytes of plan lists: need, writer, and fetching one plan.
+//! The bytes of plan lists: need, writer, reader, and fetching one plan.
 
 use crate::plan::Plan;
-use crate::reply::Refusal;
+use crate::reply::{Costs, Refusal};
 use crate::survey::{Yard, MAX_STATIONS};
+use std::slice::ChunksExact;
 
-const HEAD_MARK: [u8; 2] = [0x50, 0x48];
-const PLAN_MARK: [u8; 2] = [0x50, 0x4c];
-const HEAD_BYTES: usize = 10;
+/// The mark of a list head.
+pub const HEAD_MARK: [u8; 2] = [0x50, 0x48];
+/// The mark of a plan.
+pub const PLAN_MARK: [u8; 2] = [0x50, 0x4c];
+/// How many bytes a list head has.
+pub const HEAD_BYTES: usize = 10;
 /// The bytes of a plan before its link numbers.
-const PLAN_COSTS_BYTES: usize = 10;
+pub const PLAN_COSTS_BYTES: usize = 10;
 /// The most plans of a list.
-const MAX_PLANS: usize = 1600;
+pub const MAX_PLANS: usize = 1600;
+
+/// The refusal of a damaged list.
+const DAMAGED: Refusal = Refusal::whole(12);
 
 /// How many bytes a list buffer needs for a walk of that many positions.
 pub fn need(positions: usize, tree_len: usize) -> usize {
@@ -41,27 +48,60 @@ fn write_plan(record: &mut [u8], plan: &Plan) {
     plan.tree.write(&mut record[10..]);
 }
 
+/// The plans of a list, as bytes.
+pub struct Records<'l> {
+    /// How many ceilings are present.
+    pub ceilings: u8,
+    bytes: &'l [u8],
+    plan_bytes: usize,
+}
+
+impl<'l> Records<'l> {
+    /// The plans of a list whose head and length are right. Their marks are not looked at.
+    pub fn read(list: &'l [u8]) -> Result<Records<'l>, Refusal> {
+        let (head, rest) = list.split_first_chunk::<HEAD_BYTES>().ok_or(DAMAGED)?;
+        let [mark @ .., count0, count1, _, _, _, _, tree_len, ceilings] = *head;
+        let count = usize::from(u16::from_le_bytes([count0, count1]));
+        let plan_bytes = PLAN_COSTS_BYTES + usize::from(tree_len);
+        if mark != HEAD_MARK
+            || count > MAX_PLANS
+            || usize::from(tree_len) >= MAX_STATIONS
+            || ceilings > 2
+        {
+            return Err(DAMAGED);
+        }
+        Ok(Records {
+            ceilings,
+            bytes: rest.get(..count * plan_bytes).ok_or(DAMAGED)?,
+            plan_bytes,
+        })
+    }
+
+    /// The plans by rising number.
+    pub fn iter(&self) -> ChunksExact<'l, u8> {
+        self.bytes.chunks_exact(self.plan_bytes)
+    }
+}
+
+/// The costs and the link numbers of a plan.
+pub fn read_plan(record: &[u8]) -> Result<(Costs, &[u8]), Refusal> {
+    let (front, links) = record
+        .split_first_chunk::<PLAN_COSTS_BYTES>()
+        .ok_or(DAMAGED)?;
+    let [mark @ .., s0, s1, s2, s3, a0, a1, b0, b1] = *front;
+    if mark != PLAN_MARK {
+        return Err(DAMAGED);
+    }
+    let costs = Costs {
+        sum: i32::from_le_bytes([s0, s1, s2, s3]),
+        ceilings: [[a0, a1], [b0, b1]].map(i16::from_le_bytes),
+    };
+    Ok((costs, links))
+}
+
 /// The link numbers of plan `plan`, as a part of the list.
 pub fn fetch(list: &[u8], plan: u32) -> Result<&[u8], Refusal> {
-    let damaged = Refusal::whole(12);
-    let (head, records) = list.split_first_chunk::<HEAD_BYTES>().ok_or(damaged)?;
-    let [mark @ .., count0, count1, _, _, _, _, tree_len, ceilings] = *head;
-    let count = usize::from(u16::from_le_bytes([count0, count1]));
-    let plan_bytes = PLAN_COSTS_BYTES + usize::from(tree_len);
-    if mark != HEAD_MARK
-        || count > MAX_PLANS
-        || usize::from(tree_len) >= MAX_STATIONS
-        || ceilings > 2
-        || records.len() < count * plan_bytes
-    {
-        return Err(damaged);
-    }
-    let record = records[..count * plan_bytes]
-        .chunks_exact(plan_bytes)
-        .nth(plan as usize)
-        .ok_or(Refusal::whole(13))?;
-    if record[..2] != PLAN_MARK {
-        return Err(damaged);
-    }
-    Ok(&record[PLAN_COSTS_BYTES..])
+    let mut records = Records::read(list)?.iter();
+    let record = records.nth(plan as usize).ok_or(Refusal::whole(13))?;
+    read_plan(record).map(|(_, links)| links)
 }

@@ -5,9 +5,10 @@
 #![allow(unsafe_code)]
 
 /// The version of what is declared here; [`ranqustei_version`] is the archive's own.
-pub const VERSION: u32 = 3;
+pub const VERSION: u32 = 4;
 
-/// The reply of the list call: number 0 and place 0, or the refusal and its place.
+/// The reply of the list call and of the index call: number 0 and place 0, or the refusal and its
+/// place.
 #[repr(C)]
 #[derive(Clone, Copy, PartialEq, Eq, Debug)]
 pub struct Status {
@@ -45,6 +46,19 @@ pub struct Part {
     pub start: usize,
     /// The bytes of the part.
     pub count: usize,
+}
+
+/// The reply of a lookup: number 0, place 0 and the number of a plan, or the refusal and its place
+/// with plan 0.
+#[repr(C)]
+#[derive(Clone, Copy, PartialEq, Eq, Debug)]
+pub struct Found {
+    /// The number.
+    pub number: u8,
+    /// The place.
+    pub place: u8,
+    /// The number of the plan.
+    pub plan: u16,
 }
 
 unsafe extern "C" {
@@ -92,4 +106,27 @@ unsafe extern "C" {
     /// # Safety
     /// The pointer points to as many bytes as its length says.
     pub unsafe fn ranqustei_fetch(list: *const u8, list_length: usize, r: u32) -> Part;
+
+    /// The index of a plan list.
+    ///
+    /// # Safety
+    /// Each pointer points to as many bytes as its length says; `index` overlaps nothing else.
+    pub unsafe fn ranqustei_index(
+        list: *const u8,
+        list_length: usize,
+        index: *mut u8,
+        index_length: usize,
+    ) -> Status;
+
+    /// The number of the cheapest plan whose first ceiling cost is at most a value.
+    ///
+    /// # Safety
+    /// Each pointer points to as many bytes as its length says.
+    pub unsafe fn ranqustei_index_lookup(
+        list: *const u8,
+        list_length: usize,
+        index: *const u8,
+        index_length: usize,
+        value: i16,
+    ) -> Found;
 }

@@ -2,7 +2,10 @@
 
 use crate::refusal::{Refusal, DAMAGED};
 use crate::Costs;
-use ranqustei_sys::{ranqustei_best, ranqustei_fetch, ranqustei_judge, ranqustei_list, Reply};
+use ranqustei_sys::{
+    ranqustei_best, ranqustei_fetch, ranqustei_index, ranqustei_index_lookup, ranqustei_judge,
+    ranqustei_list, Reply,
+};
 
 /// Nothing for number 0, else the refusal.
 fn settle(number: u8, place: u8) -> Result<(), Refusal> {
@@ -88,4 +91,43 @@ pub fn fetch(list: &[u8], plan: u32) -> Result<&[u8], Refusal> {
     list.get(part.start..)
         .and_then(|rest| rest.get(..part.count))
         .ok_or(DAMAGED)
+}
+
+/// Writes the index of a plan list into the front of `index`: the number of each plan, two bytes,
+/// low byte first, by rising first ceiling cost, then sum, second ceiling cost and plan number; in
+/// a list without ceilings by sum and plan number. The bytes after it stay. 3,200 bytes are always
+/// enough.
+///
+/// # Errors
+/// 12 if the list is damaged, in any of its plans; 16 if `index` is below 2 bytes for each plan;
+/// place 0. `index` then stays as it was.
+pub fn index(list: &[u8], index: &mut [u8]) -> Result<(), Refusal> {
+    // SAFETY: each pointer is that of a live slice and goes with its length. `index` is borrowed
+    // for writing, so that it does not overlap the list.
+    let status =
+        unsafe { ranqustei_index(list.as_ptr(), list.len(), index.as_mut_ptr(), index.len()) };
+    settle(status.number, status.place)
+}
+
+/// Looks up the cheapest plan whose first ceiling cost is at most `value`: its number, the lowest
+/// of those with the least sum. In a list without ceilings every plan meets every value. Bytes
+/// after the index do not matter.
+///
+/// # Errors
+/// 12 and 16 as [`index`] has them; then 12 if `index` is not the index of the list, 13 if no plan
+/// meets the value; place 0.
+pub fn index_lookup(list: &[u8], index: &[u8], value: i16) -> Result<u16, Refusal> {
+    // SAFETY: each pointer is that of a live slice and goes with its length. The call only reads,
+    // so that it does no harm if the two overlap.
+    let found = unsafe {
+        ranqustei_index_lookup(
+            list.as_ptr(),
+            list.len(),
+            index.as_ptr(),
+            index.len(),
+            value,
+        )
+    };
+    settle(found.number, found.place)?;
+    Ok(found.plan)
 }

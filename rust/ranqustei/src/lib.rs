@@ -1,8 +1,8 @@
 //! The planner of the radio links of bee yards, for Rust callers.
 //!
-//! The planner itself is proved and comes as an archive. [`judge`], [`best`], [`list`] and
-//! [`fetch`] are its calls on bytes: they allocate nothing and take any bytes. [`Yard`],
-//! [`Survey`], [`Plan`] and [`PlanList`] are the same calls on figures.
+//! The planner itself is proved and comes as an archive. [`judge`], [`best`], [`list`], [`fetch`],
+//! [`index`] and [`index_lookup`] are its calls on bytes: they allocate nothing and take any bytes.
+//! [`Yard`], [`Survey`], [`Plan`], [`PlanList`] and [`PlanIndex`] are the same calls on figures.
 //!
 //! A yard has stations and links between them. A plan is a tree: it connects all stations without
 //! a ring. Its sum is taken over its links, of which some may give charge back and count below 0;
@@ -25,6 +25,13 @@
 //! assert_eq!(lines, ["4 9 links 1 2", "7 7 links 0 1"]);
 //! assert_eq!(plans.solved(), 3);
 //!
+//! // The same plans by rising ceiling cost, and the cheapest up to a value of it.
+//! let index = plans.index()?;
+//! let numbers: Vec<u32> = index.iter().map(|(number, _)| number).collect();
+//! assert_eq!(numbers, [1, 0]);
+//! let (number, plan) = index.cheapest(8)?;
+//! assert_eq!((number, plan.to_string()), (1, "7 7 links 0 1".to_string()));
+//!
 //! // The best plan under a bound, or a plain none.
 //! assert_eq!(survey.best([8, 0])?.to_string(), "7 7 links 0 1");
 //! assert_eq!(survey.best([6, 0]).map_err(|refusal| refusal.cause()), Err(Cause::NoTree));
@@ -45,6 +52,10 @@
 //! let mut buffer = [0; 46];
 //! ranqustei::list(survey, 3, &mut buffer)?;
 //! assert_eq!(ranqustei::fetch(&buffer, 1)?, [0, 1]);
+//! let mut index = [0; 4];
+//! ranqustei::index(&buffer, &mut index)?;
+//! assert_eq!(index, [1, 0, 0, 0]);
+//! assert_eq!(ranqustei::index_lookup(&buffer, &index, 8)?, 1);
 //! assert_eq!(ranqustei::judge(survey, &[0, 2])?.sum, 5);
 //! # Ok::<(), ranqustei::Refusal>(())
 //! ```
@@ -59,14 +70,16 @@
 #[allow(unsafe_code)]
 mod archive;
 mod plan;
+mod plan_index;
 mod plan_list;
 mod record;
 mod refusal;
 mod survey;
 mod yard;
 
-pub use archive::{best, fetch, judge, list};
+pub use archive::{best, fetch, index, index_lookup, judge, list};
 pub use plan::{Costs, Plan};
+pub use plan_index::PlanIndex;
 pub use plan_list::PlanList;
 pub use record::YardRecord;
 pub use refusal::{Cause, Refusal};

@@ -2,7 +2,7 @@
 
 use crate::record::{part, plan_len, HEAD_LEN};
 use crate::refusal::DAMAGED;
-use crate::{fetch, Cause, Costs, Plan, Refusal};
+use crate::{fetch, Cause, Costs, Plan, PlanIndex, Refusal};
 
 /// A list of plans: its bytes, all of whose plans can be fetched.
 #[derive(Clone, PartialEq, Eq, Debug)]
@@ -73,6 +73,14 @@ impl PlanList {
     /// The plans by rising number.
     pub fn iter(&self) -> impl Iterator<Item = Plan> + '_ {
         (0..self.len).filter_map(|plan| self.get(plan).ok())
+    }
+
+    /// The plans by rising first ceiling cost.
+    ///
+    /// # Errors
+    /// None is known: a list whose plans can all be fetched has an index.
+    pub fn index(&self) -> Result<PlanIndex<'_>, Refusal> {
+        PlanIndex::of(self)
     }
 
     /// The bytes of the list, without bytes after its last plan.

@@ -7,7 +7,7 @@ use std::fmt;
 #[derive(Clone, Copy, PartialEq, Eq, Debug)]
 #[non_exhaustive]
 pub struct Refusal {
-    /// The number of the cause, 1 to 15.
+    /// The number of the cause, 1 to 16.
     pub number: u8,
     /// 0 for the yard record or no record, else the link number plus 1.
     pub place: u8,
@@ -45,14 +45,16 @@ pub enum Cause {
     Allowance,
     /// 11: the drawn links are no tree of the yard.
     Drawn,
-    /// 12: the plan list is damaged.
+    /// 12: the plan list is damaged, or the index is not its own.
     Damaged,
-    /// 13: the list has no plan of this number.
+    /// 13: the list has no plan of this number, or none that meets the value.
     PlanNumber,
     /// 14: no tree fits the ceilings.
     NoTree,
     /// 15: the survey has more or fewer links than its yard record counts.
     LinkCount,
+    /// 16: the index has fewer than 2 bytes for each plan.
+    Index,
     /// A number that the planner never gives.
     Unknown(u8),
 }
@@ -76,6 +78,7 @@ impl Refusal {
             13 => Cause::PlanNumber,
             14 => Cause::NoTree,
             15 => Cause::LinkCount,
+            16 => Cause::Index,
             number => Cause::Unknown(number),
         }
     }
@@ -112,12 +115,13 @@ impl Cause {
                 "the drawn links are no tree of the yard: they must be one fewer than the stations, \
                  rising, in the survey, and without a ring"
             }
-            Cause::Damaged => "the plan list is damaged",
-            Cause::PlanNumber => "the list has no plan of this number",
+            Cause::Damaged => "the plan list is damaged, or the index is not its own",
+            Cause::PlanNumber => "the list has no such plan",
             Cause::NoTree => "no tree fits the ceilings",
             Cause::LinkCount => {
                 "the survey has more or fewer links than its yard record counts: it may be cut off"
             }
+            Cause::Index => "the index has fewer than 2 bytes for each plan",
             Cause::Unknown(_) => "refused for an unknown cause",
         }
     }
@@ -148,7 +152,7 @@ mod tests {
 
     #[test]
     fn numbers_that_the_planner_never_gives() {
-        for number in [0, 16, 255] {
+        for number in [0, 17, 255] {
             let refusal = Refusal { number, place: 2 };
             assert_eq!(refusal.cause(), Cause::Unknown(number));
             assert_eq!(

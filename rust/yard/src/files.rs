@@ -8,16 +8,32 @@ use std::fmt::Display;
 use std::fs::File;
 use std::io::{self, Read};
 
-/// More bytes than this are neither a yard nor a plan list.
+/// More bytes than this are no yard, no plan list and no index.
 const LONGEST: u64 = 1 << 20;
 
-/// The survey of a yard: a `.survey` file holds its bytes, any other name but `.list` its text.
+/// What is no yard: how its name ends, and what it is.
+struct Stored {
+    ending: &'static str,
+    what: &'static str,
+}
+
+const LIST: Stored = Stored {
+    ending: ".list",
+    what: "a plan list",
+};
+const INDEX: Stored = Stored {
+    ending: ".index",
+    what: "an index",
+};
+
+/// The survey of a yard: a `.survey` file holds its bytes, any other name its text; but no name of
+/// what is no yard.
 pub fn read_survey(name: &OsStr, input: &mut dyn Read) -> Result<Survey, Failure> {
-    if has_ending(name, ".list") {
-        return Err(named(
-            name,
-            "a yard is needed here, and this name is that of a plan list",
-        ));
+    for Stored { ending, what } in [LIST, INDEX] {
+        if has_ending(name, ending) {
+            let message = format!("a yard is needed here, and this name is that of {what}");
+            return Err(named(name, message));
+        }
     }
     let bytes = read(name, input)?;
     if has_ending(name, ".survey") {
@@ -31,10 +47,21 @@ pub fn read_survey(name: &OsStr, input: &mut dyn Read) -> Result<Survey, Failure
 
 /// The bytes of a plan list, from a `.list` file.
 pub fn read_list(name: &OsStr, input: &mut dyn Read) -> Result<Vec<u8>, Failure> {
-    if has_ending(name, ".list") {
+    read_stored(name, LIST, input)
+}
+
+/// The bytes of an index, from an `.index` file.
+pub fn read_index(name: &OsStr, input: &mut dyn Read) -> Result<Vec<u8>, Failure> {
+    read_stored(name, INDEX, input)
+}
+
+fn read_stored(name: &OsStr, stored: Stored, input: &mut dyn Read) -> Result<Vec<u8>, Failure> {
+    let Stored { ending, what } = stored;
+    if has_ending(name, ending) {
         read(name, input)
     } else {
-        Err(named(name, "the name of a plan list ends in .list"))
+        let message = format!("the name of {what} ends in {ending}");
+        Err(named(name, message))
     }
 }
 

@@ -2,7 +2,7 @@
 use mathlib.Core.Path.{_∙_}
 use mir.Syntax.{w16, w32}
 use mir.ValLaws.{toZ-ofZ}
-use Rattle.planlist_costs.specs.Held.{costsAt}
+use Rattle.network.specs.PlanList.{costsAt}
 use borrow.Author.Needs.{needs}
 use Rattle.planlist_costs.proofs.costs_at.Statement.{statement}
 use Rattle.planlist_costs.proofs.costs_at.Tie as tie

@@ -6,15 +6,15 @@ use Prim.Native.Nat.{ℕ, _+_, _*_, _-_, _≤_}
 use native.Mathlib.Omega.{arith}
 use lib.ListN.{length, take, drop, length-drop}
 use denote.Ref.{now}
-use Rattle.network.specs.PlanList.{planBytes, planSize, planSlots}
+use Rattle.network.specs.PlanList.{costsAt, planBytes, planSize, planSlots}
+use Rattle.encoding_overwrite.specs.Tail.{tail-back, tail-lent}
 use Rattle.planlist_records.specs.Blocks.{blocks, blocks-behind, take-blocks, drop-blocks, length-blocks, room-behind}
 use Rattle.planlist_records.specs.Records.{planRecords}
-use Rattle.planlist_costs.specs.Held.{costs-encoded, costsAt}
+use Rattle.planlist_costs.specs.Held.{costs-encoded}
 use Rattle.planlist_insertion.specs.Insertion.{coveredBy, insert-covered, insert-free, placeOf, prunedBy}
 use Rattle.planlist_insertion.specs.Level.{free-covered, free-place, pruned-behind}
 use Rattle.planlist_pruning.specs.Pruned.{prunedLevel}
 use borrow.Author.Needs.{needs}
-use Rattle.planlist_insertion.proofs.Tail.{tail-lent, tail-back}
 use Rattle.planlist_insertion.proofs.insert.Statement.{statement}
 use Rattle.planlist_insertion.proofs.insert.Tie as tie
 

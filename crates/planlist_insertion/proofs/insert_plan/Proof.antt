@@ -6,9 +6,9 @@ use lib.ListN.{length, take, drop}
 use lib.Seq.{length-take-le, drop-at}
 use denote.Ref.{now}
 use Rattle.network.specs.PlanList.{headSize}
+use Rattle.encoding_overwrite.specs.Tail.{tail-back, tail-lent}
 use Rattle.planlist_insertion.specs.Taken.{Insertable, Inserted}
 use borrow.Author.Needs.{needs}
-use Rattle.planlist_insertion.proofs.Tail.{tail-lent, tail-back}
 use Rattle.planlist_insertion.proofs.insert_plan.Statement.{statement}
 use Rattle.planlist_insertion.proofs.insert_plan.Tie as tie
 

@@ -12,11 +12,10 @@ use lib.Seq.{append-snoc}
 use lib.Signed.{leZ}
 use mir.Syntax.{w32}
 use denote.Ref.{now}
-use Rattle.network.specs.PlanList.{planSize, planSlots}
+use Rattle.network.specs.PlanList.{costsAt, planSize, planSlots}
 use Rattle.network.specs.declared.Costs.{Costs}
 use Rattle.planlist_records.specs.Blocks.{blocks, blocks-none, mul-step, blocks-joined, blocks-moved, behind-moved}
 use Rattle.planlist_costs.specs.Orders.{atMost}
-use Rattle.planlist_costs.specs.Held.{costsAt}
 use Rattle.encoding_compare.specs.Compared.{tested}
 use Rattle.planlist_pruning.specs.Pruned.{prunedLevel, pruned-turn, pruned-none}
 use borrow.Author.Needs.{needs}

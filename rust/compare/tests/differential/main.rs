@@ -1,19 +1,24 @@
 //! Holds the proved planner against the independent one, call by call and byte by byte.
 //!
-//! It runs all kinds of surveys, or with a seed as its argument the surveys of that seed alone.
+//! It runs all kinds of surveys and of hand-made lists, or with a seed as its argument those of
+//! that seed alone.
 
+mod lists;
 mod reached;
 mod report;
 
 use compare::by_listing::ByListing;
-use compare::comparison::{Comparison, Difference, Tally};
+use compare::comparison::{Comparison, Difference};
+use compare::indexing::index_calls;
 use compare::kinds::{Kind, KINDS};
 use compare::listed::is_listed;
 use compare::planner::{Archive, Peer};
 use compare::rng::Rng;
+use compare::tally::{Call, Tally};
+use lists::{compare_lists, with_list};
 use peer::survey::Yard;
-use reached::unreached;
-use report::{print_listed, print_numbers, print_records, print_row, print_sums};
+use reached::{unreached, unreached_lists, unreached_numbers};
+use report::{print_calls, print_indexes, print_listed, print_numbers, print_records, print_sums};
 use std::process::ExitCode;
 
 fn main() -> ExitCode {
@@ -21,7 +26,7 @@ fn main() -> ExitCode {
     match compare_all(seed) {
         Ok(missing) if seed.is_some() || missing.is_empty() => ExitCode::SUCCESS,
         Ok(missing) => {
-            println!("\nThe surveys do not reach: {}.", missing.join("; "));
+            println!("\nThe samples do not reach: {}.", missing.join("; "));
             ExitCode::FAILURE
         }
         Err(report) => {
@@ -33,8 +38,34 @@ fn main() -> ExitCode {
 
 /// Compares on all seeds, or on one; gives what was not reached.
 fn compare_all(seed: Option<u64>) -> Result<Vec<String>, String> {
-    println!("| kind | surveys | judge | best | list | fetch | bytes compared | differences |");
-    println!("|---|---|---|---|---|---|---|---|");
+    let surveys = compare_surveys(seed)?;
+    let total = sum(&surveys, |_| true);
+    print_calls("surveys", Call::Judge, &named(&surveys), &total);
+    print_listed(&surveys, &total);
+    print_sums(&surveys, &total);
+    print_records(&surveys, &total);
+    let [legal, damaged] =
+        [true, false].map(|legal| sum(&surveys, |kind| kind.is_legal() == legal));
+    println!(
+        "\n{} surveys: {} made legal and {} made damaged, of which {} are legal all the same.\n",
+        total.samples, legal.samples, damaged.samples, damaged.legal
+    );
+    let lists = compare_lists(seed)?;
+    let mut by_hand = Tally::default();
+    lists.iter().for_each(|(_, tally)| by_hand.add(tally));
+    print_calls("lists", Call::Index, &lists, &by_hand);
+    print_indexes(&total.indexes, &by_hand.indexes);
+    let mut all = total;
+    all.add(&by_hand);
+    print_numbers(&all);
+    let mut missing = unreached(&surveys, &total);
+    missing.extend(unreached_lists(&by_hand.indexes));
+    missing.extend(unreached_numbers(&all));
+    Ok(missing)
+}
+
+/// Compares on the surveys of all seeds, or of one.
+fn compare_surveys(seed: Option<u64>) -> Result<Vec<(&'static Kind, Tally)>, String> {
     let mut tallies = Vec::new();
     for kind in &KINDS {
         let mut tally = Tally::default();
@@ -42,28 +73,21 @@ fn compare_all(seed: Option<u64>) -> Result<Vec<String>, String> {
         for seed in seeds.filter(|&each| seed.is_none_or(|seed| seed == each)) {
             compare_seed(kind, seed, &mut tally)?;
         }
-        print_row(kind.name, &tally);
         tallies.push((kind, tally));
     }
-    let total = sum(tallies.iter());
-    print_row("all", &total);
-    print_listed(&tallies, &total);
-    print_sums(&tallies, &total);
-    print_records(&tallies, &total);
-    print_numbers(&total);
-    let legal = sum(tallies.iter().filter(|(kind, _)| kind.is_legal()));
-    let damaged = sum(tallies.iter().filter(|(kind, _)| !kind.is_legal()));
-    println!(
-        "\n{} surveys: {} made legal and {} made damaged, of which {} are legal all the same.",
-        total.surveys, legal.surveys, damaged.surveys, damaged.legal
-    );
-    Ok(unreached(&tallies, &total))
+    Ok(tallies)
 }
 
-fn sum<'a>(tallies: impl Iterator<Item = &'a (&'a Kind, Tally)>) -> Tally {
+fn sum(tallies: &[(&Kind, Tally)], chosen: impl Fn(&Kind) -> bool) -> Tally {
     let mut sum = Tally::default();
-    tallies.for_each(|(_, tally)| sum.add(tally));
+    let chosen = tallies.iter().filter(|(kind, _)| chosen(kind));
+    chosen.for_each(|(_, tally)| sum.add(tally));
     sum
+}
+
+fn named(tallies: &[(&'static Kind, Tally)]) -> Vec<(&'static str, Tally)> {
+    let rows = tallies.iter();
+    rows.map(|(kind, tally)| (kind.name, *tally)).collect()
 }
 
 /// Compares on the surveys of a seed; a difference is reported with all it takes to repeat it.
@@ -79,7 +103,7 @@ fn compare_seed(kind: &Kind, seed: u64, tally: &mut Tally) -> Result<(), String>
         if survey != before {
             return Err(report(format!("the survey became {survey:02x?}")));
         }
-        tally.surveys += 1;
+        tally.samples += 1;
     }
     Ok(())
 }
@@ -91,7 +115,10 @@ fn compare_survey(
     rng: &mut Rng,
     tally: &mut Tally,
 ) -> Result<(), Difference> {
-    kind.calls(&mut Comparison::new(&Archive, &Peer, tally), survey, rng)?;
+    let mut comparison = Comparison::new(&Archive, &Peer, tally);
+    if let Some(list) = kind.calls(&mut comparison, survey, rng)? {
+        with_list(list, |list| index_calls(&mut comparison, list, rng))?;
+    }
     let yard = match Yard::read(survey) {
         Ok(yard) => yard,
         Err(refusal) => {

@@ -1,22 +1,20 @@
-//! What the surveys have to reach, so that agreement on them means something.
+//! What the surveys and lists have to reach, so that agreement on them means something.
 
-use compare::comparison::Tally;
+use compare::index_damage::INDEX_DAMAGES;
+use compare::index_tally::{IndexTally, LIST_SORTS};
 use compare::kinds::Kind;
+use compare::list_damage::LIST_DAMAGES;
 use compare::records::marks;
 use compare::sums::{OUTSIDE, SORTS};
+use compare::tally::{Tally, CALLS};
 
-/// What was not reached.
+/// What the surveys did not reach.
 pub fn unreached(tallies: &[(&Kind, Tally)], total: &Tally) -> Vec<String> {
     let legal = tallies.iter().filter(|(kind, _)| kind.is_legal());
     let mut missing: Vec<String> = Vec::new();
     for (kind, tally) in legal.clone() {
         missing.extend(unreached_sorts(kind, tally));
         missing.extend(unreached_records(kind, tally));
-    }
-    for (number, &calls) in total.numbers.iter().enumerate() {
-        if calls == 0 {
-            missing.push(format!("the reply {number}"));
-        }
     }
     for (sum, refused) in OUTSIDE.iter().zip(&total.sums.refused) {
         if !refused.is_everywhere() {
@@ -51,4 +49,36 @@ fn unreached_records(kind: &Kind, tally: &Tally) -> Vec<String> {
     lacking
         .map(|(mark, _)| format!("yard record {mark} in {}", kind.name))
         .collect()
+}
+
+/// What the hand-made lists did not reach.
+pub fn unreached_lists(tally: &IndexTally) -> Vec<String> {
+    let sorts = LIST_SORTS.iter().zip(tally.sorts);
+    let sorts = sorts.map(|((name, _), count)| (format!("a list with {name}"), count));
+    let lists = LIST_DAMAGES.iter().zip(tally.list_damages);
+    let lists = lists.map(|((name, _), count)| (format!("a list refused for {name}"), count));
+    let indexes = INDEX_DAMAGES.iter().zip(tally.index_damages);
+    let indexes = indexes.map(|((name, _), count)| (format!("an index refused for {name}"), count));
+    let others = [
+        ("lists with every t", u64::from(tally.has_every_tree_len())),
+        (
+            "the earliest of equal sums, later in the index",
+            tally.later_in_index,
+        ),
+    ];
+    let others = others.map(|(name, count)| (name.to_string(), count));
+    let all = sorts.chain(lists).chain(indexes).chain(others);
+    all.filter(|(_, count)| *count == 0)
+        .map(|(name, _)| name)
+        .collect()
+}
+
+/// The numbers that some call did not reply with, though it can.
+pub fn unreached_numbers(total: &Tally) -> Vec<String> {
+    let mut missing = Vec::new();
+    for ((name, numbers), replies) in CALLS.iter().zip(&total.replies) {
+        let lacking = numbers.iter().filter(|&&number| replies[number] == 0);
+        missing.extend(lacking.map(|number| format!("the reply {number} to {name}")));
+    }
+    missing
 }

@@ -1,15 +1,26 @@
 //! The tables of what was compared.
 
-use compare::comparison::Tally;
+use compare::index_damage::INDEX_DAMAGES;
+use compare::index_tally::{IndexTally, LIST_SORTS};
 use compare::kinds::Kind;
+use compare::list_damage::LIST_DAMAGES;
 use compare::records::marks;
 use compare::sums::{OUTSIDE, SORTS};
+use compare::tally::{Call, Tally, CALLS, NUMBERS};
 
-/// A row of the table of calls.
-pub fn print_row(name: &str, tally: &Tally) {
-    let [judge, best, list, fetch] = tally.calls;
-    let (surveys, bytes) = (tally.surveys, tally.bytes);
-    println!("| {name} | {surveys} | {judge} | {best} | {list} | {fetch} | {bytes} | 0 |");
+/// How often each call was made on each kind of surveys or lists, from one call on.
+pub fn print_calls(samples: &str, first: Call, tallies: &[(&str, Tally)], total: &Tally) {
+    let calls = &CALLS[first as usize..];
+    let names: Vec<&str> = calls.iter().map(|(name, _)| *name).collect();
+    let columns = names.join(" | ");
+    println!("| kind | {samples} | {columns} | bytes compared | differences |");
+    println!("|---|---|{}---|---|", "---|".repeat(names.len()));
+    for (name, tally) in tallies.iter().chain([&("all", *total)]) {
+        let counts = tally.calls().map(|count| count.to_string());
+        let counts = counts[first as usize..].join(" | ");
+        let (samples, bytes) = (tally.samples, tally.bytes);
+        println!("| {name} | {samples} | {counts} | {bytes} | 0 |");
+    }
 }
 
 /// The yards that were held against a listing of all trees too.
@@ -67,10 +78,33 @@ pub fn print_records(tallies: &[(&Kind, Tally)], total: &Tally) {
     );
 }
 
-/// How often each number was replied.
+/// The lists that were indexed, those of list calls and those made by hand, and what was refused.
+pub fn print_indexes(listed: &IndexTally, by_hand: &IndexTally) {
+    println!("\n| lists indexed | of list calls | by hand |\n|---|---|---|");
+    println!("| all | {} | {} |", listed.lists, by_hand.lists);
+    let sorts = LIST_SORTS.iter().zip(listed.sorts).zip(by_hand.sorts);
+    for (((name, _), listed), by_hand) in sorts {
+        println!("| {name} | {listed} | {by_hand} |");
+    }
+    println!("\n| refused by 12 for | of list calls | by hand |\n|---|---|---|");
+    let names = LIST_DAMAGES.iter().map(|(name, _)| name);
+    let names = names.chain(INDEX_DAMAGES.iter().map(|(name, _)| name));
+    let [listed, by_hand] = [listed, by_hand].map(|tally| {
+        let damages = tally.list_damages.into_iter().chain(tally.index_damages);
+        damages.collect::<Vec<_>>()
+    });
+    for ((name, listed), by_hand) in names.zip(listed).zip(by_hand) {
+        println!("| {name} | {listed} | {by_hand} |");
+    }
+}
+
+/// How often each number was replied to each call.
 pub fn print_numbers(total: &Tally) {
-    println!("\n| number replied | calls |\n|---|---|");
-    for (number, calls) in total.numbers.iter().enumerate() {
-        println!("| {number} | {calls} |");
+    let names = CALLS.map(|(name, _)| name).join(" | ");
+    println!("\n| number replied to | {names} |");
+    println!("|---|{}", "---|".repeat(CALLS.len()));
+    for number in 0..NUMBERS {
+        let counts = total.replies.map(|numbers| numbers[number].to_string());
+        println!("| {number} | {} |", counts.join(" | "));
     }
 }

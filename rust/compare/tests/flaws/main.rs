@@ -2,7 +2,11 @@
 //! that the proved planner is held to.
 
 mod any_yard;
+mod indexes;
 mod link_counts;
+mod lookups;
+mod on_lists;
+mod orders;
 mod reading;
 mod signed_sums;
 mod two_ranks;
@@ -11,11 +15,12 @@ use any_yard::{
     AllSolved, ClearedTail, DifferentValues, KeptTail, LastTree, NoExceptions, NoPlace,
     NumberFirst, OtherPlace, OverAllowance, Stale, Walking,
 };
-use compare::comparison::{Comparison, Tally};
+use compare::comparison::Comparison;
 use compare::kinds::{Kind, KINDS};
 use compare::planner::{Peer, Planner};
 use compare::rng::Rng;
 use compare::sums::LOWEST;
+use compare::tally::Tally;
 use link_counts::{is_counted, is_known, recounting, ClearedByCount};
 use reading::{refusing, Reading};
 use signed_sums::{misreading, none_below_0, Pruning, UnsignedOrder};

@@ -2,7 +2,7 @@
 
 use crate::random::Random;
 use crate::samples::{bytes_a, bytes_of, yard_a, RECORDS};
-use ranqustei::{best, fetch, judge, list, Link, PlanList, Survey, Yard};
+use ranqustei::{best, fetch, index, index_lookup, judge, list, Link, PlanList, Survey, Yard};
 
 /// Puts a survey to every call.
 fn ask(survey: Vec<u8>, random: &mut Random) {
@@ -29,6 +29,10 @@ fn ask(survey: Vec<u8>, random: &mut Random) {
                 .iter()
                 .all(|plan| survey.judge(&plan.links) == Ok(plan)));
             assert_eq!(survey.best([i16::MAX; 2]).is_err(), plans.is_empty());
+            let index = plans.index().expect("a list has an index");
+            let looked_up = index.cheapest(bounds[0]).map(|(_, plan)| plan.costs.sum);
+            let solved = survey.best([bounds[0], i16::MAX]);
+            assert_eq!(solved.map(|plan| plan.costs.sum).ok(), looked_up.ok());
         }
     }
 }
@@ -56,6 +60,30 @@ fn surveys_with_a_few_bytes_changed() {
     }
 }
 
+/// Puts a plan list to every call.
+fn ask_of_list(list: Vec<u8>, random: &mut Random) {
+    let plan = random.below(4) as u32;
+    let fetched = fetch(&list, plan).map(<[u8]>::to_vec);
+    let mut buffer = vec![0; random.below(12)];
+    let indexed = index(&list, &mut buffer);
+    let looked_up = index_lookup(&list, &buffer, i16::MAX);
+    match PlanList::from_bytes(list) {
+        Err(refusal) => {
+            assert_eq!(
+                (refusal.number, indexed.err(), looked_up.err()),
+                (12, Some(refusal), Some(refusal))
+            );
+        }
+        Ok(plans) => {
+            assert_eq!(plans.get(plan).map(|plan| plan.links), fetched);
+            assert_eq!(plans.iter().count(), plans.len() as usize);
+            assert_eq!(indexed.is_ok(), buffer.len() >= 2 * plans.len() as usize);
+            assert_eq!(looked_up.is_ok(), indexed.is_ok() && !plans.is_empty());
+            assert!(plans.index().is_ok());
+        }
+    }
+}
+
 #[test]
 fn any_bytes_are_a_plan_list_or_refused() {
     let mut random = Random(3);
@@ -74,12 +102,7 @@ fn any_bytes_are_a_plan_list_or_refused() {
                 *byte = random.below(256) as u8;
             }
         }
-        let plan = random.below(4) as u32;
-        let fetched = fetch(&bytes, plan).map(<[u8]>::to_vec);
-        if let Ok(plans) = PlanList::from_bytes(bytes) {
-            assert_eq!(plans.get(plan).map(|plan| plan.links), fetched);
-            assert_eq!(plans.iter().count(), plans.len() as usize);
-        }
+        ask_of_list(bytes, &mut random);
     }
 }
 

@@ -2,6 +2,8 @@
 
 mod any_bytes;
 mod counted;
+mod index;
+mod index_order;
 mod random;
 mod refusals;
 mod samples;

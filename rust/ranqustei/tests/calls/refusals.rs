@@ -1,7 +1,9 @@
 //! Every refusal number: its call, its place, its cause and its sentence.
 
 use crate::samples::{bytes_a, bytes_of, told, yard_a};
-use ranqustei::{best, fetch, judge, list, Cause, Refusal, YardError, YardRecord};
+use ranqustei::{
+    best, fetch, index, index_lookup, judge, list, Cause, Refusal, YardError, YardRecord,
+};
 
 /// Holds a refusal against what document 01 and the sentences say.
 fn check(refusal: Option<Refusal>, number: u8, place: u8, cause: Cause, sentence: &str) {
@@ -190,7 +192,7 @@ fn plan_lists() {
             12,
             0,
             Cause::Damaged,
-            "the plan list is damaged",
+            "the plan list is damaged, or the index is not its own",
         );
     };
     check(
@@ -198,11 +200,43 @@ fn plan_lists() {
         13,
         0,
         Cause::PlanNumber,
-        "the list has no plan of this number",
+        "the list has no such plan",
     );
     damaged(&stored[..33], 0);
     damaged(&[], 0);
     stored[22] = 0;
     assert_eq!(fetch(&stored, 0), Ok(&[1, 2][..]));
     damaged(&stored, 1);
+}
+
+#[test]
+fn indexes() {
+    let mut stored = [0; 46];
+    assert_eq!(list(&bytes_a(), 3, &mut stored), Ok(()));
+    let short = "the index has fewer than 2 bytes for each plan";
+    let mut buffer = [7; 3];
+    check(
+        index(&stored, &mut buffer).err(),
+        16,
+        0,
+        Cause::Index,
+        short,
+    );
+    assert_eq!(buffer, [7; 3]);
+    let look_up = |index: &[u8], value| index_lookup(&stored, index, value).err();
+    check(look_up(&[1, 0, 0], 9), 16, 0, Cause::Index, short);
+    check(
+        look_up(&[0, 0, 1, 0], 9),
+        12,
+        0,
+        Cause::Damaged,
+        "the plan list is damaged, or the index is not its own",
+    );
+    check(
+        look_up(&[1, 0, 0, 0], 6),
+        13,
+        0,
+        Cause::PlanNumber,
+        "the list has no such plan",
+    );
 }

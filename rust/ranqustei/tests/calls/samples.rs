@@ -52,6 +52,21 @@ pub fn largest() -> Yard {
     yard
 }
 
+/// The bytes of a plan list of this t and p, whoever made it: each plan with its sum and both
+/// ceiling costs, and with 0 for every link.
+pub fn list_of(t: u8, p: u8, plans: &[(i32, i16, i16)]) -> Vec<u8> {
+    let [low, high] = (plans.len() as u16).to_le_bytes();
+    let mut bytes = vec![b'P', b'H', low, high, 0, 0, 0, 0, t, p];
+    for (sum, y1, y2) in plans {
+        bytes.extend(b"PL");
+        bytes.extend(sum.to_le_bytes());
+        bytes.extend(y1.to_le_bytes());
+        bytes.extend(y2.to_le_bytes());
+        bytes.extend(vec![0; usize::from(t)]);
+    }
+    bytes
+}
+
 /// A refusal's number and place.
 pub fn told(refusal: Refusal) -> (u8, u8) {
     (refusal.number, refusal.place)

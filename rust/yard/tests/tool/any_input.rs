@@ -3,8 +3,9 @@
 use crate::random::Random;
 use crate::tool::{run_bytes, scratch, text_a};
 
-const COMMANDS: [&str; 9] = [
-    "plans", "best", "judge", "text", "survey", "list", "fetch", "draw", "frontier",
+const COMMANDS: [&str; 11] = [
+    "plans", "best", "judge", "text", "survey", "list", "fetch", "index", "cheapest", "draw",
+    "frontier",
 ];
 const WORDS: [&str; 20] = [
     "stations", "ceilings", "0", "1", "2", "3", "24", "-1", "255", "1000001", "-1000000",
@@ -57,7 +58,7 @@ fn any_words() {
     let text = text_a();
     let words = [
         "-o", "--plan", "--record", "plain", "counted", "-", "0", "1", "-5", "300", "help", "",
-        "--", "–", "x.list", "x.survey",
+        "--", "–", "x.list", "x.index", "x.survey",
     ];
     for _ in 0..4_000 {
         let command = COMMANDS[random.below(COMMANDS.len())];
@@ -86,5 +87,24 @@ fn any_bytes_in_files() {
             answers(&[command, &survey], b"");
         }
         answers(&["fetch", &list, "0"], b"");
+        answers(&["index", &list], b"");
     }
+}
+
+#[test]
+fn any_bytes_in_lists_and_indexes() {
+    let mut random = Random(9);
+    let good = run_bytes(&["list", "-"], text_a()).expect("survey A lists");
+    let mut answered = 0;
+    for _ in 0..600 {
+        let mut bytes = good.clone();
+        let at = random.below(bytes.len());
+        bytes[at] = random.below(16) as u8;
+        let list = scratch("changed.list", &bytes);
+        let index = (0..random.below(6)).map(|_| random.below(2) as u8);
+        let index = scratch("any.index", index.collect::<Vec<u8>>());
+        answers(&["index", &list], b"");
+        answered += usize::from(answers(&["cheapest", &list, &index, "9"], b""));
+    }
+    assert!(answered > 5);
 }

@@ -70,7 +70,7 @@ fn a_list_is_stored_and_its_plans_fetched() {
     let file = scratch("fetched.list", &list);
     assert_eq!(run(&["fetch", &file, "0"], ""), Ok("1 2\n".to_string()));
     assert_eq!(run(&["fetch", &file, "1"], ""), Ok("0 1\n".to_string()));
-    let none = format!("{file}: the list has no plan of this number (number 13, place 0)");
+    let none = format!("{file}: the list has no such plan (number 13, place 0)");
     assert_eq!(run(&["fetch", &file, "2"], ""), refused(&none));
     let short = scratch("short.list", &list[..33]);
     let damaged = format!("{short}: the plan list is damaged (number 12, place 0)");
@@ -102,9 +102,13 @@ fn every_command_answers_on_every_example() {
         let plans = run(&["plans", &name], "").expect("an example lists");
         let list = run_bytes(&["list", &name], "").expect("an example lists");
         let list = scratch("example.list", list);
+        let index = run_bytes(&["index", &list], "").expect("a list has an index");
+        let index = scratch("example.index", index);
         assert!(run(&["draw", &name], "").is_ok(), "{name}");
         let first = run(&["fetch", &list, "0"], "");
         assert_eq!(first.is_ok(), !plans.starts_with("0 plans"), "{name}");
+        let cheapest = run(&["cheapest", &list, &index, "32767"], "");
+        assert_eq!(cheapest.is_ok(), first.is_ok(), "{name}");
         let Ok(first) = first else { continue };
         let links: Vec<&str> = first.split_whitespace().collect();
         assert!(
@@ -137,18 +141,19 @@ fn yards_without_a_frontier() {
         run(&["frontier", "-"], "stations 2 ceilings 1"),
         refused(no_tree)
     );
-    let no_plan = "standard input: the list has no plan of this number (number 13, place 0)";
+    let no_plan = "standard input: the list has no such plan (number 13, place 0)";
     assert_eq!(on_a("draw", &["--plan", "2"]), refused(no_plan));
 }
 
 #[test]
 fn files_that_are_not_what_a_command_needs() {
-    let list = scratch("needs.list", "");
     for command in [
         "plans", "best", "judge", "text", "survey", "list", "draw", "frontier",
     ] {
-        let needs = format!("{list}: a yard is needed here, and this name is that of a plan list");
-        assert_eq!(run(&[command, &list], ""), refused(&needs));
+        for (name, what) in [("needs.list", "a plan list"), ("needs.index", "an index")] {
+            let needs = format!("{name}: a yard is needed here, and this name is that of {what}");
+            assert_eq!(run(&[command, name], ""), refused(&needs));
+        }
         let missing = run(&[command, "no/such.txt"], "").expect_err("there is no such file");
         assert_eq!(
             (missing.0, missing.1.starts_with("no/such.txt: ")),
@@ -211,6 +216,8 @@ fn yard_records_are_for_surveys_alone() {
         &["text", "-"],
         &["list", "-"],
         &["fetch", "a.list", "0"],
+        &["index", "a.list"],
+        &["cheapest", "a.list", "a.index", "8"],
         &["draw", "-", "--plan", "0"],
         &["frontier", "-"],
     ] {
@@ -272,7 +279,8 @@ fn help_names_every_command() {
     let help = run(&["help"], "").expect("help is there");
     assert_eq!(run(&["--help"], ""), Ok(help.clone()));
     for command in [
-        "plans", "best", "judge", "text", "survey", "list", "fetch", "draw", "frontier", "help",
+        "plans", "best", "judge", "text", "survey", "list", "fetch", "index", "cheapest", "draw",
+        "frontier", "help",
     ] {
         assert!(help.contains(&format!("  yard {command}")), "{command}");
     }

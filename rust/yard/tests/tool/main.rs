@@ -2,6 +2,7 @@
 
 mod any_input;
 mod commands;
+mod index;
 mod pictures;
 mod process;
 #[path = "../../../ranqustei/tests/calls/random.rs"]

@@ -1,8 +1,10 @@
 //! Times the proved planner against the independent one, and prints Markdown tables.
 
-use compare::fetching::solved_count;
+mod index;
+mod timing;
+
 use compare::kinds::{hard, large};
-use compare::planner::{Archive, Peer, Planner};
+use compare::list_bytes::{plan_count, solved_count, used_bytes};
 use compare::rng::Rng;
 use compare::yards::{Layout, Recipe, Signs, Values};
 use peer::plan_list;
@@ -10,17 +12,18 @@ use peer::records::COUNTED;
 use peer::survey::{Yard, MAX_LINKS};
 use peer::walk::Positions;
 use std::hint::black_box;
-use std::time::Instant;
+use timing::{fastest, RUNS};
 
-/// Runs of each planner on a yard.
-const RUNS: usize = 21;
 /// Yards of a row.
 const YARDS: u64 = 6;
 /// Ceilings questions of a run.
 const QUESTIONS: usize = 64;
 const STATIONS: [u8; 7] = [6, 8, 10, 12, 16, 20, 24];
 const RANKS: [[u8; 2]; 5] = [[1, 1], [2, 1], [3, 1], [1, 3], [2, 2]];
+/// The ranks of yards with one ceiling.
+const SINGLE_RANKS: [[u8; 2]; 3] = [[1, 0], [2, 0], [3, 0]];
 const HARD_LINKS: i64 = MAX_LINKS as i64;
+const SETS: [(&str, Values); 2] = [("hard", Values::Different), ("opposed", Values::Opposed)];
 /// The stations of the yards with signed sums or a link count.
 const VARIANT_STATIONS: u8 = 16;
 
@@ -39,12 +42,13 @@ fn main() {
     compare_variant("Signed sums", "signed", &yards().with_signs(Signs::Mixed));
     compare_variant("Link counts", "counted", &yards().with_record(COUNTED));
     growth();
+    compare_indexes();
 }
 
 /// The tables of the list call and the ceilings question.
 fn compare_planners() {
     let mut rows = vec![Row::new("large | 2–24 | any".into(), &large_yards())];
-    for (set, values) in [("hard", Values::Different), ("opposed", Values::Opposed)] {
+    for (set, values) in SETS {
         for stations in STATIONS {
             for ranks in RANKS {
                 let surveys = yards_of(&hard(HARD_LINKS, values), stations, ranks);
@@ -103,6 +107,46 @@ fn growth() {
     }
 }
 
+/// The table of the index, on the longest lists of both sets and on hand-made ones.
+fn compare_indexes() {
+    let mut lists = Vec::new();
+    for (set, values) in SETS {
+        for (ceilings, ranks) in [(1, &SINGLE_RANKS[..]), (2, &RANKS)] {
+            let name = format!("{set}, p = {ceilings}");
+            lists.push((name, longest_list(values, ranks)));
+        }
+    }
+    lists.extend(index::hand_made_lists());
+    index::print_table(&lists);
+}
+
+/// The longest list of a set's yards with some ranks.
+fn longest_list(values: Values, ranks: &[[u8; 2]]) -> Vec<u8> {
+    let recipe = hard(HARD_LINKS, values);
+    let mut lists = Vec::new();
+    for stations in STATIONS {
+        for &ranks in ranks {
+            let surveys = yards_of(&recipe, stations, ranks);
+            lists.extend(surveys.iter().map(|survey| list_of(survey)));
+        }
+    }
+    let longest = lists.into_iter().max_by_key(|list| plan_count(list));
+    longest.expect("a set has yards")
+}
+
+/// The list of a yard, without bytes after its last plan.
+fn list_of(survey: &[u8]) -> Vec<u8> {
+    let yard = Yard::read(survey).expect("generated yards are legal");
+    let mut list = vec![0; list_need(&yard)];
+    peer::list(survey, u32::MAX, &mut list).expect("buffer and allowance are enough");
+    list.truncate(used_bytes(&list));
+    list
+}
+
+fn list_need(yard: &Yard) -> usize {
+    plan_list::need(Positions::of(yard).count(), yard.tree_len())
+}
+
 fn label(set: &str, stations: u8, [k1, k2]: [u8; 2]) -> String {
     format!("{set} | {stations} | {k1}, {k2}")
 }
@@ -151,8 +195,7 @@ impl Row {
 
 /// The solved count, and the time of a list call.
 fn time_list(survey: &[u8], yard: &Yard) -> (f64, [f64; 2]) {
-    let need = plan_list::need(Positions::of(yard).count(), yard.tree_len());
-    let mut buffer = vec![0; need];
+    let mut buffer = vec![0; list_need(yard)];
     let times = fastest(|planner| {
         let _ = black_box(planner.list(black_box(survey), u32::MAX, &mut buffer));
     });
@@ -174,18 +217,4 @@ fn time_best(survey: &[u8], yard: &Yard) -> [f64; 2] {
         }
     });
     times.map(|time| time / QUESTIONS as f64)
-}
-
-/// The fastest run of each planner, archive and peer, in microseconds.
-fn fastest(mut run: impl FnMut(&dyn Planner)) -> [f64; 2] {
-    let planners: [&dyn Planner; 2] = [&Archive, &Peer];
-    let mut times = [f64::INFINITY; 2];
-    for i in 0..2 * RUNS {
-        // The order changes each time: archive, peer, peer, archive.
-        let planner = (i / 2 + i) % 2;
-        let start = Instant::now();
-        run(planners[planner]);
-        times[planner] = times[planner].min(start.elapsed().as_secs_f64() * 1e6);
-    }
-    times
 }

@@ -1,0 +1,2 @@
+-- the reply of a lookup as plain numbers
+pub mod Flat

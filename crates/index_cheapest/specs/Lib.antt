@@ -1,0 +1,2 @@
+-- the best plan so far, in a pass through the keys
+pub mod Search

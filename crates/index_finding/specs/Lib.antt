@@ -1,0 +1,2 @@
+-- a lookup by keys, and what it replies
+pub mod Finding

@@ -1,0 +1,89 @@
+// The key of a plan in the index: one number that compares as y1, sum and y2 do, one after the other; in a list without ceilings, as sums do.
+use encoding_numbers::mark_at;
+use encoding_numbers::read_u16;
+use encoding_numbers::read_u32;
+use network::limits::HEAD_SIZE;
+use planlist_records::CEILINGS_AT;
+use planlist_records::PLAN_MARK;
+use planlist_records::SUM_AT;
+use planlist_records::TREE_SIZE_AT;
+use planlist_records::Y1_AT;
+use planlist_records::Y2_AT;
+use planlist_records::plan_size;
+ghost use mathlib.Core.Bool.{false};
+ghost use mathlib.Core.Path.{_≡_};
+ghost use Prim.Native.Nat.{_+_, _≤_, _<_};
+ghost use lib.ListN.{length};
+ghost use Rattle.network.specs.PlanList.{headSize, planSize, planSlots};
+ghost use Rattle.network.specs.Fetching.{damaged, headCount};
+ghost use Rattle.index_keys.specs.Key as spec;
+
+// The two's complement u of 16 bits, raised by 32,768: it compares as the signed number does.
+pub fn raised16(u: u16) -> u64
+    ensures { λ r. ⌜ (r ≡ spec.raised16 u) × (r < 65536) ⌝ }
+{
+    (u as u64 + 32768) % 65536
+}
+
+// The same of 32 bits.
+fn raised32(u: u32) -> u64
+    ensures { λ r. ⌜ (r ≡ spec.raised32 u) × (r < 4294967296) ⌝ }
+{
+    (u as u64 + 2147483648) % 4294967296
+}
+
+// y1, sum and y2, raised, as one number.
+fn packed(y1: u64, sum: u64, y2: u64) -> u64
+    requires { ⌜ (y1 < 65536) × (sum < 4294967296) × (y2 < 65536) ⌝ }
+    ensures { λ r. ⌜ r ≡ spec.packed y1 sum y2 ⌝ }
+{
+    (y1 * 4294967296 + sum) * 65536 + y2
+}
+
+// The y1 in a key.
+pub fn y1_in(key: u64) -> u64
+    ensures { λ r. ⌜ r ≡ spec.y1In key ⌝ }
+{
+    key / 281474976710656
+}
+
+// The sum in a key.
+pub fn sum_in(key: u64) -> u64
+    ensures { λ r. ⌜ r ≡ spec.sumIn key ⌝ }
+{
+    key / 65536 % 4294967296
+}
+
+// The key of the plan whose record is at an index; in a list without ceilings y1 and y2 are left out.
+fn key_at(list: &[u8], at: usize) -> u64
+    requires { ⌜ (headSize ≤ length (now list)) × (at + planSize planSlots 0 ≤ length (now list)) ⌝ }
+    ensures { λ k. ⌜ k ≡ spec.keyAt (now (list .entry)) at ⌝ }
+{
+    let sum = raised32(read_u32(list, at + SUM_AT));
+    if list[CEILINGS_AT] == 0 {
+        return packed(0, sum, 0);
+    }
+    let y1 = raised16(read_u16(list, at + Y1_AT));
+    let y2 = raised16(read_u16(list, at + Y2_AT));
+    packed(y1, sum, y2)
+}
+
+// The keys of all plans, in the order of the list, and whether each plan has its mark; keys after a wrong mark are not read.
+pub fn read_keys(list: &[u8], keys: &mut [u64]) -> bool
+    requires { ⌜ (damaged (now list) ≡ false) × (length (now keys) ≡ headCount (now list)) ⌝ }
+    ensures { λ r. ⌜ spec.KeysRead (now (list .entry)) (now (keys .exit)) r ⌝ }
+{
+    let size = plan_size(list[TREE_SIZE_AT]);
+    let mut at = HEAD_SIZE;
+    let mut r = 0;
+    while r < keys.len() {
+        if mark_at(list, at, PLAN_MARK) {
+            keys[r] = key_at(list, at);
+            at += size;
+            r += 1;
+        } else {
+            return false;
+        }
+    }
+    true
+}

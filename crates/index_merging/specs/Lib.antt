@@ -1,0 +1,2 @@
+-- merging in place
+pub mod Merging

@@ -1,0 +1,4 @@
+-- entries in a buffer
+pub mod Entries
+-- how the places by rising key are known
+pub mod Known

@@ -1,2 +1,0 @@
--- Lemmas that several proofs cite.
-pub mod Tail

@@ -5,7 +5,7 @@ use mathlib.Core.Path.{_≡_, refl, sym, ap, _∙_, subst}
 use Prim.Native.Nat.{ℕ, _≤_}
 use lib.IntN.{ℤ}
 use lib.ListN.{length}
-use Rattle.network.specs.Indexing.{declined, indexAfter, indexNeed, lookedUp}
+use Rattle.network.specs.Indexing.{indexAfter, indexNeed, lookedUp}
 use Rattle.network.specs.IndexPromise.{IsCheapest, LookupPromised, NoneMeets}
 use Rattle.network.specs.Promise.{Archived}
 use Rattle.network.specs.declared.Found.{Found}
@@ -43,7 +43,8 @@ unfolding flatFound numberOf
 flat-number (Plan r) = refl
 flat-number (Refused r) = refl
 
-module _ (list index : List ℕ) (y : ℤ) {r : FoundPlan} (e : r ≡ flatFound (lookedUp list index y)) (p : LookupPromised list index y (lookedUp list index y)) where
+module _ (list index : List ℕ) (y : ℤ) {r : FoundPlan} (e : r ≡ flatFound (lookedUp list index y)) (p : LookupPromised list index y (lookedUp list
+    index y)) where
   same-number : r .number ≡ numberOf (lookedUp list index y)
   same-number = ap (λ (f : FoundPlan). f .number) e ∙ flat-number (lookedUp list index y)
 

@@ -34,7 +34,8 @@ module _ (list : List ℕ) (bytes : AllBytes list) where
       (λ x y h b. ap₂ leb (tabled-at (planKey list) n x (omega arith)) (tabled-at (planKey list) n y b) ∙ sym (earlier-by list bytes x y h))
 
   -- a buffer with these numbers at its front has the index there
-  pub index-built : {numbers after : List ℕ} (before : List ℕ) → numbers ≡ placesBy (tabled (planKey list) (headCount list)) → length numbers ≡ headCount list → after ≡ entriesIn numbers before
+  pub index-built : {numbers after : List ℕ} (before : List ℕ) → numbers ≡ placesBy (tabled (planKey list) (headCount list)) → length numbers ≡
+      headCount list → after ≡ entriesIn numbers before
       → after ≡ indexIn list before
   unfolding indexIn entriesIn
   index-built before e size q = q ∙ ap₂ (λ (ns : List ℕ) (k : ℕ). entryBytes ns ++ drop (k * 2) before) (e ∙ places-index) size

@@ -50,7 +50,8 @@ pub written-start : (ns before : List ℕ) → Written ns before before 0 0
 unfolding overwrite
 written-start ns before = record { front = refl; behind = refl; few = omega arith }
 
-pub written-turn : (ns before now : List ℕ) (at r : ℕ) {after : List ℕ} → Written ns before now at r → r < length ns → after ≡ overwrite now at (littleEndian 2 (getD ns r 0))
+pub written-turn : (ns before now : List ℕ) (at r : ℕ) {after : List ℕ} → Written ns before now at r → r < length ns → after ≡ overwrite now at
+    (littleEndian 2 (getD ns r 0))
     → Written ns before after (at + 2) (r + 1)
 written-turn ns before now at r w h q =
     let size = entry-length (take r ns) in

@@ -1,5 +1,5 @@
 -- What building replies and leaves, by what the code finds.
-use mathlib.Core.Bool.{true, false, not}
+use mathlib.Core.Bool.{true, false}
 use mathlib.Core.List.{List}
 use mathlib.Core.Path.{_≡_}
 use Prim.Native.Nat.{ℕ, _≤_, _<_}
@@ -26,7 +26,8 @@ module _ (list buffer : List ℕ) where
 
     module _ (marked : all (isMarked list) (planNumbers list) ≡ true) where
       -- 16: the buffer is short
-      pub built-short : length buffer < indexNeed list → (record { number = 16; place = 0 } ≡ indexStatus list (length buffer)) × (buffer ≡ indexAfter list buffer)
+      pub built-short : length buffer < indexNeed list → (record { number = 16; place = 0 } ≡ indexStatus list (length buffer)) × (buffer ≡
+          indexAfter list buffer)
       unfolding indexStatus indexAfter indexChecked unfit status ifFine refuseIf _orElse_
       built-short h = let s = lt-ltb (length buffer) (indexNeed list) h in (rw (intact, marked, s), rw (intact, marked, s))
 

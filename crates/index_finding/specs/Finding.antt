@@ -1,5 +1,5 @@
 -- A lookup by the keys of plans, which is the lookup in the list.
-use mathlib.Core.Bool.{Bool, true, false, cond, not}
+use mathlib.Core.Bool.{Bool, true, false, cond}
 use mathlib.Core.List.{List, [], _∷_, List·Memᴰ·head as here, List·Memᴰ·tail as there}
 use mathlib.Core.Option.{Option, none, some}
 use mathlib.Core.Path.{_≡_, refl, sym, ap, ap₂, _∙_}
@@ -90,7 +90,8 @@ module _ (list : List ℕ) (bytes : AllBytes list) {keys : List ℕ} (filled : k
       key x m = let w = numbers-mem (headCount list) 0 x m in tabled-at (planKey list) (headCount list) x (omega arith)
 
   -- the lookup by keys is the lookup in the list
-  pub found-list : (buffer : List ℕ) (y : ℤ) → SFits w16 y → damaged list ≡ false → all (isMarked list) (planNumbers list) ≡ true → indexNeed list ≤ length buffer
+  pub found-list : (buffer : List ℕ) (y : ℤ) → SFits w16 y → damaged list ≡ false → all (isMarked list) (planNumbers list) ≡ true → indexNeed list ≤
+      length buffer
       → foundIn keys buffer y ≡ lookedUp list buffer y
   unfolding foundIn lookedUp lookupChecked indexChecked unfit refuseIf _orElse_ foundBy
   found-list buffer y fits intact marked room =
@@ -109,6 +110,7 @@ module _ (list buffer : List ℕ) (y : ℤ) where
   unfolding lookedUp lookupChecked indexChecked unfit refuseIf _orElse_ foundBy
   looked-unmarked e f = rw (e, f)
 
-  pub looked-short : damaged list ≡ false → all (isMarked list) (planNumbers list) ≡ true → length buffer < indexNeed list → declined 16 ≡ lookedUp list buffer y
+  pub looked-short : damaged list ≡ false → all (isMarked list) (planNumbers list) ≡ true → length buffer < indexNeed list → declined 16 ≡ lookedUp
+      list buffer y
   unfolding lookedUp lookupChecked indexChecked unfit refuseIf _orElse_ foundBy
   looked-short e f h = rw (e, f, lt-ltb (length buffer) (indexNeed list) h)

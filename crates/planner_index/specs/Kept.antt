@@ -1,32 +1,28 @@
 -- What callers rely on: replies and bytes that are those of the definitions keep the promises.
-use mathlib.Core.Bool.{Bool, true, false, not, cond}
+use mathlib.Core.Bool.{Bool, true, false, cond}
 use mathlib.Core.List.{List, [], _∷_, List·Memᴰ·head as here, List·Memᴰ·tail as there}
 use mathlib.Core.Logic.{_⊎_, inl, inr}
 use mathlib.Core.Option.{Option, none, some}
-use mathlib.Core.Path.{_≡_, refl, sym, ap, _∙_, subst, subst⁻¹}
-use Prim.Native.Nat.{ℕ, _*_, _≤_, _<_}
+use mathlib.Core.Path.{_≡_, refl, sym, ap, _∙_, subst⁻¹}
+use Prim.Native.Nat.{ℕ, _≤_, _<_}
 use native.Mathlib.Omega.{arith}
 use borrow.Author.Tests.{le-ltb, lt-ltb, ltb-false, ltb-true}
 use lib.Dec.{ltb}
 use lib.IntN.{ℤ}
 use lib.ListN.{drop, length, length-append}
 use Rattle.order.specs.Test.{both, by-test, clash, fails}
-use Rattle.order.specs.Lists.{_∈_, all, any-none, numbersFrom}
+use Rattle.order.specs.Lists.{_∈_, all}
 use Rattle.order.specs.Order.{dictionary, equal→≡, orderℕ}
 use Rattle.order.specs.Sorted.{numbers-mem}
-use Rattle.network.specs.Bytes.{littleEndian, markAt}
 use Rattle.network.specs.Walk.{plans}
 use Rattle.network.specs.Survey.{networkOf}
-use Rattle.network.specs.PlanList.{planMark}
 use Rattle.network.specs.Checked.{refuseIf, _orElse_}
 use Rattle.network.specs.Calls.{ifFine, status}
-use Rattle.network.specs.Fetching.{damaged, fetchNumber, headCount, planStart}
+use Rattle.network.specs.Fetching.{damaged, fetchNumber, headCount}
 use Rattle.network.specs.Indexing.{cheapest, declined, entriesFrom, foundBy, foundPlan, indexAfter, indexChecked, indexIn, indexNeed, indexOf}
 use Rattle.network.specs.Indexing.{indexStatus, isIndex, isMarked, lookedUp, lookupChecked, planNumbers, unfit}
-use Rattle.network.specs.IndexPromise.{IndexPromised, IsCheapest, LookupPromised, NoneMeets, Ordered}
+use Rattle.network.specs.IndexPromise.{IndexPromised, LookupPromised, Ordered}
 use Rattle.network.specs.Promise.{Archived}
-use Rattle.network.specs.declared.Checked.{Checked}
-use Rattle.network.specs.declared.Checked.the-variants.{Fine, Refused}
 use Rattle.network.specs.declared.Found.{Found}
 use Rattle.network.specs.declared.Found.the-variants.{Plan, Refused as Found·Refused}
 use Rattle.network.specs.declared.Status.{Status}
@@ -83,12 +79,18 @@ fit-intact list e = by-test (damaged list) (λ d. clash refl (rw d at e)) (λ d.
 -- entries that hold the index are its numbers
 held-entries : (list : List ℕ) → damaged list ≡ false → (buffer : List ℕ) → entriesFrom (headCount list) 0 (indexIn list buffer) ≡ indexOf list
 unfolding isIndex
-held-entries list intact buffer = equal→≡ (dictionary orderℕ) (entriesFrom (headCount list) 0 (indexIn list buffer)) (indexOf list) (index-in list intact buffer)
+held-entries list intact buffer = equal→≡ (dictionary orderℕ) (entriesFrom (headCount list) 0 (indexIn list buffer)) (indexOf list) (index-in list
+    intact buffer)
 
 -- an index has its bytes
 index-long : (list buffer : List ℕ) → indexNeed list ≤ length (indexIn list buffer)
 unfolding indexIn
-index-long list buffer = omega (arith, length-append (entryBytes (indexOf list)) (drop (indexNeed list) buffer), entry-length (indexOf list), index-length list)
+index-long list buffer = omega (
+  arith,
+  length-append (entryBytes (indexOf list)) (drop (indexNeed list) buffer),
+  entry-length (indexOf list),
+  index-length list,
+)
 
 -- by the two tests of building
 data Case (list : List ℕ) (size : ℕ) : Type 0 where
@@ -98,7 +100,8 @@ data Case (list : List ℕ) (size : ℕ) : Type 0 where
 
 cases : (list : List ℕ) (size : ℕ) → Case list size
 cases list size =
-    by-test (unfit list) unfit-case (λ e. by-test (ltb size (indexNeed list)) (λ t. short-case e (ltb-true size (indexNeed list) t)) (λ t. fits-case e (ltb-false size (indexNeed list) t)))
+    by-test (unfit list) unfit-case (λ e. by-test (ltb size (indexNeed list)) (λ t. short-case e (ltb-true size (indexNeed list) t)) (λ t. fits-case
+    e (ltb-false size (indexNeed list) t)))
 
 module _ (list buffer : List ℕ) where
   -- what building replies and leaves in each case

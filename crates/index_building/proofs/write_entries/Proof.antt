@@ -24,10 +24,22 @@ shared-slice-read-write-u16 : tie.Need-shared-slice-read-write-u16 Inv-loop μ-l
 shared-slice-read-write-u16 c = omega arith
 
 write-u16-requires : tie.Need-write-u16-requires Inv-loop μ-loop
-write-u16-requires c κs = let l = c .before .before .before .loop in omega (arith, l .inv .0 .behind, l .inv .1, c .before .before .before .before .before .before .pre)
+write-u16-requires c κs = let l = c .before .before .before .loop in omega (
+  arith,
+  l .inv .0 .behind,
+  l .inv .1,
+  c .before .before .before .before
+      .before .before .pre,
+)
 
 add-at : tie.Need-add-at Inv-loop μ-loop
-add-at c = let l = c .before .before .before .before .before .before .loop in omega (arith, l .inv .0 .behind, l .inv .1, c .before .before .before .before .before .before .before .before .before .pre)
+add-at c = let l = c .before .before .before .before .before .before .loop in omega (
+  arith,
+  l .inv .0 .behind,
+  l .inv .1,
+  c .before .before .before
+      .before .before .before .before .before .before .pre,
+)
 
 add-r : tie.Need-add-r Inv-loop μ-loop
 add-r c = omega arith
@@ -39,7 +51,8 @@ loop-again : tie.Need-loop-again Inv-loop μ-loop
 loop-again c =
     let l = c .before .before .before .before .before .before .loop in
     let a = c .before .before .before .before .before .before .before .before .before .args in
-    let next = written-turn (now (a .numbers)) (now (a .index)) (l .index) (l .at) (l .r) (l .inv .0) (c .before .before .before .before .before .loop-test .taken) (c .before .before .write-u16 .ensures) in
+    let next = written-turn (now (a .numbers)) (now (a .index)) (l .index) (l .at) (l .r) (l .inv .0) (c .before .before .before .before .before
+    .loop-test .taken) (c .before .before .write-u16 .ensures) in
     (next, c .before .before .write-u16 .kept .0 ∙ l .inv .1)
 
 same-length : tie.Need-same-length Inv-loop μ-loop

@@ -14,7 +14,9 @@ use Rattle.index_finding.proofs.find_in.Tie as tie
 
 -- the cheapest by keys, as the number that was found
 answer : (c : tie.After-cheapest-plan)
-    → planOr (length (now (c .before .before .before .before .before .before .before .args .keys))) (c .cheapest-plan .result) ≡ cheapestBy (now (c .before .before .before .before .before .before .before .args .keys)) (raised16 (bitsOf w16 (c .before .before .before .before .before .before .before .args .y)))
+    → planOr (length (now (c .before .before .before .before .before .before .before .args .keys))) (c .cheapest-plan .result) ≡ cheapestBy (now (c
+    .before .before .before .before .before .before .before .args .keys)) (raised16 (bitsOf w16 (c .before .before .before .before .before
+    .before .before .args .y)))
 answer c =
     let s = c .before .before .before .before .before .before .before in
     let bits = rw (toZ-ofZ (s .fits .y)) at (c .before .before .bits16 .ensures) in

@@ -40,13 +40,17 @@ loop-less c = omega arith
 
 loop-again : tie.Need-loop-again Inv-loop μ-loop
 loop-again c =
-    let l = c .before .before .before .before .loop in
-    (falling-again (now (c .before .before .before .before .before .args .keys)) (l .at) (l .inv .0) (l .inv .1) (c .before .before .before .loop-test .taken) (c .if1 .taken), omega arith)
+    let l = c .before .before .before .before .loop in (
+      falling-again (now (c .before .before .before .before .before .args .keys)) (l .at) (l .inv .0) (l .inv .1) (c .before .before .before
+          .loop-test .taken) (c .if1 .taken),
+      omega arith,
+    )
 
 returns : tie.Need-returns Inv-loop μ-loop
 returns c =
     let l = c .before .before .before .before .loop in
-    falling-stops (now (c .before .before .before .before .before .args .keys)) (l .at) (l .inv .0) (l .inv .1) (c .before .before .before .loop-test .taken) (omega (arith, c .if1 .left))
+    falling-stops (now (c .before .before .before .before .before .args .keys)) (l .at) (l .inv .0) (l .inv .1) (c .before .before .before .loop-test
+    .taken) (omega (arith, c .if1 .left))
 
 returns-2 : tie.Need-returns-2 Inv-loop μ-loop
 returns-2 c =

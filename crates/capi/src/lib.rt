@@ -10,7 +10,7 @@ ghost use mathlib.Core.Path.{_≡_};
 ghost use lib.ListN.{length};
 ghost use Rattle.network.specs.Calls.{asked, judged, listAfter, listStatus, treeAfter};
 ghost use Rattle.network.specs.Cut.{CutNoticed};
-ghost use Rattle.network.specs.Indexing.{indexAfter, indexStatus, lookedUp};
+ghost use Rattle.network.specs.Indexing.{indexAfter, indexStatus, lookupReply};
 ghost use Rattle.network.specs.Promise.{Promised};
 ghost use Rattle.network.specs.IndexPromise.{IndexPromised};
 ghost use Rattle.capi_found.specs.Flat.{FoundPromised, flatFound};
@@ -80,9 +80,9 @@ pub extern "C" fn ranqustei_index(list: &[u8], buffer: &mut [u8]) -> Status
 
 // The cheapest plan of a list whose y1 is at most `value`, by its index.
 #[no_mangle]
-pub extern "C" fn ranqustei_index_lookup(list: &[u8], buffer: &[u8], value: i16) -> FoundPlan
-    ensures reply { λ r. ⌜ r ≡ flatFound (lookedUp (now (list .entry)) (now (buffer .entry)) value) ⌝ }
-    ensures promised { λ r. ⌜ FoundPromised (now (list .entry)) (now (buffer .entry)) value r ⌝ }
+pub extern "C" fn ranqustei_index_lookup(list: &[u8], index: &[u8], value: i16) -> FoundPlan
+    ensures reply { λ r. ⌜ r ≡ flatFound (lookupReply (now (list .entry)) (now (index .entry)) value) ⌝ }
+    ensures promised { λ r. ⌜ FoundPromised (now (list .entry)) (now (index .entry)) value r ⌝ }
 {
-    found_plan(list, buffer, value)
+    found_plan(list, index, value)
 }

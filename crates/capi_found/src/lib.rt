@@ -2,7 +2,7 @@
 use network::Found;
 use planner_index::index_lookup;
 ghost use mathlib.Core.Path.{_≡_};
-ghost use Rattle.network.specs.Indexing.{lookedUp};
+ghost use Rattle.network.specs.Indexing.{lookupReply, saysFound};
 ghost use Rattle.capi_found.specs.Flat.{FoundPromised, flatFound};
 
 // A plan's number with number 0 and place 0, or a refusal with plan 0.
@@ -15,7 +15,7 @@ pub struct FoundPlan {
 
 // What a lookup found as plain numbers.
 fn flat(found: Found) -> FoundPlan
-    ensures { λ r. ⌜ r ≡ flatFound found ⌝ }
+    ensures { λ r. ⌜ r ≡ flatFound (saysFound found) ⌝ }
 {
     match found {
         Found::Plan(plan) => FoundPlan {
@@ -32,9 +32,9 @@ fn flat(found: Found) -> FoundPlan
 }
 
 // The cheapest plan of a list whose y1 is at most `value`, by its index.
-pub fn found_plan(list: &[u8], buffer: &[u8], value: i16) -> FoundPlan
-    ensures reply { λ r. ⌜ r ≡ flatFound (lookedUp (now (list .entry)) (now (buffer .entry)) value) ⌝ }
-    ensures promised { λ r. ⌜ FoundPromised (now (list .entry)) (now (buffer .entry)) value r ⌝ }
+pub fn found_plan(list: &[u8], index: &[u8], value: i16) -> FoundPlan
+    ensures reply { λ r. ⌜ r ≡ flatFound (lookupReply (now (list .entry)) (now (index .entry)) value) ⌝ }
+    ensures promised { λ r. ⌜ FoundPromised (now (list .entry)) (now (index .entry)) value r ⌝ }
 {
-    flat(index_lookup(list, buffer, value))
+    flat(index_lookup(list, index, value))
 }

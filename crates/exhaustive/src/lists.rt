@@ -13,7 +13,7 @@ use planner::list;
 use std::num::wrapping_add_u64;
 
 // More bytes than any list here needs: 49 positions and 4 links take 696.
-const ROOM: usize = 720;
+pub const ROOM: usize = 720;
 
 // 1 where the reply or the list differs from the number, the words of the head and the plans that are wanted.
 fn differs(

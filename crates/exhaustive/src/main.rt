@@ -1,6 +1,7 @@
 // All trees of small yards, as the crate `alltrees` lists them, held against the planner's calls. What is printed, counts alone, is held to the
 // file `stdout`.
 mod lists;
+mod lookups;
 mod questions;
 mod tally;
 
@@ -18,13 +19,14 @@ use tally::Tally;
 // Every kind of yard twenty times.
 const YARDS: usize = 20 * KINDS;
 
-// A yard's trees, and both comparisons.
+// A yard's trees, and the comparisons.
 fn compare(survey: &[u8], yard: Yard, tally: Tally) -> Tally {
     let trees = trees_of(yard);
     let plans = plans_of(trees);
     let asked = questions::differences(survey, yard.kind, trees);
     let listed = lists::differences(survey, yard, trees, plans);
-    tally.yard(plans.trees, plans.plans, asked, listed)
+    let looked = lookups::differences(survey, yard.kind, trees, plans);
+    tally.yard(plans.trees, plans.plans, asked, listed, looked)
 }
 
 fn main() {

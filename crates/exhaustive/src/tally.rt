@@ -8,6 +8,7 @@ pub struct Tally {
     pub trees: u64,
     pub questions: u64,
     pub plans: u64,
+    pub lookups: u64,
     pub differences: u64,
 }
 
@@ -24,27 +25,32 @@ impl Tally {
             trees: 0,
             questions: 0,
             plans: 0,
+            lookups: 0,
             differences: 0,
         }
     }
 
-    // With a yard of so many trees and plans, a question for each pair of bounds, and its list.
-    pub fn yard(mut self, trees: u64, plans: u64, asked: u64, listed: u64) -> Tally {
+    // With a yard of so many trees and plans, a question for each pair of bounds, its list, the list's index, and a lookup for each bound.
+    pub fn yard(mut self, trees: u64, plans: u64, asked: u64, listed: u64, looked: u64) -> Tally {
         self.yards = wrapping_add_u64(self.yards, 1);
         self.trees = wrapping_add_u64(self.trees, trees);
         self.questions = wrapping_add_u64(self.questions, 256);
         self.plans = wrapping_add_u64(self.plans, plans);
-        self.differences = wrapping_add_u64(self.differences, wrapping_add_u64(asked, listed));
+        self.lookups = wrapping_add_u64(self.lookups, 16);
+        let differences = wrapping_add_u64(asked, wrapping_add_u64(listed, looked));
+        self.differences = wrapping_add_u64(self.differences, differences);
         self
     }
 
     pub fn print(self) {
-        text(b"yards, trees, questions, lists, plans, differences:");
+        text(b"yards, trees, questions, lists, plans, indexes, lookups, differences:");
         figure(self.yards);
         figure(self.trees);
         figure(self.questions);
         figure(self.yards);
         figure(self.plans);
+        figure(self.yards);
+        figure(self.lookups);
         figure(self.differences);
         text(b"\n");
     }

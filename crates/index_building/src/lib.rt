@@ -1,6 +1,7 @@
 // The index of a list, written into a lent buffer.
 use encoding_numbers::read_u16;
 use encoding_writes::write_u16;
+use index_keys::SHORT;
 use index_keys::read_keys;
 use index_order::order_numbers;
 use network::Status;
@@ -13,15 +14,14 @@ ghost use lib.ListN.{length};
 ghost use Rattle.network.specs.Limits.{maxPlans};
 ghost use Rattle.network.specs.Fetching.{damaged, headCount};
 ghost use Rattle.network.specs.Indexing.{indexAfter, indexStatus};
+ghost use Rattle.index_keys.specs.Key.{shortList};
 ghost use Rattle.index_building.specs.Entries.{entriesIn};
 ghost use Rattle.index_building.specs.Built.{Columns};
 
 // Half of the most plans.
 const MOST_HALF: usize = MAX_PLANS / 2;
 
-// As many plans have columns of their own size: to clear the longer ones would take most of the time.
-const SHORT: usize = 256;
-
+// Half of the plans of a short list.
 const SHORT_HALF: usize = SHORT / 2;
 
 // Writes numbers at the buffer's front, two bytes each, low byte first.
@@ -77,9 +77,9 @@ fn build_by(
     }
 }
 
-// The same of a list with few plans.
+// The same of a short list.
 fn build_short(list: &[u8], index: &mut [u8]) -> Status
-    requires { ⌜ (damaged (now list) ≡ false) × (headCount (now list) ≤ 256) ⌝ }
+    requires { ⌜ (damaged (now list) ≡ false) × (headCount (now list) ≤ shortList) ⌝ }
     ensures reply { λ r. ⌜ r ≡ indexStatus (now (list .entry)) (length (now (index .entry))) ⌝ }
     ensures leaves { λ _. ⌜ now (index .exit) ≡ indexAfter (now (list .entry)) (now (index .entry)) ⌝ }
 {

@@ -12,14 +12,14 @@ use lib.ListN.{getD, length}
 use mir.Syntax.{w16}
 use mir.Val.{SFits}
 use Rattle.order.specs.Test.{by-test}
-use Rattle.order.specs.Lists.{_∈_, all, numbersFrom}
+use Rattle.order.specs.Lists.{_∈_, numbersFrom}
 use Rattle.order.specs.Order.{TotalOrder, dictionary, equal, orderℕ, orderℤ}
 use Rattle.order.specs.Sorted.{numbers-mem}
 use Rattle.order.specs.Least.{better, least, least-some}
 use Rattle.network.specs.Bytes.{bitsOf}
 use Rattle.network.specs.Checked.{refuseIf, _orElse_}
-use Rattle.network.specs.Fetching.{damaged, headCount}
-use Rattle.network.specs.Indexing.{cheapest, declined, entriesFrom, foundBy, foundPlan, indexChecked, indexNeed, isIndex, isMarked, lookedUp, lookupChecked}
+use Rattle.network.specs.Fetching.{headCount}
+use Rattle.network.specs.Indexing.{cheapest, declined, entriesFrom, foundBy, foundPlan, indexChecked, indexNeed, isIndex, lookedUp, lookupChecked}
 use Rattle.network.specs.Indexing.{meets, planNumbers, planSum, unfit}
 use Rattle.network.specs.declared.Found.{Found}
 use Rattle.network.specs.declared.Found.the-variants.{Plan}
@@ -63,7 +63,32 @@ least-alike {A = A} O f Q g p q (x ∷ l) h k =
     go none e = refl
     go (some y) e = ap (λ (t : Bool). cond t (some x) (some y)) (h x y (here refl) (there (least-some Q g q l y e .member)))
 
--- ---- in a list
+-- ---- the lookup, by what the code finds
+
+module _ (list buffer : List ℕ) (y : ℤ) where
+  -- 12: the list is not fit
+  pub looked-unfit : unfit list ≡ true → declined 12 ≡ lookedUp list buffer y
+  unfolding lookedUp lookupChecked indexChecked refuseIf _orElse_ foundBy
+  looked-unfit e = rw e
+
+  module _ (fit : unfit list ≡ false) where
+    -- 16: the buffer is short
+    pub looked-short : length buffer < indexNeed list → declined 16 ≡ lookedUp list buffer y
+    unfolding lookedUp lookupChecked indexChecked refuseIf _orElse_ foundBy
+    looked-short h = rw (fit, lt-ltb (length buffer) (indexNeed list) h)
+
+    module _ (room : indexNeed list ≤ length buffer) where
+      -- 12: it does not hold the index
+      pub looked-other : isIndex list buffer ≡ false → declined 12 ≡ lookedUp list buffer y
+      unfolding lookedUp lookupChecked indexChecked refuseIf _orElse_ foundBy
+      looked-other e = rw (fit, le-ltb (length buffer) (indexNeed list) room, e)
+
+      -- else the cheapest plan, or 13
+      pub looked-held : isIndex list buffer ≡ true → foundPlan (cheapest list y) ≡ lookedUp list buffer y
+      unfolding lookedUp lookupChecked indexChecked refuseIf _orElse_ foundBy
+      looked-held e = rw (fit, le-ltb (length buffer) (indexNeed list) room, e)
+
+-- ---- by the keys of the plans
 
 module _ (list : List ℕ) (bytes : AllBytes list) {keys : List ℕ} (filled : keys ≡ tabled (planKey list) (headCount list)) where
   -- a buffer that holds the numbers by rising key holds the index
@@ -90,27 +115,8 @@ module _ (list : List ℕ) (bytes : AllBytes list) {keys : List ℕ} (filled : k
       key x m = let w = numbers-mem (headCount list) 0 x m in tabled-at (planKey list) (headCount list) x (omega arith)
 
   -- the lookup by keys is the lookup in the list
-  pub found-list : (buffer : List ℕ) (y : ℤ) → SFits w16 y → damaged list ≡ false → all (isMarked list) (planNumbers list) ≡ true → indexNeed list ≤
-      length buffer
-      → foundIn keys buffer y ≡ lookedUp list buffer y
-  unfolding foundIn lookedUp lookupChecked indexChecked unfit refuseIf _orElse_ foundBy
-  found-list buffer y fits intact marked room =
-      let s = le-ltb (length buffer) (indexNeed list) room in
+  pub found-list : (buffer : List ℕ) (y : ℤ) → SFits w16 y → unfit list ≡ false → indexNeed list ≤ length buffer → foundIn keys buffer y ≡ lookedUp list buffer y
+  unfolding foundIn
+  found-list buffer y fits fit room =
       ap₂ (λ (t : Bool) (o : Option ℕ). cond t (foundPlan o) (declined 12)) (holds-index buffer) (found-cheapest y fits)
-      ∙ by-test (isIndex list buffer) (λ e. rw (intact, marked, s, e)) (λ e. rw (intact, marked, s, e))
-
--- ---- what declines before keys are asked
-
-module _ (list buffer : List ℕ) (y : ℤ) where
-  pub looked-damaged : damaged list ≡ true → declined 12 ≡ lookedUp list buffer y
-  unfolding lookedUp lookupChecked indexChecked unfit refuseIf _orElse_ foundBy
-  looked-damaged e = rw e
-
-  pub looked-unmarked : damaged list ≡ false → all (isMarked list) (planNumbers list) ≡ false → declined 12 ≡ lookedUp list buffer y
-  unfolding lookedUp lookupChecked indexChecked unfit refuseIf _orElse_ foundBy
-  looked-unmarked e f = rw (e, f)
-
-  pub looked-short : damaged list ≡ false → all (isMarked list) (planNumbers list) ≡ true → length buffer < indexNeed list → declined 16 ≡ lookedUp
-      list buffer y
-  unfolding lookedUp lookupChecked indexChecked unfit refuseIf _orElse_ foundBy
-  looked-short e f h = rw (e, f, lt-ltb (length buffer) (indexNeed list) h)
+      ∙ by-test (isIndex list buffer) (λ e. rw e (looked-held list buffer y fit room e)) (λ e. rw e (looked-other list buffer y fit room e))

@@ -2,6 +2,7 @@
 use encoding_numbers::read_u16;
 use encoding_writes::bits16;
 use index_cheapest::cheapest_plan;
+use index_keys::SHORT;
 use index_keys::raised16;
 use index_keys::read_keys;
 use index_testing::holds_index;
@@ -16,10 +17,8 @@ ghost use lib.ListN.{length};
 ghost use Rattle.network.specs.Limits.{maxPlans};
 ghost use Rattle.network.specs.Fetching.{damaged, headCount};
 ghost use Rattle.network.specs.Indexing.{declined, lookedUp};
+ghost use Rattle.index_keys.specs.Key.{shortList};
 ghost use Rattle.index_finding.specs.Finding.{foundIn};
-
-// As many plans have a column of their own size: to clear the longer one would take most of the time.
-const SHORT: usize = 256;
 
 // A refusal at place 0.
 fn refused(number: u8) -> Found
@@ -58,9 +57,9 @@ fn find_by(list: &[u8], index: &[u8], y: i16, keys: &mut [u64]) -> Found
     refused(12)
 }
 
-// The same of a list with few plans.
+// The same of a short list.
 fn find_short(list: &[u8], index: &[u8], y: i16) -> Found
-    requires { ⌜ (damaged (now list) ≡ false) × (headCount (now list) ≤ 256) ⌝ }
+    requires { ⌜ (damaged (now list) ≡ false) × (headCount (now list) ≤ shortList) ⌝ }
     ensures { λ r. ⌜ r ≡ lookedUp (now (list .entry)) (now (index .entry)) y ⌝ }
 {
     let mut keys = [0u64; SHORT];

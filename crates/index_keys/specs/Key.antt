@@ -7,8 +7,12 @@ use borrow.Author.Tests.{eq-eqb, ne-eqb}
 use Rattle.order.specs.Lists.{all}
 use Rattle.network.specs.Bytes.{u16At, u32At}
 use Rattle.network.specs.Fetching.{headCeilings, headCount, planStart}
-use Rattle.network.specs.Indexing.{isMarked, planNumbers, unbounded}
+use Rattle.network.specs.Indexing.{isMarked, planNumbers, withoutCeilings}
 use Rattle.sorting.specs.Columns.{tabled}
+
+-- the plans of a short list, for which there are smaller columns
+abbrev pub shortList : ℕ
+shortList = 256
 
 -- bits raised by half of their range, round its end: those of the upper half, which mean numbers below 0, come to stand below those of the lower half
 unfoldable pub raised : ℕ → ℕ → ℕ
@@ -38,7 +42,7 @@ sumIn k = k / 65536 % 4294967296
 unfoldable pub keyAt : List ℕ → ℕ → ℕ
 keyAt list at =
     let sum = raised32 (u32At list (at + 2)) in
-    cond (unbounded list) (packed 0 sum 0) (packed (raised16 (u16At list (at + 6))) sum (raised16 (u16At list (at + 8))))
+    cond (withoutCeilings list) (packed 0 sum 0) (packed (raised16 (u16At list (at + 6))) sum (raised16 (u16At list (at + 8))))
 
 -- the key of plan r
 unfoldable pub planKey : List ℕ → ℕ → ℕ

@@ -2,7 +2,7 @@
 -- plan meets a value, and by the sums in their keys plans compare as by their sums.
 use mathlib.Core.Bool.{Bool, true, false}
 use mathlib.Core.List.{List, [], _∷_}
-use mathlib.Core.Path.{_≡_, refl, sym, ap, ap₂, _∙_}
+use mathlib.Core.Path.{_≡_, sym, ap, ap₂, _∙_}
 use Prim.Native.Nat.{ℕ, suc, _+_, _-_, _*_, _^_, _≤_, _<_}
 use native.Mathlib.Nat.{add-mod-right, mod-eq-of-lt, mul-le-mul-right, suc-mul}
 use native.Mathlib.Omega.{arith}
@@ -18,7 +18,8 @@ use Rattle.order.specs.Order.{dictionaryLe, orderℕ, orderℤ, pairLe, tieBrea
 use Rattle.network.specs.Bytes.{bitsOf, byteAt, i16At, i32At, signed, u16At, u32At}
 use Rattle.network.specs.PlanList.{costsAt}
 use Rattle.network.specs.Fetching.{planStart}
-use Rattle.network.specs.Indexing.{indexKey, meets, planCosts, planSum, unbounded}
+use Rattle.network.specs.Indexing.{indexKey, meets, planCosts, planSum, withoutCeilings}
+use Rattle.sorting.specs.Numbers.{tie-last}
 use Rattle.index_keys.specs.Key.{keyAt, packed, planKey, raised, raised16, raised32, sumIn, y1In}
 
 -- each member is a byte: what a proof knows of each slice of bytes (`shared-slice-known .given`)
@@ -73,12 +74,6 @@ module _ (w : Width) where
   raised-within u z h f = ap (leZ (signed w u)) (sym (toZ-ofZ w z f)) ∙ raised-order u (bitsOf w z) h (ofZ-fits w z f .fits)
 
 -- ---- numbers as one number
-
--- a last test that always passes
-tie-last : (s t : Bool) → tieBreak s t true ≡ s
-tie-last true true = refl
-tie-last true false = refl
-tie-last false t = refl
 
 -- a number times k and one below k, added: the first decides, then the second
 module _ (k a c : ℕ) {b d : ℕ} (hb : b < k) (hd : d < k) (t : Bool) where
@@ -157,11 +152,11 @@ module _ (list : List ℕ) (known : AllBytes list) where
   y2-below r = omega arith
 
   -- the key of plan r in a list without ceilings, and in any other
-  key-unbounded : (r : ℕ) → unbounded list ≡ true → planKey list r ≡ packed 0 (sumOf r) 0
+  key-withoutCeilings : (r : ℕ) → withoutCeilings list ≡ true → planKey list r ≡ packed 0 (sumOf r) 0
   unfolding planKey keyAt
-  key-unbounded r e = rw e
+  key-withoutCeilings r e = rw e
 
-  key-bounded : (r : ℕ) → unbounded list ≡ false → planKey list r ≡ packed (y1Of r) (sumOf r) (y2Of r)
+  key-bounded : (r : ℕ) → withoutCeilings list ≡ false → planKey list r ≡ packed (y1Of r) (sumOf r) (y2Of r)
   unfolding planKey keyAt
   key-bounded r e = rw e
 
@@ -169,8 +164,8 @@ module _ (list : List ℕ) (known : AllBytes list) where
   pub key-order : (x y : ℕ) → dictionaryLe orderℤ (indexKey list x) (indexKey list y) ≡ pairLe orderℕ orderℕ (planKey list x, x) (planKey list y, y)
   unfolding indexKey costsAt
   key-order x y =
-      by-test (unbounded list)
-      (λ e. rw (e, key-unbounded x e, key-unbounded y e)
+      by-test (withoutCeilings list)
+      (λ e. rw (e, key-withoutCeilings x e, key-withoutCeilings y e)
       (λ i. tieBreak ((sum x y ∙ sum-alone (sumOf x) (sumOf y)) i) ((sum y x ∙ sum-alone (sumOf y) (sumOf x)) i) (last i)))
       (λ e. rw (e, key-bounded x e, key-bounded y e)
       (costs ∙ packed-tie (y1Of x) (sumOf x) (y2Of x) (y1Of y) (sumOf y) (y2Of y) (sum-below x) (sum-below y) (y2-below x) (y2-below y) (leb x y)))
@@ -201,8 +196,8 @@ module _ (list : List ℕ) (known : AllBytes list) where
   -- the sum in the key of plan r
   sum-in : (r : ℕ) → sumIn (planKey list r) ≡ sumOf r
   sum-in r =
-      by-test (unbounded list)
-      (λ e. rw (key-unbounded r e) (sum-packed 0 (sumOf r) 0 (sum-below r) (omega arith)))
+      by-test (withoutCeilings list)
+      (λ e. rw (key-withoutCeilings r e) (sum-packed 0 (sumOf r) 0 (sum-below r) (omega arith)))
       (λ e. rw (key-bounded r e) (sum-packed (y1Of r) (sumOf r) (y2Of r) (sum-below r) (y2-below r)))
 
   -- plans compare by the sums in their keys as by their sums
@@ -214,7 +209,7 @@ module _ (list : List ℕ) (known : AllBytes list) where
   pub meets-key : (y : ℤ) → SFits w16 y → (r : ℕ) → meets list y r ≡ leb (y1In (planKey list r)) (raised16 (bitsOf w16 y))
   unfolding meets costsAt
   meets-key y f r =
-      by-test (unbounded list)
-      (λ e. rw (e, key-unbounded r e, y1-packed 0 (sumOf r) 0 (sum-below r) (omega arith), le-leb 0 (raised16 (bitsOf w16 y)) (omega arith)))
+      by-test (withoutCeilings list)
+      (λ e. rw (e, key-withoutCeilings r e, y1-packed 0 (sumOf r) 0 (sum-below r) (omega arith), le-leb 0 (raised16 (bitsOf w16 y)) (omega arith)))
       (λ e. rw (e, key-bounded r e, y1-packed (y1Of r) (sumOf r) (y2Of r) (sum-below r) (y2-below r))
       (raised-within w16 (u16At list (planStart list r + 6)) y (below16 (planStart list r + 6)) f))

@@ -11,10 +11,10 @@ use lib.Dec.{eqb, leb, ltb}
 use lib.ListN.{getD, length}
 use Rattle.order.specs.Test.{both, by-test, clash, fails, left, right, test-iff}
 use Rattle.order.specs.Lists.{_∈_, all, all-mem, numbersFrom}
-use Rattle.order.specs.Order.{TotalOrder, dictionary, equal, equal→≡, less-le-trans, less→le, orderℕ, pairLe, pairs, tieBreak, ≡→equal}
+use Rattle.order.specs.Order.{TotalOrder, dictionary, equal, equal→≡, less-le-trans, less→le, orderℕ, pairLe, pairs, ≡→equal}
 use Rattle.order.specs.Sorted.{Rising, numbers-mem, sort, sort-mem}
 use Rattle.network.specs.Indexing.{entriesFrom}
-use Rattle.sorting.specs.Numbers.{rising-numbers, sorted-numbers}
+use Rattle.sorting.specs.Numbers.{rising-numbers, sorted-numbers, tie-last}
 use Rattle.sorting.specs.Columns.{numbers-alike, placesBy}
 use Rattle.index_testing.specs.Entries.{AllBelow, entries-length, risesBy}
 
@@ -84,12 +84,6 @@ below-all k [] h = refl
 below-all k (x ∷ l) h = both (lt-ltb x k (h .below x (here refl))) (below-all k l (record { below = λ y m. h .below y (there m) }))
 
 -- ---- the places by rising key
-
--- a last test that always passes
-tie-last : (s t : Bool) → tieBreak s t true ≡ s
-tie-last true true = refl
-tie-last true false = refl
-tie-last false t = refl
 
 module _ (keys : List ℕ) where
   -- a number's key, and the number

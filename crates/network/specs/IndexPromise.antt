@@ -2,20 +2,22 @@
 use mathlib.Core.Bool.{true, false}
 use mathlib.Core.List.{List}
 use mathlib.Core.Logic.{_⊎_}
-use mathlib.Core.Path.{_≡_}
+use mathlib.Core.Path.{_≡_, ap}
 use Prim.Native.Nat.{ℕ, _≤_, _<_}
+use native.Mathlib.Omega.{arith}
 use lib.Dec.{eqb}
-use lib.IntN.{ℤ}
-use lib.ListN.{length}
-use lib.Signed.{leZ}
+use lib.IntN.{ℤ, pos}
+use lib.ListN.{getD, length}
+use lib.Signed.{leZ, mag}
 use Rattle.order.specs.Lists.{_∈_, count}
 use Rattle.order.specs.Order.{dictionary, orderℤ}
 use Rattle.order.specs.Sorted.{Rising}
+use Rattle.network.specs.Calls.{Reply}
 use Rattle.network.specs.Fetching.{headCount}
-use Rattle.network.specs.Indexing.{declined, entriesFrom, indexAfter, indexKey, indexNeed, meets, planSum}
+use Rattle.network.specs.Indexing.{declined, entriesFrom, indexAfter, indexKey, indexNeed, meets, planSum, saysFound}
 use Rattle.network.specs.Promise.{Archived}
 use Rattle.network.specs.declared.Found.{Found}
-use Rattle.network.specs.declared.Found.the-variants.{Plan}
+use Rattle.network.specs.declared.Found.the-variants.{Plan, Refused as Found·Refused}
 use Rattle.network.specs.declared.Status.{Status}
 
 -- numbers that are the plan numbers of a list, each once, in the rising order of what plans stand by
@@ -43,11 +45,24 @@ pub record NoneMeets (list : List ℕ) (y : ℤ) : Type 0 where
   pub unmet : (r : ℕ) → r < headCount list → meets list y r ≡ false
 
 -- what a lookup by y has replied
-pub record LookupPromised (list index : List ℕ) (y : ℤ) (found : Found) : Type 0 where
+pub record LookupPromised (list index : List ℕ) (y : ℤ) (reply : Reply) : Type 0 where
   -- a plan is the cheapest that meets the value
-  pub cheapest : (r : ℕ) → found ≡ Plan r → IsCheapest list y r
+  pub cheapest : (r : ℕ) → reply ≡ saysFound (Plan r) → IsCheapest list y r
   -- 13 says that none does
-  pub none : found ≡ declined 13 → NoneMeets list y
+  pub none : reply ≡ saysFound (declined 13) → NoneMeets list y
+  -- either comes only with the list's own index: building into its buffer leaves it as it is
+  pub own : (reply .number ≡ 0) ⊎ (reply .number ≡ 13) → indexAfter list index ≡ index
   -- on a list that a list call made, with what building left in a buffer of 2 bytes a plan or more, the reply is a plan or 13
   pub answers : (s buffer : List ℕ) → Archived s list → indexNeed list ≤ length buffer → index ≡ indexAfter list buffer
-      → ((r : ℕ) × (found ≡ Plan r)) ⊎ (found ≡ declined 13)
+      → ((r : ℕ) × (reply ≡ saysFound (Plan r))) ⊎ (reply ≡ saysFound (declined 13))
+
+-- `saysFound` is one-to-one: no two cases of the enum say the same
+pub found-once : (a b : Found) → saysFound a ≡ saysFound b → a ≡ b
+unfolding saysFound
+found-once (Plan r) (Plan q) e = ap Plan (ap (λ (a : Reply). mag (getD (a .values) 0 (pos 0))) e)
+found-once (Found·Refused r) (Found·Refused q) e =
+    let number = ap (λ (a : Reply). a .number) e in
+    let place = ap (λ (a : Reply). a .place) e in
+    λ i. Found·Refused (record { number = number i; place = place i })
+found-once (Plan r) (Found·Refused q) e = let z : _≡_ {A = ℕ} 1 0 = ap (λ (a : Reply). length (a .values)) e in absurd (omega arith)
+found-once (Found·Refused r) (Plan q) e = let z : _≡_ {A = ℕ} 0 1 = ap (λ (a : Reply). length (a .values)) e in absurd (omega arith)

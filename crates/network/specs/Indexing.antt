@@ -14,7 +14,7 @@ use Rattle.order.specs.Least.{least}
 use Rattle.network.specs.Bytes.{littleEndian, markAt, u16At}
 use Rattle.network.specs.PlanList.{costsAt, join, planMark}
 use Rattle.network.specs.Checked.{refuseIf, _orElse_}
-use Rattle.network.specs.Calls.{ifFine, status}
+use Rattle.network.specs.Calls.{Reply, ifFine, status}
 use Rattle.network.specs.Fetching.{damaged, headCeilings, headCount, planStart}
 use Rattle.network.specs.declared.Checked.{Checked}
 use Rattle.network.specs.declared.Checked.the-variants.{Fine, Refused}
@@ -34,14 +34,14 @@ abbrev pub planCosts : List ℕ → ℕ → Costs
 planCosts list r = costsAt list (planStart list r)
 
 -- the list has no ceiling
-abbrev pub unbounded : List ℕ → Bool
-unbounded list = eqb (headCeilings list) 0
+abbrev pub withoutCeilings : List ℕ → Bool
+withoutCeilings list = eqb (headCeilings list) 0
 
 -- what plan r stands by in the index: y1, sum, y2 and its number; for p = 0 sum and number alone
 unfoldable pub indexKey : List ℕ → ℕ → List ℤ
 indexKey list r =
     let v = planCosts list r in
-    cond (unbounded list) (v .sum ∷ pos r ∷ []) (v .y1 ∷ v .sum ∷ v .y2 ∷ pos r ∷ [])
+    cond (withoutCeilings list) (v .sum ∷ pos r ∷ []) (v .y1 ∷ v .sum ∷ v .y2 ∷ pos r ∷ [])
 
 -- the index: the plan numbers in the rising order of what they stand by, the first entry that differs deciding
 unfoldable pub indexOf : List ℕ → List ℕ
@@ -94,7 +94,7 @@ isIndex list buffer = equal (dictionary orderℕ) (entriesFrom (headCount list) 
 
 -- plan r meets the given value: its y1 is at most that; for p = 0 every plan meets it
 unfoldable pub meets : List ℕ → ℤ → ℕ → Bool
-meets list y r = unbounded list || leZ (planCosts list r .y1) y
+meets list y r = withoutCeilings list || leZ (planCosts list r .y1) y
 
 -- the sum of plan r
 abbrev pub planSum : List ℕ → ℕ → ℤ
@@ -122,6 +122,15 @@ unfoldable pub foundBy : Checked → Option ℕ → Found
 foundBy (Refused r) o = Found·Refused r
 foundBy Fine o = foundPlan o
 
--- the reply to a lookup: the cheapest plan's number, or the refusal
+-- what a lookup finds: the cheapest plan, or the refusal
 unfoldable pub lookedUp : List ℕ → List ℕ → ℤ → Found
 lookedUp list buffer y = foundBy (lookupChecked list buffer) (cheapest list y)
+
+-- what each case of the enum says: number 0, place 0 and the plan's number as the one value, or the refusal and no value
+unfoldable pub saysFound : Found → Reply
+saysFound (Plan r) = record { number = 0; place = 0; values = pos r ∷ [] }
+saysFound (Found·Refused r) = record { number = r .number; place = r .place; values = [] }
+
+-- the reply to a lookup
+unfoldable pub lookupReply : List ℕ → List ℕ → ℤ → Reply
+lookupReply list buffer y = saysFound (lookedUp list buffer y)

@@ -1,4 +1,4 @@
--- Document 01 as definitions. In the document's order:
+-- Document 01, with the requests of document 02 that it has taken in, as definitions. In the document's order:
 -- its numbers
 pub mod Limits
 -- the yard and its plans: stations, links, trees, cost vectors, the best tree under ceilings
@@ -20,7 +20,7 @@ pub mod Fetching
 pub mod Indexing
 -- printing
 pub mod Printing
--- the yards worked through, P1 to P25
+-- the yards worked through, P1 to P29
 pub mod Worked
 -- theorems: what the definitions mean, what holds of a survey's layout, of an accepted survey's bytes, of its sum costs and of its network
 pub mod Meaning

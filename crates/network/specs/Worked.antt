@@ -6,7 +6,7 @@ use mathlib.Core.Logic.{⊎-elim}
 use mathlib.Core.Path.{_≡_, refl, subst⁻¹}
 use Prim.Native.Nat.{ℕ, _-_}
 use lib.IntN.{ℤ, pos, negsuc}
-use lib.ListN.{length, replicate, take}
+use lib.ListN.{drop, length, replicate, take}
 use mir.Syntax.{w32}
 use Rattle.order.specs.Lists.{_∈_, filter, numbersFrom}
 use Rattle.order.specs.Order.{orderℤ}
@@ -28,12 +28,10 @@ use Rattle.network.specs.Calls.{Reply, ifFine, reply, status}
 use Rattle.network.specs.Calls.{asked, askedChecked, bestTree, drawnChecked, judged, treeAfter, treeWith}
 use Rattle.network.specs.Calls.{listAfter, listChecked, listStatus, plansAfter, plansChecked, roomChecked}
 use Rattle.network.specs.Fetching.{damaged}
-use Rattle.network.specs.Indexing.{cheapest, declined, entriesFrom, foundBy, foundPlan, indexAfter, indexChecked, indexIn, indexKey, indexOf, indexStatus}
-use Rattle.network.specs.Indexing.{isIndex, lookedUp, lookupChecked, meets, unfit}
+use Rattle.network.specs.Indexing.{cheapest, entriesFrom, foundBy, foundPlan, indexAfter, indexChecked, indexIn, indexKey, indexOf, indexStatus}
+use Rattle.network.specs.Indexing.{isIndex, lookedUp, lookupChecked, lookupReply, meets, saysFound, unfit}
 use Rattle.network.specs.Printing.{printed}
 use Rattle.network.specs.Count.{countedYard, plainYard}
-use Rattle.network.specs.declared.Found.{Found}
-use Rattle.network.specs.declared.Found.the-variants.{Plan}
 use Rattle.network.specs.declared.Status.{Status}
 
 -- ---- the rows
@@ -59,7 +57,7 @@ pub data Row : Type 0 where
   -- building the index of a list into a buffer: its reply, and the buffer after it
   builds : (list buffer : List ℕ) → Status → List ℕ → Row
   -- a lookup by a list and an index, with the given value, and the reply
-  looks : (list index : List ℕ) (y : ℤ) → Found → Row
+  looks : (list index : List ℕ) (y : ℤ) → Reply → Row
   -- standard input, and what the program prints
   prints : (input output : List ℕ) → Row
 
@@ -87,7 +85,7 @@ Right (accepts n p pairs) = filter (λ ks. not (badRanks n p ks)) rankPairs ≡ 
 Right (prices bits meant passed) = (map (signed w32) bits ≡ meant) × (filter (λ s. not (badSum s)) meant ≡ passed)
 Right (checks s r) = status (checkedOf s) ≡ r
 Right (builds l buffer r after) = (indexStatus l (length buffer) ≡ r) × (indexAfter l buffer ≡ after)
-Right (looks l index y found) = lookedUp l index y ≡ found
+Right (looks l index y r) = lookupReply l index y ≡ r
 Right (prints input output) = printed input ≡ output
 
 -- ---- bytes as document 01 writes them
@@ -120,6 +118,9 @@ minus n = bitsOf w32 (negsuc (n - 1))
 abbrev costs : ℤ → ℤ → ℤ → Reply
 costs s y1 y2 = record { number = 0; place = 0; values = s ∷ y1 ∷ y2 ∷ [] }
 
+abbrev looked : ℕ → Reply
+looked r = record { number = 0; place = 0; values = pos r ∷ [] }
+
 abbrev refused : ℕ → ℕ → Reply
 refused number place = record { number = number; place = place; values = [] }
 
@@ -139,7 +140,7 @@ abbrev tied : List ℕ
 tied = list 2 0 0 1 (two (plan 5 3 0 []) (plan 5 0xFFFE 0 []))
 
 abbrev unmarked : List ℕ
-unmarked = list 2 0 0 1 (two (plan 5 3 0 []) (0x50 ∷ 0x4D ∷ replicate 8 0))
+unmarked = list 2 0 0 1 (two (plan 5 3 0 []) (0x50 ∷ 0x4D ∷ drop 2 (plan 5 0xFFFE 0 [])))
 
 -- the links of survey A
 abbrev linksA : List (List ℕ)
@@ -256,23 +257,23 @@ table =
     ∷ checks (0x59 ∷ 0x46 ∷ 3 ∷ 1 ∷ 1 ∷ 0 ∷ []) (replied 2 0)
     ∷ checks (0x59 ∷ 0x46 ∷ 3 ∷ 1 ∷ 1 ∷ 0 ∷ 0 ∷ []) (replied 1 0)
     ∷ builds listA (replicate 4 0xFF) (replied 0 0) (entries (two 1 0))
-    ∷ looks listA (entries (two 1 0)) (pos 9) (Plan 0)
-    ∷ looks listA (entries (two 1 0)) (pos 8) (Plan 1)
-    ∷ looks listA (entries (two 1 0)) (pos 6) (declined 13)
+    ∷ looks listA (entries (two 1 0)) (pos 9) (looked 0)
+    ∷ looks listA (entries (two 1 0)) (pos 8) (looked 1)
+    ∷ looks listA (entries (two 1 0)) (pos 6) (refused 13 0)
     ∷ builds (mixed 2) (replicate 12 0xFF) (replied 0 0) (entries (1 ∷ 2 ∷ 3 ∷ 0 ∷ 4 ∷ []) ++ two 0xFF 0xFF)
-    ∷ looks (mixed 2) (entries (1 ∷ 2 ∷ 3 ∷ 0 ∷ 4 ∷ []) ++ two 0xFF 0xFF) (pos 3) (Plan 2)
-    ∷ looks (mixed 2) (entries (1 ∷ 2 ∷ 3 ∷ 0 ∷ 4 ∷ [])) (pos 2) (Plan 1)
-    ∷ looks (mixed 2) (entries (1 ∷ 2 ∷ 3 ∷ 0 ∷ 4 ∷ [])) (negsuc 2) (declined 13)
+    ∷ looks (mixed 2) (entries (1 ∷ 2 ∷ 3 ∷ 0 ∷ 4 ∷ []) ++ two 0xFF 0xFF) (pos 3) (looked 2)
+    ∷ looks (mixed 2) (entries (1 ∷ 2 ∷ 3 ∷ 0 ∷ 4 ∷ [])) (pos 2) (looked 1)
+    ∷ looks (mixed 2) (entries (1 ∷ 2 ∷ 3 ∷ 0 ∷ 4 ∷ [])) (negsuc 2) (refused 13 0)
     ∷ builds (mixed 0) (replicate 10 0xFF) (replied 0 0) (entries (2 ∷ 0 ∷ 1 ∷ 3 ∷ 4 ∷ []))
-    ∷ looks (mixed 0) (entries (2 ∷ 0 ∷ 1 ∷ 3 ∷ 4 ∷ [])) (negsuc 32_767) (Plan 2)
-    ∷ looks tied (entries (two 1 0)) (pos 3) (Plan 0)
-    ∷ looks tied (entries (two 0 1)) (pos 3) (declined 12)
-    ∷ looks tied (entries (two 1 1)) (pos 3) (declined 12)
-    ∷ looks tied (take 3 (entries (two 1 0))) (pos 3) (declined 16)
+    ∷ looks (mixed 0) (entries (2 ∷ 0 ∷ 1 ∷ 3 ∷ 4 ∷ [])) (negsuc 32_767) (looked 2)
+    ∷ looks tied (entries (two 1 0)) (pos 3) (looked 0)
+    ∷ looks tied (entries (two 0 1)) (pos 3) (refused 12 0)
+    ∷ looks tied (entries (two 1 1)) (pos 3) (refused 12 0)
+    ∷ looks tied (take 3 (entries (two 1 0))) (pos 3) (refused 16 0)
     ∷ builds tied (replicate 3 0xFF) (replied 16 0) (replicate 3 0xFF)
     ∷ builds unmarked (replicate 3 0xFF) (replied 12 0) (replicate 3 0xFF)
-    ∷ builds (list 0 0 2 1 []) [] (replied 0 0) []
-    ∷ looks (list 0 0 2 1 []) [] (pos 3) (declined 13)
+    ∷ builds (list 0 0 0 1 []) [] (replied 0 0) []
+    ∷ looks (list 0 0 0 1 []) [] (pos 3) (refused 13 0)
     ∷ []
 
 -- ---- the theorem
@@ -294,7 +295,7 @@ unfolding table endsIn sumsIn costsIn column layoutAmong layoutOf networkWith ra
     badCount badLength badRanks badSum checkedWith linkChecked yardChecked firstRefusal refuseIf _orElse_ reply status ifFine
     judged drawnChecked asked askedChecked bestTree treeAfter treeWith roomChecked plansChecked plansAfter listChecked listStatus listAfter printed
     costsAt damaged indexKey indexOf unfit indexChecked indexStatus indexIn indexAfter entriesFrom isIndex meets cheapest lookupChecked
-    foundPlan foundBy lookedUp
+    foundPlan foundBy lookedUp saysFound lookupReply
 table-right = every Right (
     record { promised = refl; by-walk = refl; counted = refl; needed = refl; succeeds = refl; bytes = refl }
     ▸ refl

@@ -16,7 +16,7 @@ use Rattle.order.specs.Sorted.{Rising, numbers-length, numbers-mem, sort-mem, s
 use Rattle.network.specs.Bytes.{littleEndian}
 use Rattle.network.specs.PlanList.{join}
 use Rattle.network.specs.Fetching.{damaged, headCount}
-use Rattle.network.specs.Indexing.{entriesFrom, indexIn, indexKey, indexNeed, indexOf, isIndex, planNumbers, unbounded}
+use Rattle.network.specs.Indexing.{entriesFrom, indexIn, indexKey, indexNeed, indexOf, isIndex, planNumbers, withoutCeilings}
 use Rattle.sorting.specs.Numbers.{Telling, numbers-once, sorted-numbers}
 use Rattle.planlist_finding.specs.Found.{whole}
 use Rattle.index_testing.specs.Entries.{AllBelow}
@@ -27,7 +27,7 @@ module _ (list : List ℕ) where
   key-tells : (n : ℕ) → Telling (indexKey list) n
   unfolding indexKey
   key-tells n x y h g e =
-      by-test (unbounded list)
+      by-test (withoutCeilings list)
       (λ t. let f = rw t at e in ap (λ (k : List ℤ). mag (getD k 1 (pos 0))) f)
       (λ t. let f = rw t at e in ap (λ (k : List ℤ). mag (getD k 3 (pos 0))) f)
 
@@ -37,7 +37,7 @@ module _ (list : List ℕ) where
   index-rising = sorted-numbers (dictionary orderℤ) (indexKey list) (headCount list) (key-tells (headCount list))
 
   -- it has the plan numbers in some order
-  pub index-perm : Perm (indexOf list) (planNumbers list)
+  index-perm : Perm (indexOf list) (planNumbers list)
   unfolding indexOf
   index-perm = sort-perm (dictionary orderℤ) (indexKey list) (planNumbers list)
 
@@ -59,7 +59,7 @@ module _ (list : List ℕ) where
 
 module _ (list : List ℕ) (intact : damaged list ≡ false) where
   -- the entries of a buffer with the index in it are those of the index
-  index-held : (buffer : List ℕ) → entriesFrom (headCount list) 0 (indexIn list buffer) ≡ indexOf list
+  pub index-held : (buffer : List ℕ) → entriesFrom (headCount list) 0 (indexIn list buffer) ≡ indexOf list
   unfolding indexIn
   index-held buffer =
       let rest = drop (indexNeed list) buffer in

@@ -1,35 +1,39 @@
 -- What callers rely on: replies and bytes that are those of the definitions keep the promises.
 use mathlib.Core.Bool.{Bool, true, false, cond}
-use mathlib.Core.List.{List, [], _∷_, List·Memᴰ·head as here, List·Memᴰ·tail as there}
-use mathlib.Core.Logic.{_⊎_, inl, inr}
+use mathlib.Core.List.{List, [], _∷_, _++_, List·Memᴰ·head as here, List·Memᴰ·tail as there}
+use mathlib.Core.Logic.{_⊎_, inl, inr, ⊎-elim}
 use mathlib.Core.Option.{Option, none, some}
 use mathlib.Core.Path.{_≡_, refl, sym, ap, _∙_, subst⁻¹}
 use Prim.Native.Nat.{ℕ, _≤_, _<_}
 use native.Mathlib.Omega.{arith}
 use borrow.Author.Tests.{le-ltb, lt-ltb, ltb-false, ltb-true}
 use lib.Dec.{ltb}
-use lib.IntN.{ℤ}
-use lib.ListN.{drop, length, length-append}
-use Rattle.order.specs.Test.{both, by-test, clash, fails}
+use lib.IntN.{ℤ, pos}
+use lib.ListN.{drop, getD, length, length-append, take-append-drop}
+use lib.Signed.{mag}
+use Rattle.order.specs.Test.{both, by-test, fails}
 use Rattle.order.specs.Lists.{_∈_, all}
 use Rattle.order.specs.Order.{dictionary, equal→≡, orderℕ}
 use Rattle.order.specs.Sorted.{numbers-mem}
 use Rattle.network.specs.Walk.{plans}
 use Rattle.network.specs.Survey.{networkOf}
-use Rattle.network.specs.Checked.{refuseIf, _orElse_}
-use Rattle.network.specs.Calls.{ifFine, status}
+use Rattle.network.specs.Calls.{Reply}
 use Rattle.network.specs.Fetching.{damaged, fetchNumber, headCount}
-use Rattle.network.specs.Indexing.{cheapest, declined, entriesFrom, foundBy, foundPlan, indexAfter, indexChecked, indexIn, indexNeed, indexOf}
-use Rattle.network.specs.Indexing.{indexStatus, isIndex, isMarked, lookedUp, lookupChecked, planNumbers, unfit}
+use Rattle.network.specs.Indexing.{cheapest, declined, entriesFrom, foundPlan, indexAfter, indexIn, indexNeed, indexOf}
+use Rattle.network.specs.Indexing.{indexStatus, isIndex, isMarked, lookedUp, lookupReply, planNumbers, saysFound, unfit}
 use Rattle.network.specs.IndexPromise.{IndexPromised, LookupPromised, Ordered}
 use Rattle.network.specs.Promise.{Archived}
 use Rattle.network.specs.declared.Found.{Found}
-use Rattle.network.specs.declared.Found.the-variants.{Plan, Refused as Found·Refused}
+use Rattle.network.specs.declared.Found.the-variants.{Plan}
 use Rattle.network.specs.declared.Status.{Status}
 use Rattle.planlist_finding.specs.Found.{number-damaged, number-marked}
+use Rattle.index_keys.specs.Order.{AllBytes}
 use Rattle.index_building.specs.Entries.{entry-length, entryBytes}
+use Rattle.index_building.specs.Replies.{built-fits, built-short, built-unfit, fit-intact}
+use Rattle.index_finding.specs.Finding.{looked-held, looked-other, looked-short, looked-unfit}
 use Rattle.planner_fetch.specs.Archive.{number-kept}
-use Rattle.planner_index.specs.Index.{index-below, index-in, index-length, index-once, index-rising}
+use Rattle.planner_index.specs.Held.{entries-bytes}
+use Rattle.planner_index.specs.Index.{index-below, index-held, index-in, index-length, index-once, index-rising}
 use Rattle.planner_index.specs.Cheapest.{cheapest-none, cheapest-some}
 
 -- ---- a list that a list call made is fit
@@ -72,26 +76,6 @@ archived-fit s list a = fetched-fit list (length (plans (networkOf s))) (λ r. n
 
 -- ---- building
 
-fit-intact : (list : List ℕ) → unfit list ≡ false → damaged list ≡ false
-unfolding unfit
-fit-intact list e = by-test (damaged list) (λ d. clash refl (rw d at e)) (λ d. d)
-
--- entries that hold the index are its numbers
-held-entries : (list : List ℕ) → damaged list ≡ false → (buffer : List ℕ) → entriesFrom (headCount list) 0 (indexIn list buffer) ≡ indexOf list
-unfolding isIndex
-held-entries list intact buffer = equal→≡ (dictionary orderℕ) (entriesFrom (headCount list) 0 (indexIn list buffer)) (indexOf list) (index-in list
-    intact buffer)
-
--- an index has its bytes
-index-long : (list buffer : List ℕ) → indexNeed list ≤ length (indexIn list buffer)
-unfolding indexIn
-index-long list buffer = omega (
-  arith,
-  length-append (entryBytes (indexOf list)) (drop (indexNeed list) buffer),
-  entry-length (indexOf list),
-  index-length list,
-)
-
 -- by the two tests of building
 data Case (list : List ℕ) (size : ℕ) : Type 0 where
   unfit-case : unfit list ≡ true → Case list size
@@ -100,133 +84,160 @@ data Case (list : List ℕ) (size : ℕ) : Type 0 where
 
 cases : (list : List ℕ) (size : ℕ) → Case list size
 cases list size =
-    by-test (unfit list) unfit-case (λ e. by-test (ltb size (indexNeed list)) (λ t. short-case e (ltb-true size (indexNeed list) t)) (λ t. fits-case
-    e (ltb-false size (indexNeed list) t)))
+    by-test (unfit list) unfit-case
+    (λ e. by-test (ltb size (indexNeed list))
+    (λ t. short-case e (ltb-true size (indexNeed list) t))
+    (λ t. fits-case e (ltb-false size (indexNeed list) t)))
 
 module _ (list buffer : List ℕ) where
-  -- what building replies and leaves in each case
-  status-unfit : unfit list ≡ true → indexStatus list (length buffer) ≡ record { number = 12; place = 0 }
-  unfolding indexStatus indexChecked status refuseIf _orElse_
-  status-unfit e = rw e
-
-  status-short : unfit list ≡ false → length buffer < indexNeed list → indexStatus list (length buffer) ≡ record { number = 16; place = 0 }
-  unfolding indexStatus indexChecked status refuseIf _orElse_
-  status-short e h = rw (e, lt-ltb (length buffer) (indexNeed list) h)
-
-  status-fits : unfit list ≡ false → indexNeed list ≤ length buffer → indexStatus list (length buffer) ≡ record { number = 0; place = 0 }
-  unfolding indexStatus indexChecked status refuseIf _orElse_
-  status-fits e h = rw (e, le-ltb (length buffer) (indexNeed list) h)
-
-  after-fits : unfit list ≡ false → indexNeed list ≤ length buffer → indexAfter list buffer ≡ indexIn list buffer
-  unfolding indexAfter indexChecked ifFine refuseIf _orElse_
-  after-fits e h = rw (e, le-ltb (length buffer) (indexNeed list) h)
-
   -- the entries of the index are in order
-  ordered : unfit list ≡ false → Ordered list (entriesFrom (headCount list) 0 (indexIn list buffer))
-  ordered e =
-      subst⁻¹ (Ordered list) (held-entries list (fit-intact list e) buffer)
+  in-order : unfit list ≡ false → Ordered list (entriesFrom (headCount list) 0 (indexIn list buffer))
+  in-order e =
+      subst⁻¹ (Ordered list) (index-held list (fit-intact list e) buffer)
       (record { once = index-once list; only = λ r m. index-below list .below r m; rising = index-rising list })
+
+  -- an index has its bytes
+  index-long : indexNeed list ≤ length (indexIn list buffer)
+  unfolding indexIn
+  index-long = omega (arith, length-append (entryBytes (indexOf list)) (drop (indexNeed list) buffer), entry-length (indexOf list), index-length list)
 
   pub index-promised : {r : Status} {left : List ℕ} → r ≡ indexStatus list (length buffer) → left ≡ indexAfter list buffer → IndexPromised list buffer r left
   index-promised {r} {left} e f =
       record {
         ordered = λ z. go z (cases list (length buffer));
-        succeeds = λ s a room. e ∙ status-fits (archived-fit s list a) room;
+        succeeds = λ s a room. e ∙ sym (built-fits list buffer (archived-fit s list a) room refl .0);
       }
     where
       go : r ≡ record { number = 0; place = 0 } → Case list (length buffer) → Ordered list (entriesFrom (headCount list) 0 left)
-      go z (unfit-case u) = let n = ap (λ (x : Status). x .number) (sym z ∙ e ∙ status-unfit u) in absurd (omega arith)
-      go z (short-case u h) = let n = ap (λ (x : Status). x .number) (sym z ∙ e ∙ status-short u h) in absurd (omega arith)
-      go z (fits-case u h) = subst⁻¹ (λ (l : List ℕ). Ordered list (entriesFrom (headCount list) 0 l)) (f ∙ after-fits u h) (ordered u)
+      go z (unfit-case u) = let n = ap (λ (x : Status). x .number) (sym z ∙ e ∙ sym (built-unfit list buffer u .0)) in absurd (omega arith)
+      go z (short-case u h) = let n = ap (λ (x : Status). x .number) (sym z ∙ e ∙ sym (built-short list buffer u h .0)) in absurd (omega arith)
+      go z (fits-case u h) =
+          subst⁻¹ (λ (l : List ℕ). Ordered list (entriesFrom (headCount list) 0 l)) (f ∙ sym (built-fits list buffer u h refl .1)) (in-order u)
 
 -- ---- a lookup
 
--- the number of a refusal; 0 of a plan
-unfoldable pub numberOf : Found → ℕ
-numberOf (Plan r) = 0
-numberOf (Found·Refused r) = r .number
+plan-zero : (r : ℕ) → saysFound (Plan r) .number ≡ 0
+unfolding saysFound
+plan-zero r = refl
 
-planOf : Found → ℕ
-planOf (Plan r) = r
-planOf (Found·Refused r) = 0
+none-thirteen : saysFound (declined 13) .number ≡ 13
+unfolding saysFound
+none-thirteen = refl
+
+missed : foundPlan none ≡ declined 13
+unfolding foundPlan
+missed = refl
+
+found-one : (r : ℕ) → foundPlan (some r) ≡ Plan r
+unfolding foundPlan
+found-one r = refl
 
 module _ (list index : List ℕ) (y : ℤ) where
-  looked-unfit : unfit list ≡ true → lookedUp list index y ≡ declined 12
-  unfolding lookedUp lookupChecked indexChecked foundBy refuseIf _orElse_
-  looked-unfit e = rw e
+  -- the number of the reply
+  abbrev number : ℕ
+  number = saysFound (lookedUp list index y) .number
 
-  looked-short : unfit list ≡ false → length index < indexNeed list → lookedUp list index y ≡ declined 16
-  unfolding lookedUp lookupChecked indexChecked foundBy refuseIf _orElse_
-  looked-short e h = rw (e, lt-ltb (length index) (indexNeed list) h)
+  -- a reply that is a plan or 13 comes from the cheapest plan, by the list's own index
+  record Answered : Type 0 where
+    fit : unfit list ≡ false
+    room : indexNeed list ≤ length index
+    held : isIndex list index ≡ true
+    found : lookedUp list index y ≡ foundPlan (cheapest list y)
 
-  looked-other : unfit list ≡ false → indexNeed list ≤ length index → isIndex list index ≡ false → lookedUp list index y ≡ declined 12
-  unfolding lookedUp lookupChecked indexChecked foundBy refuseIf _orElse_
-  looked-other e h f = rw (e, le-ltb (length index) (indexNeed list) h, f)
+  numbered : {f : Found} → f ≡ lookedUp list index y → saysFound f .number ≡ number
+  numbered e = ap (λ (f : Found). saysFound f .number) e
 
-  looked-held : unfit list ≡ false → indexNeed list ≤ length index → isIndex list index ≡ true → lookedUp list index y ≡ foundPlan (cheapest list y)
-  unfolding lookedUp lookupChecked indexChecked foundBy refuseIf _orElse_
-  looked-held e h f = rw (e, le-ltb (length index) (indexNeed list) h, f)
-
-  -- a reply that is a plan or 13 comes from the cheapest plan
-  by-cheapest : (n : ℕ) → numberOf (lookedUp list index y) ≡ n → ¬ (n ≡ 12) → ¬ (n ≡ 16) → lookedUp list index y ≡ foundPlan (cheapest list y)
-  unfolding numberOf
-  by-cheapest n e a b = go (cases list (length index))
+  answered : ¬ (number ≡ 12) → ¬ (number ≡ 16) → Answered
+  unfolding saysFound
+  answered a b = go (cases list (length index))
     where
-      go : Case list (length index) → lookedUp list index y ≡ foundPlan (cheapest list y)
-      go (unfit-case u) = absurd (a (sym e ∙ ap numberOf (looked-unfit u)))
-      go (short-case u h) = absurd (b (sym e ∙ ap numberOf (looked-short u h)))
+      go : Case list (length index) → Answered
+      go (unfit-case u) = absurd (a (sym (numbered (looked-unfit list index y u))))
+      go (short-case u h) = absurd (b (sym (numbered (looked-short list index y u h))))
       go (fits-case u h) =
-          by-test (isIndex list index) (looked-held u h) (λ f. absurd (a (sym e ∙ ap numberOf (looked-other u h f))))
+          by-test (isIndex list index)
+          (λ e. record { fit = u; room = h; held = e; found = sym (looked-held list index y u h e) })
+          (λ e. absurd (a (sym (numbered (looked-other list index y u h e)))))
 
-  plan-cheapest : (o : Option ℕ) (r : ℕ) → foundPlan o ≡ Plan r → o ≡ some r
-  unfolding foundPlan numberOf planOf
-  plan-cheapest none r e = let z = ap numberOf e in absurd (omega arith)
-  plan-cheapest (some q) r e = ap some (ap planOf e)
+  by-number : (n : ℕ) → number ≡ n → ¬ (n ≡ 12) → ¬ (n ≡ 16) → Answered
+  by-number n e a b = answered (λ z. a (sym e ∙ z)) (λ z. b (sym e ∙ z))
 
-  none-cheapest : (o : Option ℕ) → foundPlan o ≡ declined 13 → o ≡ none
-  unfolding foundPlan numberOf
+  plan-cheapest : (o : Option ℕ) (r : ℕ) → saysFound (foundPlan o) ≡ saysFound (Plan r) → o ≡ some r
+  unfolding foundPlan saysFound
+  plan-cheapest none r e = let z = ap (λ (x : Reply). x .number) e in absurd (omega arith)
+  plan-cheapest (some q) r e = ap some (ap (λ (x : Reply). mag (getD (x .values) 0 (pos 0))) e)
+
+  none-cheapest : (o : Option ℕ) → saysFound (foundPlan o) ≡ saysFound (declined 13) → o ≡ none
+  unfolding foundPlan saysFound
   none-cheapest none e = refl
-  none-cheapest (some q) e = let z = ap numberOf e in absurd (omega arith)
+  none-cheapest (some q) e = let z = ap (λ (x : Reply). x .number) e in absurd (omega arith)
+
+  -- building into the buffer of an index that is the list's own leaves it
+  own-index : AllBytes index → Answered → indexAfter list index ≡ index
+  unfolding indexIn isIndex
+  own-index bytes a =
+      let own = equal→≡ (dictionary orderℕ) (entriesFrom (headCount list) 0 index) (indexOf list) (a .held) in
+      sym (built-fits list index (a .fit) (a .room) refl .1)
+      ∙ ap (λ (l : List ℕ). l ++ drop (indexNeed list) index) (ap entryBytes (sym own) ∙ entries-bytes (headCount list) 0 index bytes (omega (arith, a .room)))
+      ∙ take-append-drop (indexNeed list) index
 
   -- number 0 is that of a plan, and 13 that no plan meets the value
-  pub found-plan : numberOf (lookedUp list index y) ≡ 0 → (r : ℕ) × (lookedUp list index y ≡ Plan r)
-  unfolding numberOf foundPlan
-  found-plan e = go (cheapest list y) (by-cheapest 0 e (λ z. omega arith) (λ z. omega arith))
+  pub reply-plan : lookupReply list index y .number ≡ 0 → (r : ℕ) × (lookupReply list index y ≡ saysFound (Plan r))
+  unfolding lookupReply
+  reply-plan e = go (cheapest list y) (by-number 0 e (λ z. omega arith) (λ z. omega arith) .found)
     where
-      go : (o : Option ℕ) → lookedUp list index y ≡ foundPlan o → (r : ℕ) × (lookedUp list index y ≡ Plan r)
-      go none q = let z = sym e ∙ ap numberOf q in absurd (omega arith)
-      go (some r) q = (r, q)
+      go : (o : Option ℕ) → lookedUp list index y ≡ foundPlan o → (r : ℕ) × (lookupReply list index y ≡ saysFound (Plan r))
+      go none q = let z = sym e ∙ ap (λ (f : Found). saysFound f .number) (q ∙ missed) ∙ none-thirteen in absurd (omega arith)
+      go (some r) q = (r, ap saysFound (q ∙ found-one r))
 
-  pub found-thirteen : numberOf (lookedUp list index y) ≡ 13 → lookedUp list index y ≡ declined 13
-  unfolding numberOf foundPlan
-  found-thirteen e = go (cheapest list y) (by-cheapest 13 e (λ z. omega arith) (λ z. omega arith))
+  pub reply-thirteen : lookupReply list index y .number ≡ 13 → lookupReply list index y ≡ saysFound (declined 13)
+  unfolding lookupReply
+  reply-thirteen e = go (cheapest list y) (by-number 13 e (λ z. omega arith) (λ z. omega arith) .found)
     where
-      go : (o : Option ℕ) → lookedUp list index y ≡ foundPlan o → lookedUp list index y ≡ declined 13
-      go none q = q
-      go (some r) q = let z = sym e ∙ ap numberOf q in absurd (omega arith)
+      go : (o : Option ℕ) → lookedUp list index y ≡ foundPlan o → lookupReply list index y ≡ saysFound (declined 13)
+      go none q = ap saysFound (q ∙ missed)
+      go (some r) q = let z = sym e ∙ ap (λ (f : Found). saysFound f .number) (q ∙ found-one r) ∙ plan-zero r in absurd (omega arith)
 
-  pub lookup-promised : {found : Found} → found ≡ lookedUp list index y → LookupPromised list index y found
-  unfolding numberOf foundPlan
-  lookup-promised {found} e =
+  -- what was found says the reply
+  pub says-looked : {found : Found} → found ≡ lookedUp list index y → saysFound found ≡ lookupReply list index y
+  unfolding lookupReply
+  says-looked e = ap saysFound e
+
+  pub lookup-promised : AllBytes index → {reply : Reply} → reply ≡ lookupReply list index y → LookupPromised list index y reply
+  unfolding lookupReply
+  lookup-promised bytes {reply} e =
       record {
         cheapest = λ r q.
-            cheapest-some list y r
-            (plan-cheapest (cheapest list y) r (sym (by-cheapest 0 (ap numberOf (sym e ∙ q)) (λ z. omega arith) (λ z. omega arith)) ∙ sym e ∙ q));
+            let a = by-number 0 (plan-number r q) (λ z. omega arith) (λ z. omega arith) in
+            cheapest-some list y r (plan-cheapest (cheapest list y) r (ap saysFound (sym (a .found)) ∙ sym e ∙ q));
         none = λ q.
-            cheapest-none list y
-            (none-cheapest (cheapest list y) (sym (by-cheapest 13 (ap numberOf (sym e ∙ q)) (λ z. omega arith) (λ z. omega arith)) ∙ sym e ∙ q));
+            let a = by-number 13 (none-number q) (λ z. omega arith) (λ z. omega arith) in
+            cheapest-none list y (none-cheapest (cheapest list y) (ap saysFound (sym (a .found)) ∙ sym e ∙ q));
+        own = λ w. own-index bytes (⊎-elim
+            (λ (z : reply .number ≡ 0). by-number 0 (sym same ∙ z) (λ k. omega arith) (λ k. omega arith))
+            (λ (z : reply .number ≡ 13). by-number 13 (sym same ∙ z) (λ k. omega arith) (λ k. omega arith))
+            w);
         answers = λ s buffer a room made. go s buffer a room made (cheapest list y) refl;
       }
     where
+      same : reply .number ≡ number
+      same = ap (λ (x : Reply). x .number) e
+
+      plan-number : (r : ℕ) → reply ≡ saysFound (Plan r) → number ≡ 0
+      plan-number r q = sym same ∙ ap (λ (x : Reply). x .number) q ∙ plan-zero r
+
+      none-number : reply ≡ saysFound (declined 13) → number ≡ 13
+      none-number q = sym same ∙ ap (λ (x : Reply). x .number) q ∙ none-thirteen
+
       go : (s buffer : List ℕ) → Archived s list → indexNeed list ≤ length buffer → index ≡ indexAfter list buffer → (o : Option ℕ) → cheapest list y ≡ o
-          → ((r : ℕ) × (found ≡ Plan r)) ⊎ (found ≡ declined 13)
+          → ((r : ℕ) × (reply ≡ saysFound (Plan r))) ⊎ (reply ≡ saysFound (declined 13))
       go s buffer a room made o q =
           let fit = archived-fit s list a in
-          let is : index ≡ indexIn list buffer = made ∙ after-fits list buffer fit room in
+          let is : index ≡ indexIn list buffer = made ∙ sym (built-fits list buffer fit room refl .1) in
           let held : isIndex list index ≡ true = ap (isIndex list) is ∙ index-in list (fit-intact list fit) buffer in
           let long : indexNeed list ≤ length index = omega (arith, ap length is, index-long list buffer) in
-          answer o (e ∙ looked-held fit long held ∙ ap foundPlan q)
+          answer o (e ∙ ap saysFound (sym (looked-held list index y fit long held) ∙ ap foundPlan q))
         where
-          answer : (o : Option ℕ) → found ≡ foundPlan o → ((r : ℕ) × (found ≡ Plan r)) ⊎ (found ≡ declined 13)
-          answer none z = inr z
-          answer (some r) z = inl (r, z)
+          answer : (o : Option ℕ) → reply ≡ saysFound (foundPlan o) → ((r : ℕ) × (reply ≡ saysFound (Plan r))) ⊎ (reply ≡ saysFound (declined 13))
+          answer none z = inr (z ∙ ap saysFound missed)
+          answer (some r) z = inl (r, z ∙ ap saysFound (found-one r))

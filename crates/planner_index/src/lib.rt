@@ -7,7 +7,7 @@ use network::Status;
 use planlist_finding::is_damaged;
 ghost use mathlib.Core.Path.{_≡_};
 ghost use lib.ListN.{length};
-ghost use Rattle.network.specs.Indexing.{indexAfter, indexStatus, lookedUp};
+ghost use Rattle.network.specs.Indexing.{indexAfter, indexStatus, lookupReply, saysFound};
 ghost use Rattle.network.specs.IndexPromise.{IndexPromised, LookupPromised};
 
 // The index of a list into the index buffer, whose bytes past it stay: number 0 and place 0, or the refusal.
@@ -26,9 +26,9 @@ pub fn index(list: &[u8], buffer: &mut [u8]) -> Status
 }
 
 // The cheapest plan of a list whose y1 is at most y, by its index: the plan's number, or the refusal.
-pub fn index_lookup(list: &[u8], buffer: &[u8], y: i16) -> Found
-    ensures reply { λ r. ⌜ r ≡ lookedUp (now (list .entry)) (now (buffer .entry)) y ⌝ }
-    ensures promised { λ r. ⌜ LookupPromised (now (list .entry)) (now (buffer .entry)) y r ⌝ }
+pub fn index_lookup(list: &[u8], index: &[u8], y: i16) -> Found
+    ensures reply { λ r. ⌜ saysFound r ≡ lookupReply (now (list .entry)) (now (index .entry)) y ⌝ }
+    ensures promised { λ r. ⌜ LookupPromised (now (list .entry)) (now (index .entry)) y (saysFound r) ⌝ }
 {
     if is_damaged(list) {
         return Found::Refused(Refusal {
@@ -36,5 +36,5 @@ pub fn index_lookup(list: &[u8], buffer: &[u8], y: i16) -> Found
             place: 0,
         });
     }
-    find(list, buffer, y)
+    find(list, index, y)
 }

@@ -1,5 +1,6 @@
 -- The numbers below n by rising keys: n numbers below n whose keys rise strictly are the numbers below n, sorted. For n different numbers below n are all
 -- of them.
+use mathlib.Core.Bool.{Bool, true, false}
 use mathlib.Core.List.{List, [], _∷_, List·Memᴰ·cases-cons, List·Memᴰ·head as here, List·Memᴰ·tail as there}
 use mathlib.Core.Logic.{_⊎_, inl, inr, ⊎-elim}
 use mathlib.Core.Path.{_≡_, refl, sym, ap, subst}
@@ -11,7 +12,7 @@ use lib.Dec.{eqb}
 use lib.ListN.{length}
 use Rattle.order.specs.Lists.{_∈_, _⊆_, count, count-none, length-nil, numbersFrom}
 use Rattle.order.specs.Perm.{Perm, mem-front, pairwise-imp, perm-length, perm-⊆}
-use Rattle.order.specs.Order.{TotalOrder, orderℕ}
+use Rattle.order.specs.Order.{TotalOrder, orderℕ, tieBreak}
 use Rattle.order.specs.Sorted.{Apart, Rising, mem-numbers, mem-sort, numbers-length, numbers-mem, numbers-rising, rising-apart, rising-unique}
 use Rattle.order.specs.Sorted.{sort, sort-mem, sort-rising}
 
@@ -80,3 +81,9 @@ numbers-once (suc n) k x h l =
   where
     later : k ≡ x → (y : ℕ) → y ∈ numbersFrom n (suc k) → x ≡ y → ⊥
     later q y m e = let w = numbers-mem n (suc k) y m in omega arith
+
+-- numbers by a key and then by themselves: of two in their order the second test always passes, and the key decides
+pub tie-last : (s t : Bool) → tieBreak s t true ≡ s
+tie-last true true = refl
+tie-last true false = refl
+tie-last false t = refl

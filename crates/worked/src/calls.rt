@@ -1,4 +1,6 @@
-// The planner's calls on a survey, with their replies printed.
+// The planner's calls, with their replies printed.
+use crate::indexing::index_call;
+use crate::indexing::many_call;
 use crate::report::answer;
 use crate::report::status;
 use console::item;
@@ -15,10 +17,10 @@ use planner::judge;
 use planner::list;
 
 // What buffers hold before a call.
-const DIRT: u8 = 0xFF;
+pub const DIRT: u8 = 0xFF;
 
 // The signed number whose two's complement ends a number.
-fn cost(n: u32) -> i16 {
+pub fn cost(n: u32) -> i16 {
     signed16((n % 65536) as u16)
 }
 
@@ -78,7 +80,7 @@ fn lend(survey: &[u8], word: u8, size: usize, a: u32, b: u32, c: u32) {
     }
 }
 
-// A line's call on a survey.
+// A line's call on a survey or on a list.
 pub fn call(survey: &[u8], line: Line) {
     let word = line.word;
     let ns = line.numbers;
@@ -86,6 +88,8 @@ pub fn call(survey: &[u8], line: Line) {
     match word {
         b'j' => answer(judge(survey, part(&bytes, 0, line.count))),
         b'a' | b'p' | b'f' => lend(survey, word, ns[0] as usize, ns[1], ns[2], ns[3]),
+        b'i' | b'v' => index_call(survey, line),
+        b'm' => many_call(line),
         _ => return,
     }
     text(b"\n");

@@ -8,15 +8,26 @@
 //     set I X                 byte I is X
 //     cut L                   the survey has L bytes
 //
-// and these print what stands before their colon, and what a call replies on that survey:
+// These make a plan list in its place, to which `set` and `cut` apply as well:
+//
+//     head COUNT SOLVED T P   a list begins with this head
+//     row S Y1 Y2 LINK        one plan record more, with one link
+//     walk ALLOWANCE          the list call's list of the survey, with 656 bytes
+//
+// And these print what stands before their colon, and what a call replies on that survey or list:
 //
 //     judge LINKS             the judge, with these links drawn
 //     ask L B1 B2             the ceilings question, and the tree buffer of L bytes after it
 //     plans L ALLOWANCE       the list call, and the list buffer of L bytes after it
 //     fetch L ALLOWANCE I X   the list call, and the plans 0, 1, 2 and 4,294,967,295 of its list with byte I as X
+//     index L                 building the list's index, and the index buffer of L bytes after it
+//     value L V I X J Y       the lookup by V in the index built in L bytes, with byte I as X and byte J as Y, or as it was built
+//     many L COUNT P V        building and the lookup on a list of COUNT plans, with the ends of the index buffer of L bytes
 //
 // The first letter of the word counts. A line with any other word is a remark.
 mod calls;
+mod indexing;
+mod many;
 mod report;
 mod yard;
 
@@ -39,6 +50,9 @@ fn obey(yard: Yard, line: Line, byte: u8) -> Yard {
         b'y' => Yard::begin(numbers),
         b't' => Yard::begin_counted(numbers),
         b'l' => yard.link(numbers),
+        b'h' => Yard::begin_list(numbers),
+        b'r' => yard.plan(numbers),
+        b'w' => yard.walk(numbers),
         b's' => yard.set(numbers),
         b'c' => yard.cut(numbers),
         _ => yard.call(line),

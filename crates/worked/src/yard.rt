@@ -1,10 +1,12 @@
-// Surveys put together record by record.
+// Surveys and plan lists put together record by record.
+use crate::calls::DIRT;
 use crate::calls::call;
 use console::line::Line;
 use console::line::NUMBERS;
 use console::part;
 use encoding_writes::write_u32;
 use network::limits::MAX_LINKS;
+use planner::list;
 use std::num::wrapping_add_usize;
 
 // More bytes than a survey of one link too many has.
@@ -16,14 +18,22 @@ const COUNTED_MARK: u32 = 0x4559;
 
 const LINK_MARK: u32 = 0x4B4C;
 
-// How many bytes each number of a yard record takes, of one with a link count, and of a link record.
+pub const HEAD_MARK: u32 = 0x4850;
+
+pub const PLAN_MARK: u32 = 0x4C50;
+
+// How many bytes each number of a yard record takes, of one with a link count, of a link record, of a list's head, and of a plan record with one link.
 const YARD_SIZES: [u8; 5] = [1, 1, 1, 1, 0];
 
 const COUNTED_SIZES: [u8; 5] = [1, 1, 1, 1, 1];
 
 const LINK_SIZES: [u8; 5] = [1, 1, 4, 2, 2];
 
-// The bytes of a survey, of which the first `len` count.
+const HEAD_SIZES: [u8; 5] = [2, 4, 1, 1, 0];
+
+const PLAN_SIZES: [u8; 5] = [4, 2, 2, 1, 0];
+
+// The bytes of a survey or list, of which the first `len` count.
 pub struct Yard {
     pub bytes: [u8; ROOM],
     pub len: usize,
@@ -75,6 +85,24 @@ impl Yard {
         self.record(LINK_MARK, LINK_SIZES, numbers)
     }
 
+    // A list's head alone.
+    pub fn begin_list(numbers: [u32; NUMBERS]) -> Yard {
+        Yard::new().record(HEAD_MARK, HEAD_SIZES, numbers)
+    }
+
+    // A plan record more.
+    pub fn plan(self, numbers: [u32; NUMBERS]) -> Yard {
+        self.record(PLAN_MARK, PLAN_SIZES, numbers)
+    }
+
+    // The list of its survey in all the room, under an allowance.
+    pub fn walk(self, numbers: [u32; NUMBERS]) -> Yard {
+        let survey = self.bytes;
+        let mut bytes = [DIRT; ROOM];
+        let _reply = list(part(&survey, 0, self.len), numbers[0], &mut bytes);
+        Yard { bytes, len: ROOM }
+    }
+
     // Another byte at an index.
     pub fn set(mut self, numbers: [u32; NUMBERS]) -> Yard {
         self.bytes[numbers[0] as usize % ROOM] = (numbers[1] % 256) as u8;
@@ -87,7 +115,7 @@ impl Yard {
         self
     }
 
-    // As it is, after a call on its survey.
+    // As it is, after a call on its bytes.
     pub fn call(self, line: Line) -> Yard {
         let bytes = self.bytes;
         call(part(&bytes, 0, self.len), line);

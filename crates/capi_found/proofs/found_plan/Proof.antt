@@ -18,10 +18,10 @@ returns : tie.Need-returns
 returns c =
     let s = c .before .before .before .before in
     let list = now (s .args .list) in
-    let buffer = now (s .args .buffer) in
+    let index = now (s .args .index) in
     let asked = rw (toZ-ofZ (s .fits .value)) at (c .before .index-lookup .ensures) in
     let reply = c .flat .ensures ∙ ap flatFound (asked .0) in
-    (reply, found-promised list buffer (s .args .value) reply (subst (LookupPromised list buffer (s .args .value)) (asked .0) (asked .1)))
+    (reply, found-promised list index (s .args .value) reply (subst (LookupPromised list index (s .args .value)) (asked .0) (asked .1)))
 
 pub found-plan-spec : {M : Type 1} → statement M
 found-plan-spec = tie.close (tie.spec index-lookup-requires flat-requires returns)

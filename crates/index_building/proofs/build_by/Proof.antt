@@ -10,7 +10,7 @@ use denote.Ref.{now}
 use Rattle.planlist_finding.specs.Found.{whole}
 use Rattle.sorting.specs.Columns.{placesBy}
 use Rattle.index_building.specs.Built.{index-built}
-use Rattle.index_building.specs.Replies.{built-fits, built-short, built-unmarked}
+use Rattle.index_building.specs.Replies.{built-fits, built-short, built-unfit, fit-marked, unfit-unmarked}
 use Rattle.index_building.proofs.build_by.Statement.{statement}
 use Rattle.index_building.proofs.build_by.Tie as tie
 
@@ -92,7 +92,7 @@ returns c =
     let s = start u in
     let marks = sym (k .read-keys .ensures .marked) ∙ c .before .if1 .taken in
     let short = c .if2 .taken in
-    built-short (now (s .args .list)) (now (s .args .index)) (s .pre .0) marks (omega (arith, u .read-u16 .ensures))
+    built-short (now (s .args .list)) (now (s .args .index)) (fit-marked (now (s .args .list)) (s .pre .0) marks) (omega (arith, u .read-u16 .ensures))
 
 slice-relend-prefix-order-numbers : tie.Need-slice-relend-prefix-order-numbers
 slice-relend-prefix-order-numbers c = search needs
@@ -167,7 +167,7 @@ returns-2 c =
     let ordered = o .order-numbers .ensures ∙ ap placesBy (lent ∙ k .read-keys .ensures .filled taken) in
     let written = c .before .before .write-entries .ensures in
     let bytes = u .before .before .before .before .before .before .shared-slice-known .given in
-    built-fits (now (s .args .list)) (now (s .args .index)) (s .pre .0) marks (omega (arith, u .read-u16 .ensures))
+    built-fits (now (s .args .list)) (now (s .args .index)) (fit-marked (now (s .args .list)) (s .pre .0) marks) (omega (arith, u .read-u16 .ensures))
     (index-built (now (s .args .list)) bytes (now (s .args .index)) (numbers-lent o ∙ ordered)
     (ap length (numbers-lent o) ∙ numbers-back o ∙ u .read-u16 .ensures) written)
 
@@ -178,7 +178,8 @@ returns-3 : tie.Need-returns-3
 returns-3 c =
     let k = c .before .before .before in
     let s = start (counted k) in
-    built-unmarked (now (s .args .list)) (now (s .args .index)) (s .pre .0) (sym (k .read-keys .ensures .marked) ∙ c .if1 .left)
+    built-unfit (now (s .args .list)) (now (s .args .index))
+    (unfit-unmarked (now (s .args .list)) (s .pre .0) (sym (k .read-keys .ensures .marked) ∙ c .if1 .left))
 
 pub build-by-spec : {M : Type 1} → statement M
 build-by-spec =

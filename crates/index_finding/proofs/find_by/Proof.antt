@@ -9,7 +9,8 @@ use lib.Seq.{length-take-le, take-at}
 use mir.Facts.{toZ-ofZ}
 use denote.Ref.{now}
 use Rattle.planlist_finding.specs.Found.{whole}
-use Rattle.index_finding.specs.Finding.{foundIn, found-list, looked-short, looked-unmarked}
+use Rattle.index_building.specs.Replies.{fit-marked, unfit-unmarked}
+use Rattle.index_finding.specs.Finding.{found-list, foundIn, looked-short, looked-unfit}
 use Rattle.index_finding.proofs.find_by.Statement.{statement}
 use Rattle.index_finding.proofs.find_by.Tie as tie
 
@@ -72,7 +73,7 @@ returns c =
     let marks = sym (k .read-keys .ensures .marked) ∙ c .before .before .if1 .taken in
     let short = c .before .if2 .taken in
     c .refused .ensures
-    ∙ looked-short (now (s .args .list)) (now (s .args .index)) (s .args .y) (s .pre .0) marks (omega (arith, u .read-u16 .ensures))
+    ∙ looked-short (now (s .args .list)) (now (s .args .index)) (s .args .y) (fit-marked (now (s .args .list)) (s .pre .0) marks) (omega (arith, u .read-u16 .ensures))
 
 slice-reshare-prefix-find-in : tie.Need-slice-reshare-prefix-find-in
 slice-reshare-prefix-find-in c = search needs
@@ -107,7 +108,7 @@ returns-2 c =
     found
     ∙ ap (λ (l : List ℕ). foundIn l (now (s .args .index)) (s .args .y)) (keys-lent k)
     ∙ found-list (now (s .args .list)) bytes (k .read-keys .ensures .filled taken) (now (s .args .index)) (s .args .y)
-    (s .fits .y) (s .pre .0) marks (omega (arith, u .read-u16 .ensures))
+    (s .fits .y) (fit-marked (now (s .args .list)) (s .pre .0) marks) (omega (arith, u .read-u16 .ensures))
 
 refused-requires-2 : tie.Need-refused-requires-2
 refused-requires-2 c κs = search needs
@@ -120,7 +121,7 @@ returns-3 c =
     let k = c .before .before .before .before in
     let s = start (counted k) in
     let marks = sym (k .read-keys .ensures .marked) ∙ c .before .if1 .left in
-    c .refused2 .ensures ∙ looked-unmarked (now (s .args .list)) (now (s .args .index)) (s .args .y) (s .pre .0) marks
+    c .refused2 .ensures ∙ looked-unfit (now (s .args .list)) (now (s .args .index)) (s .args .y) (unfit-unmarked (now (s .args .list)) (s .pre .0) marks)
 
 pub find-by-spec : {M : Type 1} → statement M
 find-by-spec =

@@ -2,7 +2,7 @@
 use mathlib.Core.Path.{sym, _∙_}
 use borrow.Author.Needs.{needs}
 use denote.Ref.{now}
-use Rattle.index_building.specs.Replies.{built-damaged}
+use Rattle.index_building.specs.Replies.{built-unfit, unfit-damaged}
 use Rattle.planner_index.specs.Kept.{index-promised}
 use Rattle.planner_index.proofs.index.Statement.{statement}
 use Rattle.planner_index.proofs.index.Tie as tie
@@ -13,7 +13,8 @@ is-damaged-requires c κs = search needs
 returns : tie.Need-returns
 returns c =
     let a = c .before .before .before .before .args in
-    let made = built-damaged (now (a .list)) (now (a .buffer)) (sym (c .before .is-damaged .ensures) ∙ c .if1 .taken) in
+    let damaged = sym (c .before .is-damaged .ensures) ∙ c .if1 .taken in
+    let made = built-unfit (now (a .list)) (now (a .buffer)) (unfit-damaged (now (a .list)) damaged) in
     (made .0, (made .1, index-promised (now (a .list)) (now (a .buffer)) (made .0) (made .1)))
 
 build-requires : tie.Need-build-requires

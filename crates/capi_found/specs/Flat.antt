@@ -41,7 +41,8 @@ flat-refused f r e = rw e
 
 -- ---- the promise
 
-module _ (list index : List ℕ) (y : ℤ) {r : FoundPlan} (e : r ≡ flatFound (lookupReply list index y)) (p : LookupPromised list index y (lookupReply list index y)) where
+module _ (list index : List ℕ) (y : ℤ) {r : FoundPlan} (e : r ≡ flatFound (lookupReply list index y))
+    (p : LookupPromised list index y (lookupReply list index y)) where
   same-number : r .number ≡ lookupReply list index y .number
   unfolding flatFound
   same-number = ap (λ (f : FoundPlan). f .number) e

@@ -115,7 +115,8 @@ module _ (list : List ℕ) (bytes : AllBytes list) {keys : List ℕ} (filled : k
       key x m = let w = numbers-mem (headCount list) 0 x m in tabled-at (planKey list) (headCount list) x (omega arith)
 
   -- the lookup by keys is the lookup in the list
-  pub found-list : (buffer : List ℕ) (y : ℤ) → SFits w16 y → unfit list ≡ false → indexNeed list ≤ length buffer → foundIn keys buffer y ≡ lookedUp list buffer y
+  pub found-list : (buffer : List ℕ) (y : ℤ) → SFits w16 y → unfit list ≡ false → indexNeed list ≤ length buffer →
+      foundIn keys buffer y ≡ lookedUp list buffer y
   unfolding foundIn
   found-list buffer y fits fit room =
       ap₂ (λ (t : Bool) (o : Option ℕ). cond t (foundPlan o) (declined 12)) (holds-index buffer) (found-cheapest y fits)

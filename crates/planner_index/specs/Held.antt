@@ -42,7 +42,8 @@ number-bytes a b h k =
     ap₂ (λ (x y : ℕ). x ∷ y ∷ []) low high
 
 -- the bytes of numbers that were read are the bytes that they were read from
-pub entries-bytes : (n at : ℕ) (bs : List ℕ) → AllBytes bs → at + n * 2 ≤ length bs → join (map (littleEndian 2) (entriesFrom n at bs)) ≡ take (n * 2) (drop at bs)
+pub entries-bytes : (n at : ℕ) (bs : List ℕ) → AllBytes bs → at + n * 2 ≤ length bs →
+    join (map (littleEndian 2) (entriesFrom n at bs)) ≡ take (n * 2) (drop at bs)
 unfolding entriesFrom
 entries-bytes zero at bs known h = refl
 entries-bytes (suc n) at bs known h =

@@ -73,7 +73,8 @@ returns c =
     let marks = sym (k .read-keys .ensures .marked) ∙ c .before .before .if1 .taken in
     let short = c .before .if2 .taken in
     c .refused .ensures
-    ∙ looked-short (now (s .args .list)) (now (s .args .index)) (s .args .y) (fit-marked (now (s .args .list)) (s .pre .0) marks) (omega (arith, u .read-u16 .ensures))
+    ∙ looked-short (now (s .args .list)) (now (s .args .index)) (s .args .y) (fit-marked (now (s .args .list)) (s .pre .0) marks)
+    (omega (arith, u .read-u16 .ensures))
 
 slice-reshare-prefix-find-in : tie.Need-slice-reshare-prefix-find-in
 slice-reshare-prefix-find-in c = search needs

@@ -164,7 +164,10 @@ typedef struct {
     size_t count;
 } ranqustei_part;
 
-/* The reply of a lookup. With RANQUSTEI_OK and place 0, the number of a plan; with another number, the refusal and its place, and plan 0. */
+/*
+ * The reply of a lookup. With RANQUSTEI_OK and place 0, the number of a plan, as ranqustei_fetch takes it; with another number, the refusal and its
+ * place, and plan 0.
+ */
 typedef struct {
     uint8_t number;
     uint8_t place;
@@ -206,13 +209,15 @@ ranqustei_part ranqustei_fetch(const uint8_t *list, size_t list_length, uint32_t
  * The index of a plan list; bytes after the list do not matter. The list is damaged as for fetching, with the mark of every plan looked at. Nothing
  * else in it is tested: it need not be a list that the planner made. RANQUSTEI_INDEX_BYTES are always enough for `index`.
  * On success the index stands at the front of `index`, and the bytes after it are as they were. On a refusal all of `index` is as it was.
+ * Up to 26,000 bytes of stack are used, more than by any other call.
  */
 ranqustei_status ranqustei_index(const uint8_t *list, size_t list_length, uint8_t *index, size_t index_length);
 
 /*
  * The number of the cheapest plan that meets a value: a plan meets it if its ceiling cost 1 is at most `value`, or if the list's p is 0. The cheapest
  * has the least sum, and of several such plans it is the first in the list. Nothing is written. `index` holds the list's own index, byte for byte what
- * ranqustei_index gives for the list; bytes after it do not matter.
+ * ranqustei_index gives for the list; bytes after it do not matter. RANQUSTEI_DAMAGED_LIST says that the list is damaged, where ranqustei_index says so
+ * too, and else that the index is not the list's. Each lookup goes through the whole list and the whole index, to test them.
  */
 ranqustei_found ranqustei_index_lookup(const uint8_t *list, size_t list_length, const uint8_t *index, size_t index_length, int16_t value);
 

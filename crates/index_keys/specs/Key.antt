@@ -12,7 +12,7 @@ use Rattle.sorting.specs.Columns.{tabled}
 
 -- the plans of a short list, for which there are smaller columns
 abbrev pub shortList : ℕ
-shortList = 256
+shortList = 128
 
 -- bits raised by half of their range, round its end: those of the upper half, which mean numbers below 0, come to stand below those of the lower half
 unfoldable pub raised : ℕ → ℕ → ℕ

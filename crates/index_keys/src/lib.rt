@@ -19,7 +19,7 @@ ghost use Rattle.network.specs.Fetching.{damaged, headCount};
 ghost use Rattle.index_keys.specs.Key as spec;
 
 // Lists of at most so many plans have columns of this size: to clear longer ones would take most of the time.
-pub const SHORT: usize = 256;
+pub const SHORT: usize = 128;
 
 // The two's complement u of 16 bits, raised by 32,768: it compares as the signed number does.
 pub fn raised16(u: u16) -> u64

@@ -6,6 +6,7 @@ use capi_part::part_of;
 use capi_reply::Reply;
 use capi_reply::flat;
 use network::Status;
+use network::YardFigures;
 ghost use mathlib.Core.Path.{_≡_};
 ghost use lib.ListN.{length};
 ghost use Rattle.network.specs.Calls.{asked, judged, listAfter, listStatus, treeAfter};
@@ -19,7 +20,7 @@ ghost use Rattle.capi_reply.specs.Replies.{flatReply};
 ghost use Rattle.capi.specs.Version.{version};
 
 // The version of these calls: it changes whenever a struct, a call or the meaning of a reply does.
-pub const VERSION: u32 = 4;
+pub const VERSION: u32 = 5;
 
 // The version of the calls that this archive has.
 #[no_mangle]
@@ -85,4 +86,18 @@ pub extern "C" fn ranqustei_index_lookup(list: &[u8], index: &[u8], value: i16) 
     ensures promised { λ r. ⌜ FoundPromised (now (list .entry)) (now (index .entry)) value r ⌝ }
 {
     found_plan(list, index, value)
+}
+
+// The survey of figures, with the kind of yard record asked for.
+#[no_mangle]
+pub extern "C" fn ranqustei_write_survey(
+    kind: u32,
+    yard: YardFigures,
+    ends: &[u8],
+    sums: &[i32],
+    costs: &[i16],
+    survey: &mut [u8],
+) -> Status
+{
+    planner::write_survey(kind, yard, ends, sums, costs, survey)
 }

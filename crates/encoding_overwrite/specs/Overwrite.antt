@@ -1,9 +1,9 @@
 -- Bytes that are written over others, and what stands before, at and after them.
-use mathlib.Core.Path.{_≡_, refl, sym, ap, _∙_}
-use mathlib.Core.List.{List, _++_, append-assoc, append-nil}
+use mathlib.Core.Path.{_≡_, refl, sym, ap, ap₂, _∙_}
+use mathlib.Core.List.{List, [], _++_, append-assoc, append-nil}
 use Prim.Native.Nat.{ℕ, _+_, _-_, _≤_}
 use native.Mathlib.Omega.{arith}
-use native.Mathlib.Nat.{add-assoc}
+use native.Mathlib.Nat.{add-assoc, add-zero}
 use lib.ListN.{length, take, drop, length-append, length-drop, drop-of-length-le, take-append-drop}
 use lib.Seq.{length-take-le, take-at, drop-at, drop-drop, take-append-le, take-take, take-add, paste}
 
@@ -94,3 +94,9 @@ overwrite-same d i n h =
     ap (λ (k : ℕ). take i d ++ take n (drop i d) ++ drop (i + k) d) (length-take-le n (drop i d) (omega arith))
     ∙ ap (λ (p : List ℕ). p ++ drop (i + n) d) (sym (take-add i n d))
     ∙ take-append-drop (i + n) d
+
+-- no bytes written
+pub overwrite-nothing : (d : List ℕ) (i : ℕ) → d ≡ overwrite d i []
+unfolding overwrite
+overwrite-nothing d i =
+    sym (ap₂ (λ (a b : List ℕ). a ++ b) (append-nil (take i d)) (ap (λ (k : ℕ). drop k d) (add-zero i)) ∙ take-append-drop i d)

@@ -9,7 +9,7 @@ use borrow.Author.Tests.{eqb-true, eqb-false, leb-false, ltb-false, not-false}
 use lib.ListN.{length}
 use Rattle.network.specs.Limits.{maxCeilings, maxLinks, maxStations}
 use Rattle.network.specs.Bytes.{byteAt, markAt}
-use Rattle.network.specs.Survey.{ceilingsIn, endIn, linkCount, linkSize, linkStart, ranksIn, stationsIn, sumIn}
+use Rattle.network.specs.Survey.{ceilingsIn, costBitsIn, endIn, linkCount, linkSize, linkStart, ranksIn, stationsIn, sumIn}
 use Rattle.network.specs.Layouts.{Roomy}
 use Rattle.network.specs.Checked.{fine-both, first-fine, refuse-fine}
 use Rattle.network.specs.Refusals.{absentCost, badCount, badLength, badRanks, badSum, checkedWith, linkChecked, linkCheckedAt, yardChecked}
@@ -82,7 +82,7 @@ pub record LinkFine (s : List ℕ) (at : ℕ) (mark : List ℕ) (n p : ℕ) : Ty
   pub second-end : byteAt s (at + 3) < n
   pub two-ends : byteAt s (at + 2) ≡ byteAt s (at + 3) → ⊥
   pub priced : badSum (sumIn s at) ≡ false
-  pub absent : (j : ℕ) → j < 2 → absentCost s at p j ≡ false
+  pub absent : (j : ℕ) → j < 2 → absentCost p j (costBitsIn s at j) ≡ false
 
 pub link-fine : (s : List ℕ) (at : ℕ) (mark : List ℕ) (n p place : ℕ) → linkChecked s at mark n p place ≡ Fine → LinkFine s at mark n p
 unfolding linkChecked

@@ -3,7 +3,6 @@ use Prim.Native.Nat.{ℕ, _+_, _-_, _*_, _/_, _%_}
 use mathlib.Core.Path.{_≡_, sym, ap, _∙_}
 use mathlib.Core.Bool.{false}
 use mathlib.Core.List.{List, [], _∷_, _++_}
-use native.Mathlib.Nat.{add-assoc, add-zero}
 use native.Mathlib.Omega.{arith}
 use lib.Dec.{ltb}
 use lib.IntN.{ℤ, pos}
@@ -12,37 +11,15 @@ use lib.Seq.{getD-append-add}
 use store.Seg.{eqb-same}
 use borrow.Author.Tests.{le-ltb}
 use Rattle.network.specs.Limits.{maxCeilings, maxLinks}
-use Rattle.network.specs.Bytes.{byteAt, markAt, u16At, u32At}
+use Rattle.network.specs.Moved.{Moved, moved-mark, moved-on, moved-u16, moved-u32}
 use Rattle.network.specs.Column.{column}
 use Rattle.network.specs.Survey.{costIn, costsIn, endsIn, linkCount, linkSize, linkStart, networkOf, networkWith, raised, sumIn, sumsIn, yardSize}
-use Rattle.network.specs.Survey.{layoutAmong, layoutOf, plain, withCount}
+use Rattle.network.specs.Survey.{layoutOf, plain, rowWhere, withCount}
 use Rattle.network.specs.Checked.{firstRefusal, refuseIf, _orElse_}
 use Rattle.network.specs.Refusals.{badCount, badLength, checkedOf, checkedWith, linkChecked, linkCheckedAt, linksChecked, yardChecked}
 use Rattle.network.specs.Alike.{Alike, alike}
 use Rattle.network.specs.declared.Checked.{Checked}
 use Rattle.network.specs.declared.Layout.{Layout}
-
--- ---- the same bytes elsewhere
-
--- the bytes of s from an index on stand in s′ from another one on
-record Moved (s : List ℕ) (at : ℕ) (s′ : List ℕ) (at′ : ℕ) : Type 0 where
-  each : (k : ℕ) → byteAt s′ (at′ + k) ≡ byteAt s (at + k)
-
-module _ {s s′ : List ℕ} {at at′ : ℕ} (m : Moved s at s′ at′) where
-  moved-on : (j : ℕ) → Moved s (at + j) s′ (at′ + j)
-  moved-on j = record { each = λ k. rw (add-assoc at′ j k, add-assoc at j k) (m .each (j + k)) }
-
-  moved-byte : byteAt s′ at′ ≡ byteAt s at
-  moved-byte = rw (add-zero at′, add-zero at) at (m .each 0)
-
-  moved-u16 : u16At s′ at′ ≡ u16At s at
-  moved-u16 = rw (moved-byte, m .each 1)
-
-  moved-mark : (mark : List ℕ) → markAt s′ at′ mark ≡ markAt s at mark
-  moved-mark mark = rw (moved-byte, m .each 1)
-
-moved-u32 : {s s′ : List ℕ} {at at′ : ℕ} → Moved s at s′ at′ → u32At s′ at′ ≡ u32At s at
-moved-u32 m = rw (moved-u16 m, moved-u16 (moved-on m 2))
 
 -- ---- the right count
 
@@ -140,7 +117,7 @@ module _ (n p k1 k2 : ℕ) (links : List ℕ) where
 
   -- THE THEOREM: a survey and the same survey with the right count get the same refusal or none,
   pub count-checked : checkedOf s′ ≡ checkedOf s
-  unfolding layoutOf layoutAmong checkedWith
+  unfolding layoutOf rowWhere checkedWith
   count-checked =
       let yard : yardChecked s′ withCount (linkCount withCount s′) ≡ yardChecked s plain (linkCount plain s) =
       rw (links-counted, links-plain) yard-same in
@@ -150,7 +127,7 @@ module _ (n p k1 k2 : ℕ) (links : List ℕ) where
 
   -- and have the same network
   pub count-network : networkOf s′ ≡ networkOf s
-  unfolding layoutOf layoutAmong
+  unfolding layoutOf rowWhere
   count-network = rw (links-counted, links-plain) (network-same q)
 
   -- so that judge, best and list reply the same and leave the same

@@ -11,7 +11,7 @@ use lib.Seq.{getD-take}
 use Rattle.order.specs.Lists.{_∈_, all, all-mem}
 use Rattle.order.specs.Test.{left, right}
 use Rattle.network.specs.Bytes.{byteAt, markAt}
-use Rattle.network.specs.Survey.{layoutAmong, layoutOf, layouts, linkSize, plain, yardSize}
+use Rattle.network.specs.Survey.{layoutOf, layouts, linkSize, opens, plain, rowWhere, yardSize}
 use Rattle.network.specs.declared.Layout.{Layout}
 
 -- the records of a layout have room for the fields that all share, and the yard record for its link count
@@ -33,18 +33,20 @@ roomy-row l e =
       link = leb-true _ _ (right (ltb (l .count) (l .yard .size)) _ rest);
     }
 
+-- what holds of the old layout and of each row of a table holds of the row that a test finds
+pub row-has : (P : Layout → Type 0) → P plain → (p : Layout → Bool) (ls : List Layout) → ((l : Layout) → l ∈ ls → P l) → P (rowWhere p ls)
+unfolding rowWhere
+row-has P old p [] each = old
+row-has P old p (l ∷ ls) each = pick (p l) (each l (here refl)) (row-has P old p ls (λ k m. each k (there m)))
+  where
+    pick : (b : Bool) → P l → P (rowWhere p ls) → P (cond b l (rowWhere p ls))
+    pick true x y = x
+    pick false x y = y
+
 -- what holds of each layout that is known holds of the layout of a survey
 pub layout-has : (P : Layout → Type 0) → ((l : Layout) → l ∈ layouts → P l) → (s : List ℕ) → P (layoutOf s)
-unfolding layoutOf layoutAmong
-layout-has P each s = go layouts (each plain (here refl)) each
-  where
-    pick : (b : Bool) (l r : Layout) → P l → P r → P (cond b l r)
-    pick true l r p q = p
-    pick false l r p q = q
-
-    go : (ls : List Layout) → P plain → ((l : Layout) → l ∈ ls → P l) → P (layoutAmong ls s)
-    go [] p q = p
-    go (l ∷ ls) p q = pick (markAt s 0 (l .yard .mark)) l (layoutAmong ls s) (q l (here refl)) (go ls p (λ k m. q k (there m)))
+unfolding layoutOf
+layout-has P each s = row-has P (each plain (here refl)) (opens s) layouts each
 
 pub layout-roomy : (s : List ℕ) → Roomy (layoutOf s)
 layout-roomy = layout-has Roomy (λ l m. roomy-row l (all-mem roomy layouts refl l m))
@@ -57,7 +59,7 @@ marked l = not (eqb 0 (byteAt (l .yard .mark) 1))
 
 -- fewer than two bytes have no mark
 pub layout-short : (s : List ℕ) → length s < 2 → layoutOf s ≡ plain
-unfolding layoutOf layoutAmong
+unfolding layoutOf rowWhere
 layout-short s h = go layouts refl
   where
     missed : (a b : Bool) → not b ≡ true → a && b ≡ false
@@ -67,15 +69,15 @@ layout-short s h = go layouts refl
     absent : (l : Layout) → marked l ≡ true → markAt s 0 (l .yard .mark) ≡ false
     absent l e = rw (List·getD-eq-default s 0 {n = 1} (omega arith)) (missed (eqb (byteAt s 0) (byteAt (l .yard .mark) 0)) _ e)
 
-    go : (ls : List Layout) → all marked ls ≡ true → layoutAmong ls s ≡ plain
+    go : (ls : List Layout) → all marked ls ≡ true → rowWhere (opens s) ls ≡ plain
     go [] e = refl
     go (l ∷ ls) e = rw (absent l (left (marked l) _ e)) (go ls (right (marked l) _ e))
 
 -- a survey that is cut off behind its first two bytes or later keeps its layout
 pub layout-kept : (s : List ℕ) (c : ℕ) → 2 ≤ c → layoutOf (take c s) ≡ layoutOf s
-unfolding layoutOf layoutAmong
+unfolding layoutOf rowWhere
 layout-kept s c h = go layouts
   where
-    go : (ls : List Layout) → layoutAmong ls (take c s) ≡ layoutAmong ls s
+    go : (ls : List Layout) → rowWhere (opens (take c s)) ls ≡ rowWhere (opens s) ls
     go [] = refl
     go (l ∷ ls) = rw (getD-take c s 0 0 (omega arith), getD-take c s 1 0 (omega arith), go ls)

@@ -18,6 +18,8 @@ pub mod Calls
 pub mod Fetching
 -- the index by first ceiling: 12, 13, 16
 pub mod Indexing
+-- writing surveys: figures, 2 to 8 of figures, 17
+pub mod Writing
 -- printing
 pub mod Printing
 -- the yards worked through, P1 to P29
@@ -28,10 +30,13 @@ pub mod Layouts
 pub mod Accepted
 pub mod Sums
 pub mod NetworkFine
+-- the same bytes in another place
+pub mod Moved
 -- the link count: surveys that are planned alike, the right count, and surveys that are cut off
 pub mod Alike
 pub mod Count
 pub mod Cut
--- demand 3, and what callers rely on in an index
+-- demand 3, and what callers rely on in an index and in a survey that is written
 pub mod Promise
 pub mod IndexPromise
+pub mod WritingPromise

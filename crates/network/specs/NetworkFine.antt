@@ -17,9 +17,9 @@ use Rattle.frontier.specs.Frontier.{product}
 use Rattle.planning.specs.Graph.{Graph, Sound, valuesAt, valuesFrom}
 use Rattle.planning.specs.Grid.{values-few}
 use Rattle.network.specs.Limits.{maxCeilings, maxLinks, maxPlans, maxRaised, maxStations, maxSum, maxTree}
-use Rattle.network.specs.Bytes.{byteAt, signed, u16At}
+use Rattle.network.specs.Bytes.{byteAt, signed}
 use Rattle.network.specs.Column.{column, column-at, column-length}
-use Rattle.network.specs.Survey.{ceilingsIn, costIn, costsIn, endIn, endsIn, layoutOf, linkCount, linkStart, networkOf, networkWith}
+use Rattle.network.specs.Survey.{ceilingsIn, costBitsIn, costIn, costsIn, endIn, endsIn, layoutOf, linkCount, linkStart, networkOf, networkWith}
 use Rattle.network.specs.Refusals.{absentCost, anyBadRank, badPresent, badRank, badRanks, checkedOf}
 use Rattle.network.specs.Yard.{graph, ranks, sumAt, treeSize}
 use Rattle.network.specs.Walk.{positionCount}
@@ -54,8 +54,8 @@ pair-at filler f m i j few hi hj d =
     column-at (2 * maxLinks) filler (λ q. f (q / 2) (q % 2)) (2 * m) (2 * i + j) (omega arith) (omega arith) d ∙ rw (half, rest)
 
 -- a cost of an absent ceiling is 0
-absent-zero : (s : List ℕ) (at p j : ℕ) → absentCost s at p j ≡ false → p ≤ j → u16At s (at + 8 + 2 * j) ≡ 0
-absent-zero s at p j e h = eqb-true _ _ (not-false _ (rw (le-leb p j h) at e))
+absent-zero : (p j bits : ℕ) → absentCost p j bits ≡ false → p ≤ j → bits ≡ 0
+absent-zero p j bits e h = eqb-true _ _ (not-false _ (rw (le-leb p j h) at e))
 
 pub network-fine : (s : List ℕ) (l : Layout) → Accepted s l → NetworkFine (networkWith l s (linkCount l s))
 unfolding networkWith endsIn costsIn signed
@@ -83,7 +83,7 @@ network-fine s l fine =
       cheap = λ i h. rw (raised-at s l m few i h) (raised-small _ (fine .link i h .priced));
       absent = λ i j hi hj hp.
           pair-at (pos 0) (λ i j. costIn s (linkStart l i) j) m i j few hi hj (pos 0)
-          ∙ ap (signed w16) (absent-zero s (linkStart l i) (ceilingsIn s) j (fine .link i hi .absent j hj) hp);
+          ∙ ap (signed w16) (absent-zero (ceilingsIn s) j (costBitsIn s (linkStart l i) j) (fine .link i hi .absent j hj) hp);
     }
 
 pub survey-fine : (s : List ℕ) → checkedOf s ≡ Fine → NetworkFine (networkOf s)

@@ -44,21 +44,21 @@ anyBadRank n p j (k ∷ ks) = badRank n p j k || anyBadRank n p (j + 1) ks
 unfoldable pub badRanks : ℕ → ℕ → List ℕ → Bool
 badRanks n p ks = anyBadRank n p 0 ks || ltb maxSlack (slackOf ks)
 
--- 7, of the link record at an index: an end is not below n, or both are equal
-abbrev pub badEnds : List ℕ → ℕ → ℕ → Bool
-badEnds s at n = leb n (endIn s at 0) || leb n (endIn s at 1) || eqb (endIn s at 0) (endIn s at 1)
+-- 7, of a link's two ends among n stations: one is not below n, or both are equal
+abbrev pub badEnds : ℕ → ℕ → ℕ → Bool
+badEnds n a b = leb n a || leb n b || eqb a b
 
--- 8: the cost of ceiling j, from 0, is not 0 though that ceiling is absent
-abbrev pub absentCost : List ℕ → ℕ → ℕ → ℕ → Bool
-absentCost s at p j = leb p j && not (eqb (costBitsIn s at j) 0)
+-- 8, of the sixteen bits of a link's cost by ceiling j, from 0, with p ceilings: they are not 0 though that ceiling is absent
+abbrev pub absentCost : ℕ → ℕ → ℕ → Bool
+absentCost p j bits = leb p j && not (eqb bits 0)
 
 -- 8: s is not from -1,000,000 to 1,000,000
 unfoldable pub badSum : ℤ → Bool
 badSum s = ltZ s minSum || ltZ (pos maxSum) s
 
--- 8: s is outside its range, or an absent ceiling's cost is not 0
-abbrev pub badCosts : List ℕ → ℕ → ℕ → Bool
-badCosts s at p = badSum (sumIn s at) || absentCost s at p 0 || absentCost s at p 1
+-- 8, of a link's s and the bits of its c1 and c2, with p ceilings: s is outside its range, or an absent ceiling's cost is not 0
+abbrev pub badCosts : ℕ → ℤ → ℕ → ℕ → Bool
+badCosts p s bits1 bits2 = badSum s || absentCost p 0 bits1 || absentCost p 1 bits2
 
 -- the yard record of a survey with m links: its mark, 3, 4, 15, 5, 6, all at place 0
 unfoldable pub yardChecked : List ℕ → Layout → ℕ → Checked
@@ -74,8 +74,8 @@ yardChecked s l m =
 unfoldable pub linkChecked : List ℕ → ℕ → List ℕ → ℕ → ℕ → ℕ → Checked
 linkChecked s at mark n p place =
     refuseIf (not (markAt s at mark)) 2 place
-    orElse refuseIf (badEnds s at n) 7 place
-    orElse refuseIf (badCosts s at p) 8 place
+    orElse refuseIf (badEnds n (endIn s at 0) (endIn s at 1)) 7 place
+    orElse refuseIf (badCosts p (sumIn s at) (costBitsIn s at 0) (costBitsIn s at 1)) 8 place
 
 -- link i of a survey: its place is the link number plus 1
 abbrev pub linkCheckedAt : List ℕ → Layout → ℕ → Checked

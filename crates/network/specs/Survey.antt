@@ -39,14 +39,18 @@ withCount = record { yard = record { mark = 0x59 ∷ 0x45 ∷ []; size = yardSiz
 abbrev pub layouts : List Layout
 layouts = plain ∷ withCount ∷ []
 
--- the row of a table whose mark opens the survey; where no mark is known there, the old lengths hold
-unfoldable pub layoutAmong : List Layout → List ℕ → Layout
-layoutAmong [] s = plain
-layoutAmong (l ∷ ls) s = cond (markAt s 0 (l .yard .mark)) l (layoutAmong ls s)
+-- the first row of a table that passes a test; where none does, the old layout
+unfoldable pub rowWhere : (Layout → Bool) → List Layout → Layout
+rowWhere p [] = plain
+rowWhere p (l ∷ ls) = cond (p l) l (rowWhere p ls)
 
--- the layout of a survey: its first two bytes say which
+-- the layout's mark of a yard record opens the survey
+abbrev pub opens : List ℕ → Layout → Bool
+opens s l = markAt s 0 (l .yard .mark)
+
+-- the layout of a survey: its first two bytes say which; where no mark is known there, the old lengths hold
 unfoldable pub layoutOf : List ℕ → Layout
-layoutOf s = layoutAmong layouts s
+layoutOf s = rowWhere (opens s) layouts
 
 -- the yard record has a link count
 abbrev pub hasCount : Layout → Bool

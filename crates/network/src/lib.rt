@@ -17,6 +17,15 @@ pub struct Network {
     pub costs: [i16; MAX_CEILINGS * MAX_LINKS],
 }
 
+// The figures of a yard record: n stations, p ceilings, and the ranks k1 and k2, 0 where a ceiling is absent.
+#[repr(C)]
+pub struct YardFigures {
+    pub n: u8,
+    pub p: u8,
+    pub k1: u8,
+    pub k2: u8,
+}
+
 // The costs of a plan: the sum, and the ceiling costs, 0 where a ceiling is absent.
 pub struct Costs {
     pub sum: i32,

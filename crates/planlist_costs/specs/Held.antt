@@ -11,7 +11,7 @@ use Rattle.network.specs.Bytes.{byteAt}
 use Rattle.network.specs.PlanList.{costsAt, planBytes, planSize, planSlots}
 use Rattle.network.specs.declared.Costs.{Costs}
 use Rattle.encoding_signed.specs.RoundTrip.{i16-bytes, i32-bytes}
-use Rattle.planlist_records.specs.Blocks.{blocks, blocks-turn}
+use Rattle.encoding_blocks.specs.Blocks.{blocks, blocks-turn}
 
 -- costs that a record can hold
 pub record Writable (v : Costs) : Type 0 where

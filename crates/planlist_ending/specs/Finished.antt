@@ -9,7 +9,7 @@ use lib.Seq.{length-take-le}
 use Rattle.frontier.specs.Frontier.{Problem}
 use Rattle.network.specs.PlanList.{headBytes, headSize, join, planSize, planSlots}
 use Rattle.network.specs.declared.Costs.{Costs}
-use Rattle.planlist_records.specs.Blocks.{join-blocks}
+use Rattle.encoding_blocks.specs.Blocks.{join-blocks}
 use Rattle.planlist_records.specs.Records.{encode, planRecords}
 use Rattle.planlist_insertion.specs.Stored.{Holds, holds-count}
 

@@ -20,7 +20,7 @@ use Rattle.network.specs.Fetching.{headCount, damaged, fetchLinks, fetchNumber,
 use Rattle.network.specs.declared.Costs.{Costs}
 use Rattle.network.specs.declared.Network.{Network}
 use Rattle.encoding_numbers.specs.RoundTrip.{u16-bytes}
-use Rattle.planlist_records.specs.Blocks.{Sized, join-at, length-join}
+use Rattle.encoding_blocks.specs.Blocks.{Sized, join-at, length-join}
 use Rattle.planlist_records.specs.Records.{encode, length-plan}
 use Rattle.planlist_finding.specs.Found.{number-marked, number-none}
 

@@ -21,7 +21,7 @@ use Rattle.network.specs.PlanList.{costsAt, costsOf}
 use Rattle.network.specs.Calls.{costValues}
 use Rattle.network.specs.declared.Costs.{Costs}
 use Rattle.network.specs.declared.Network.{Network}
-use Rattle.planlist_records.specs.Blocks.{blocks, blocks-none, length-blocks}
+use Rattle.encoding_blocks.specs.Blocks.{blocks, blocks-none, length-blocks}
 use Rattle.planlist_costs.specs.Held.{Writable, costs-encoded}
 use Rattle.planlist_costs.specs.Orders.{atMost}
 use Rattle.planlist_records.specs.Records.{encode}

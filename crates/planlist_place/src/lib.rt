@@ -8,7 +8,7 @@ ghost use mathlib.Core.Path.{_≡_};
 ghost use Prim.Native.Nat.{_*_, _≤_};
 ghost use lib.ListN.{length};
 ghost use Rattle.network.specs.PlanList.{planSize, planSlots};
-ghost use Rattle.planlist_records.specs.Blocks.{blocks};
+ghost use Rattle.encoding_blocks.specs.Blocks.{blocks};
 ghost use Rattle.planlist_place.specs.Place.{freePlace};
 
 // The number of records that stand before v; one more than all where, before that place, one of no lower sum is at most v.

@@ -7,7 +7,7 @@ use lib.ListN.{take, drop}
 use lib.Signed.{leZ}
 use Rattle.network.specs.PlanList.{costsAt, planSize, planSlots}
 use Rattle.network.specs.declared.Costs.{Costs}
-use Rattle.planlist_records.specs.Blocks.{blocks, blocks-turn}
+use Rattle.encoding_blocks.specs.Blocks.{blocks, blocks-turn}
 use Rattle.planlist_costs.specs.Held.{costs-turn}
 use Rattle.planlist_costs.specs.Orders.{atMost}
 

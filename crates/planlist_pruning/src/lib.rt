@@ -8,7 +8,7 @@ ghost use mathlib.Core.Path.{_≡_};
 ghost use Prim.Native.Nat.{_*_, _≤_};
 ghost use lib.ListN.{length};
 ghost use Rattle.network.specs.PlanList.{planSize, planSlots};
-ghost use Rattle.planlist_records.specs.Blocks.{blocks};
+ghost use Rattle.encoding_blocks.specs.Blocks.{blocks};
 ghost use Rattle.planlist_pruning.specs.Pruned.{prunedLevel};
 
 // Drops the plans that v is at most, up to the first with a higher sum; keeps the others in their order, and returns their count.

@@ -6,7 +6,7 @@ use native.Mathlib.Omega.{arith}
 use lib.ListN.{length}
 use Rattle.network.specs.PlanList.{planBytes, planSize, planSlots}
 use Rattle.network.specs.declared.Costs.{Costs}
-use Rattle.planlist_records.specs.Blocks.{blocks}
+use Rattle.encoding_blocks.specs.Blocks.{blocks}
 
 -- the record of a solution with these costs and links
 abbrev pub encode : {S : Type 0} → (S → Costs) → (S → List ℕ) → S → List ℕ

@@ -1,15 +1,14 @@
 -- Numbers of two bytes that were written one after the other are read back.
 use mathlib.Core.List.{List, [], _∷_, _++_, map, List·Memᴰ·head as here, List·Memᴰ·tail as there}
 use mathlib.Core.Path.{_≡_, refl, sym, ap, ap₂, _∙_}
-use Prim.Native.Nat.{ℕ, zero, suc, _+_, _*_, _/_, _%_, _≤_}
+use Prim.Native.Nat.{ℕ, zero, suc, _+_, _*_, _≤_}
 use native.Mathlib.Omega.{arith}
 use lib.ListN.{drop, length, take}
 use lib.Seq.{drop-cons}
-use mir.Syntax.{w8}
-use mir.Val.{Fits}
 use Rattle.network.specs.Bytes.{byteAt, littleEndian}
 use Rattle.network.specs.PlanList.{join}
 use Rattle.network.specs.Indexing.{entriesFrom}
+use Rattle.encoding_numbers.specs.RoundTrip.{bytes-u16}
 use Rattle.index_keys.specs.Order.{AllBytes}
 use Rattle.index_testing.specs.Entries.{AllBelow}
 
@@ -33,14 +32,6 @@ entries-held (x ∷ ns) rest h =
     (omega arith)
     (entries-behind (length ns) 0 _ _ (join (map (littleEndian 2) ns) ++ rest) ∙ entries-held ns rest (record { below = λ y m. h .below y (there m) }))
 
--- two bytes are those of their number
-number-bytes : (a b : ℕ) → Fits w8 a → Fits w8 b → littleEndian 2 (a + b * 256) ≡ a ∷ b ∷ []
-number-bytes a b h k =
-    let quotient : (a + b * 256) / 256 ≡ b = omega (arith, h, k) in
-    let low : (a + b * 256) % 256 ≡ a = omega (arith, h, k, quotient) in
-    let high : (a + b * 256) / 256 % 256 ≡ b = ap (λ (x : ℕ). x % 256) quotient ∙ omega (arith, k) in
-    ap₂ (λ (x y : ℕ). x ∷ y ∷ []) low high
-
 -- the bytes of numbers that were read are the bytes that they were read from
 pub entries-bytes : (n at : ℕ) (bs : List ℕ) → AllBytes bs → at + n * 2 ≤ length bs →
     join (map (littleEndian 2) (entriesFrom n at bs)) ≡ take (n * 2) (drop at bs)
@@ -51,7 +42,7 @@ entries-bytes (suc n) at bs known h =
     let two = drop-cons bs (suc at) 0 (omega arith) in
     let size : suc n * 2 ≡ suc (suc (n * 2)) = omega arith in
     let next : at + 1 ≡ suc at = omega arith in
-    ap₂ (λ (b r : List ℕ). b ++ r) (number-bytes (byteAt bs at) (byteAt bs (at + 1)) (known at) (known (at + 1)))
+    ap₂ (λ (b r : List ℕ). b ++ r) (bytes-u16 (byteAt bs at) (byteAt bs (at + 1)) (known at .fits) (known (at + 1) .fits))
     (entries-bytes n (suc (suc at)) bs known (omega arith))
     ∙ ap (λ (k : ℕ). byteAt bs at ∷ byteAt bs k ∷ take (n * 2) (drop (suc (suc at)) bs)) next
     ∙ sym (ap (λ (k : ℕ). take k (drop at bs)) size ∙ ap (take (suc (suc (n * 2)))) (one ∙ ap (λ (l : List ℕ). byteAt bs at ∷ l) two))

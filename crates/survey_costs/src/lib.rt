@@ -1,23 +1,14 @@
 // The rules of a link's costs, number 8.
-use encoding_numbers::read_u16;
-use encoding_signed::read_i32;
 use network::limits::MAX_SUM;
 use network::limits::MIN_SUM;
-use survey_layout::fields::COSTS;
-use survey_layout::fields::SUM;
 ghost use mathlib.Core.Path.{_≡_};
-ghost use Prim.Native.Nat.{_+_, _≤_, _<_};
-ghost use lib.ListN.{length};
-ghost use Rattle.network.specs.Limits.{maxCeilings};
-ghost use Rattle.network.specs.Survey.{linkSize};
 ghost use Rattle.network.specs.Refusals.{absentCost, badCosts, badSum};
 
-// Whether the cost of ceiling j is not 0 though the ceiling is absent, in the link record at an index.
-fn absent_cost(s: &[u8], at: usize, p: u8, j: u8) -> bool
-    requires { ⌜ (at + linkSize ≤ length (now s)) × (j < maxCeilings) ⌝ }
-    ensures { λ r. ⌜ r ≡ absentCost (now (s .entry)) at p j ⌝ }
+// Whether the bits of the cost of ceiling j are not 0 though the ceiling is absent.
+fn absent_cost(p: u8, j: u8, bits: u16) -> bool
+    ensures { λ r. ⌜ r ≡ absentCost p j bits ⌝ }
 {
-    (p <= j) & (read_u16(s, at + COSTS + 2 * (j as usize)) != 0)
+    (p <= j) & (bits != 0)
 }
 
 // Whether a sum cost is outside its range.
@@ -27,10 +18,9 @@ fn bad_sum(s: i32) -> bool
     (s < MIN_SUM) | (MAX_SUM < s)
 }
 
-// Whether a cost of the link record at an index is against its rule, with p ceilings.
-pub fn bad_costs(s: &[u8], at: usize, p: u8) -> bool
-    requires { ⌜ at + linkSize ≤ length (now s) ⌝ }
-    ensures { λ r. ⌜ r ≡ badCosts (now (s .entry)) at p ⌝ }
+// Whether a link's sum cost, or the bits of a ceiling cost, are against their rule, with p ceilings.
+pub fn bad_costs(p: u8, s: i32, bits1: u16, bits2: u16) -> bool
+    ensures { λ r. ⌜ r ≡ badCosts p s bits1 bits2 ⌝ }
 {
-    bad_sum(read_i32(s, at + SUM)) | absent_cost(s, at, p, 0) | absent_cost(s, at, p, 1)
+    bad_sum(s) | absent_cost(p, 0, bits1) | absent_cost(p, 1, bits2)
 }

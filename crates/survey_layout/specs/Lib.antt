@@ -1,2 +1,2 @@
--- the loop over the table of layouts
+-- the loop over a table of layouts
 pub mod Rows

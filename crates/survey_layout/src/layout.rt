@@ -19,7 +19,7 @@ const LINK: Form = Form {
 };
 
 // Surveys with the yard record of document 01.
-const PLAIN: Layout = Layout {
+pub const PLAIN: Layout = Layout {
     yard: Form {
         mark: *b"YD",
         size: YARD_SIZE,
@@ -29,7 +29,7 @@ const PLAIN: Layout = Layout {
 };
 
 // Surveys with the yard record that has the link count behind the other fields.
-const WITH_COUNT: Layout = Layout {
+pub const WITH_COUNT: Layout = Layout {
     yard: Form {
         mark: *b"YE",
         size: YARD_SIZE + 1,

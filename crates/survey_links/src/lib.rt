@@ -1,5 +1,7 @@
 // The rules of a survey's link records: their marks, and the numbers 7 and 8, link by link.
 use encoding_numbers::mark_at;
+use encoding_numbers::read_u16;
+use encoding_signed::read_i32;
 use network::Checked;
 use network::Layout;
 use survey_checks::or_refuse_if;
@@ -7,7 +9,10 @@ use survey_checks::refuse_if;
 use survey_costs::bad_costs;
 use survey_ends::bad_ends;
 use survey_layout::fields::CEILINGS;
+use survey_layout::fields::COSTS;
+use survey_layout::fields::ENDS;
 use survey_layout::fields::STATIONS;
+use survey_layout::fields::SUM;
 use survey_layout::layout::link_start;
 ghost use mathlib.Core.Path.{_≡_};
 ghost use Prim.Native.Nat.{_+_, _≤_};
@@ -21,9 +26,14 @@ fn check_link(s: &[u8], at: usize, mark: [u8; 2], n: u8, p: u8, place: u8) -> Ch
     requires { ⌜ at + linkSize ≤ length (now s) ⌝ }
     ensures { λ r. ⌜ r ≡ linkChecked (now (s .entry)) at mark n p place ⌝ }
 {
+    let a = s[at + ENDS];
+    let b = s[at + ENDS + 1];
+    let sum = read_i32(s, at + SUM);
+    let bits1 = read_u16(s, at + COSTS);
+    let bits2 = read_u16(s, at + COSTS + 2);
     let c2 = refuse_if(!mark_at(s, at, mark), 2, place);
-    let c7 = or_refuse_if(c2, bad_ends(s, at, n), 7, place);
-    or_refuse_if(c7, bad_costs(s, at, p), 8, place)
+    let c7 = or_refuse_if(c2, bad_ends(n, a, b), 7, place);
+    or_refuse_if(c7, bad_costs(p, sum, bits1, bits2), 8, place)
 }
 
 // The m link records, in their order.

@@ -10,7 +10,7 @@ use Rattle.network.specs.declared.Answer.{Answer}
 use Rattle.network.specs.declared.Answer.the-variants.{Plan, Refused}
 use Rattle.network.specs.declared.Costs.{Costs}
 use Rattle.network.specs.declared.Refusal.{Refusal}
-use Rattle.planlist_records.specs.Blocks.{blocks}
+use Rattle.encoding_blocks.specs.Blocks.{blocks}
 use Rattle.planlist_insertion.specs.Insertion.{RecordsRise, insertRecord}
 use Rattle.planlist_insertion.specs.Level.{Level}
 use Rattle.planlist_costs.specs.Held.{Writable}

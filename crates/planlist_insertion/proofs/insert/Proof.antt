@@ -8,7 +8,7 @@ use lib.ListN.{length, take, drop, length-drop}
 use denote.Ref.{now}
 use Rattle.network.specs.PlanList.{costsAt, planBytes, planSize, planSlots}
 use Rattle.encoding_overwrite.specs.Tail.{tail-back, tail-lent}
-use Rattle.planlist_records.specs.Blocks.{blocks, blocks-behind, take-blocks, drop-blocks, length-blocks, room-behind}
+use Rattle.encoding_blocks.specs.Blocks.{blocks, blocks-behind, take-blocks, drop-blocks, length-blocks, room-behind}
 use Rattle.planlist_records.specs.Records.{planRecords}
 use Rattle.planlist_costs.specs.Held.{costs-encoded}
 use Rattle.planlist_insertion.specs.Insertion.{coveredBy, insert-covered, insert-free, placeOf, prunedBy}

@@ -7,7 +7,7 @@ use lib.ListN.{length}
 use denote.Ref.{now}
 use Rattle.network.specs.PlanList.{planBytes, planSize, planSlots}
 use Rattle.encoding_overwrite.specs.Overwrite.{overwrite}
-use Rattle.planlist_records.specs.Blocks.{blocks, room-for, blocks-inserted}
+use Rattle.encoding_blocks.specs.Blocks.{blocks, room-for, blocks-inserted}
 use Rattle.planlist_records.specs.Records.{length-plan}
 use borrow.Author.Needs.{needs}
 use Rattle.planlist_insertion.proofs.put.Statement.{statement}

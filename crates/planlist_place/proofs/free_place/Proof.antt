@@ -10,7 +10,7 @@ use mir.Syntax.{w32}
 use denote.Ref.{now}
 use Rattle.network.specs.PlanList.{costsAt, planSize, planSlots}
 use Rattle.network.specs.declared.Costs.{Costs}
-use Rattle.planlist_records.specs.Blocks.{blocks, blocks-none, mul-step}
+use Rattle.encoding_blocks.specs.Blocks.{blocks, blocks-none, mul-step}
 use Rattle.planlist_costs.specs.Orders.{atMost, inOrder}
 use Rattle.encoding_compare.specs.Compared.{tested}
 use Rattle.planlist_place.specs.Place.{freePlace, free-none, free-turn}

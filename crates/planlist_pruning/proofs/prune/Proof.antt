@@ -14,7 +14,7 @@ use mir.Syntax.{w32}
 use denote.Ref.{now}
 use Rattle.network.specs.PlanList.{costsAt, planSize, planSlots}
 use Rattle.network.specs.declared.Costs.{Costs}
-use Rattle.planlist_records.specs.Blocks.{blocks, blocks-none, mul-step, blocks-joined, blocks-moved, behind-moved}
+use Rattle.encoding_blocks.specs.Blocks.{blocks, blocks-none, mul-step, blocks-joined, blocks-moved, behind-moved}
 use Rattle.planlist_costs.specs.Orders.{atMost}
 use Rattle.encoding_compare.specs.Compared.{tested}
 use Rattle.planlist_pruning.specs.Pruned.{prunedLevel, pruned-turn, pruned-none}

@@ -7,12 +7,6 @@ use Rattle.network.specs.Refusals.{badSum}
 use Rattle.survey_costs.proofs.bad_costs.Statement.{statement}
 use Rattle.survey_costs.proofs.bad_costs.Tie as tie
 
-add-read-i32 : tie.Need-add-read-i32
-add-read-i32 c = search needs
-
-read-i32-requires : tie.Need-read-i32-requires
-read-i32-requires c κs = search needs
-
 bad-sum-requires : tie.Need-bad-sum-requires
 bad-sum-requires c κs = search needs
 
@@ -25,11 +19,10 @@ absent-cost-requires-2 c κs = search needs
 returns : tie.Need-returns
 returns c =
     let tested = c .before .before in
-    let read = tested .before .read-i32 in
-    let sum = tested .bad-sum .ensures ∙ ap badSum (toZ-ofZ w32 (read .result) (search needs) ∙ read .ensures) in
+    let start = tested .before in
+    let sum = tested .bad-sum .ensures ∙ ap badSum (toZ-ofZ w32 (start .args .s) (start .fits .s)) in
     rw (sum, c .before .absent-cost .ensures, c .absent-cost2 .ensures)
 
 pub bad-costs-spec : {M : Type 1} → statement M
 bad-costs-spec =
-    tie.close
-    (tie.spec add-read-i32 read-i32-requires bad-sum-requires absent-cost-requires absent-cost-requires-2 returns)
+    tie.close (tie.spec bad-sum-requires absent-cost-requires absent-cost-requires-2 returns)

@@ -3,14 +3,14 @@ use Prim.Native.Nat.{_-_}
 use mathlib.Core.Path.{_≡_, refl, sym, _∙_}
 use borrow.Author.Needs.{needs}
 use lib.ListN.{length}
-use Rattle.network.specs.Survey.{layoutOf, layouts}
+use Rattle.network.specs.Survey.{layoutOf, layouts, opens}
 use Rattle.network.specs.Layouts.{layout-short}
 use Rattle.survey_layout.specs.Rows.{found-roomy, fromRow, row-found, row-missed, row-none}
 use Rattle.survey_layout.proofs.layout.layout_of.Statement.{statement}
 use Rattle.survey_layout.proofs.layout.layout_of.Tie as tie
 
 abbrev Inv-loop : tie.InvT-loop
-Inv-loop s i₀ i = fromRow s i ≡ layoutOf s
+Inv-loop s i₀ i = fromRow (opens s) layouts i ≡ layoutOf s
 
 abbrev μ-loop : tie.MeasureT-loop
 μ-loop s i₀ i = length layouts - i
@@ -34,7 +34,7 @@ mark-at-requires c κs = search needs
 returns-2 : tie.Need-returns-2 Inv-loop μ-loop
 returns-2 c =
     let turn = c .before .before .before .before in
-    found-roomy _ _ (row-found _ _ _ (turn .loop-test .taken) (turn .before .loop .inv) (sym (c .before .mark-at .ensures) ∙ c .if2 .taken))
+    found-roomy _ _ (row-found _ _ _ _ (turn .loop-test .taken) (turn .before .loop .inv) (sym (c .before .mark-at .ensures) ∙ c .if2 .taken))
 
 add-i : tie.Need-add-i Inv-loop μ-loop
 add-i c = search needs
@@ -45,10 +45,10 @@ loop-less c = search needs
 loop-again : tie.Need-loop-again Inv-loop μ-loop
 loop-again c =
     let turn = c .before .before .before .before in
-    row-missed _ _ _ (turn .loop-test .taken) (turn .before .loop .inv) (sym (c .before .mark-at .ensures) ∙ c .if2 .left)
+    row-missed _ _ _ _ (turn .loop-test .taken) (turn .before .loop .inv) (sym (c .before .mark-at .ensures) ∙ c .if2 .left)
 
 returns-3 : tie.Need-returns-3 Inv-loop μ-loop
-returns-3 c = found-roomy _ _ (row-none _ _ (c .loop-test .left) (c .before .loop .inv))
+returns-3 c = found-roomy _ _ (row-none _ _ _ (c .loop-test .left) (c .before .loop .inv))
 
 pub layout-of-spec : {M : Type 1} → statement M
 layout-of-spec =

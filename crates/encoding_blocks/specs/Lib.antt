@@ -1,0 +1,2 @@
+-- bytes that hold records of one size
+pub mod Blocks

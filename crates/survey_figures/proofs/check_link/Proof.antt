@@ -1,0 +1,50 @@
+-- `survey_figures::check_link` meets its contract. The rules are tried in the order of the definition.
+use borrow.Author.Needs.{needs}
+use mir.Syntax.{w16, w32}
+use mir.ValLaws.{toZ-ofZ}
+use Rattle.network.specs.Writing.{linkFiguresChecked}
+use Rattle.survey_figures.proofs.check_link.Statement.{statement}
+use Rattle.survey_figures.proofs.check_link.Tie as tie
+
+bad-ends-requires : tie.Need-bad-ends-requires
+bad-ends-requires c κs = search needs
+
+refuse-if-requires : tie.Need-refuse-if-requires
+refuse-if-requires c κs = search needs
+
+bits16-requires : tie.Need-bits16-requires
+bits16-requires c κs = search needs
+
+bits16-requires-2 : tie.Need-bits16-requires-2
+bits16-requires-2 c κs = search needs
+
+bad-costs-requires : tie.Need-bad-costs-requires
+bad-costs-requires c κs = search needs
+
+or-refuse-if-requires : tie.Need-or-refuse-if-requires
+or-refuse-if-requires c κs = search needs
+
+returns : tie.Need-returns
+unfolding linkFiguresChecked
+returns c =
+    let second = c .before .before in
+    let first = second .before in
+    let c7 = first .before in
+    let start = c7 .before .before in
+    let sum = toZ-ofZ w32 (start .args .sum) (start .fits .sum) in
+    let c1 = toZ-ofZ w16 (start .args .c1) (start .fits .c1) in
+    let c2 = toZ-ofZ w16 (start .args .c2) (start .fits .c2) in
+    rw (c .or-refuse-if .ensures, c .before .bad-costs .ensures, sum, second .bits162 .ensures, first .bits16 .ensures, c1, c2)
+    (rw (c7 .refuse-if .ensures, c7 .before .bad-ends .ensures))
+
+pub check-link-spec : {M : Type 1} → statement M
+check-link-spec =
+    tie.close
+    (tie.spec
+    bad-ends-requires
+    refuse-if-requires
+    bits16-requires
+    bits16-requires-2
+    bad-costs-requires
+    or-refuse-if-requires
+    returns)

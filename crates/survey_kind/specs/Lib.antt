@@ -1,0 +1,2 @@
+-- the layout that is found
+pub mod Found

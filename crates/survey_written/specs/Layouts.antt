@@ -1,0 +1,75 @@
+-- What holds of the layouts that the writer knows, shown over their table.
+use mathlib.Core.Bool.{Bool, true, false, cond}
+use mathlib.Core.List.{List, [], _∷_, List·Memᴰ·cases-cons, List·Memᴰ·not-nil}
+use mathlib.Core.Logic.{⊎-elim}
+use mathlib.Core.Path.{_≡_, refl, subst⁻¹}
+use Prim.Native.Nat.{ℕ, _+_, _≤_}
+use native.Mathlib.Omega.{arith}
+use lib.ListN.{length}
+use borrow.Author.Tests.{eqb-true, not-false}
+use Rattle.order.specs.Lists.{_∈_}
+use Rattle.network.specs.Survey.{hasCount, layoutOf, linkSize, plain, rowWhere, withCount, yardSize}
+use Rattle.network.specs.Layouts.{layout-has, row-has}
+use Rattle.network.specs.Writing.{isOfKind, kindOf, layoutFor, unknownKind, writable}
+use Rattle.network.specs.declared.Layout.{Layout}
+
+-- its marks have two bytes; its yard record has the shared fields and then the link count, if it has one; and a survey with its mark is read by it
+pub record Writable (l : Layout) : Type 0 where
+  pub marked : length (l .yard .mark) ≡ 2
+  pub size : l .yard .size ≡ yardSize + cond (hasCount l) 1 0
+  pub counted : l .count ≡ cond (hasCount l) yardSize 0
+  pub link-marked : length (l .link .mark) ≡ 2
+  pub link-size : l .link .size ≡ linkSize
+  pub read : layoutOf (l .yard .mark) ≡ l
+
+-- its yard record has at most one byte more than the shared fields
+pub yard-small : {l : Layout} → Writable l → l .yard .size ≤ yardSize + 1
+yard-small {l} w = go (hasCount l) (w .size)
+  where
+    go : (b : Bool) → l .yard .size ≡ yardSize + cond b 1 0 → l .yard .size ≤ yardSize + 1
+    go true e = omega arith
+    go false e = omega arith
+
+-- a property of each row of a table
+infixr 5 _▸_
+data Every (P : Layout → Type 0) : List Layout → Type 0 where
+  done : Every P []
+  _▸_ : {l : Layout} {ls : List Layout} → P l → Every P ls → Every P (l ∷ ls)
+
+every : (P : Layout → Type 0) {ls : List Layout} → Every P ls → (l : Layout) → l ∈ ls → P l
+every P done l m = absurd (List·Memᴰ·not-nil m)
+every P (h ▸ r) l m = ⊎-elim (λ q. subst⁻¹ P q h) (λ n. every P r l n) (List·Memᴰ·cases-cons m)
+
+plain-writable : Writable plain
+unfolding layoutOf rowWhere
+plain-writable = record { marked = refl; size = refl; counted = refl; link-marked = refl; link-size = refl; read = refl }
+
+counted-writable : Writable withCount
+unfolding layoutOf rowWhere
+counted-writable = record { marked = refl; size = refl; counted = refl; link-marked = refl; link-size = refl; read = refl }
+
+-- the layout of any kind that is asked for is one of them
+pub writable-for : (kind : ℕ) → Writable (layoutFor kind)
+unfolding layoutFor
+writable-for kind = row-has Writable plain-writable (isOfKind kind) writable (every Writable (plain-writable ▸ counted-writable ▸ done))
+
+-- if the writer knows a layout's kind, it is the layout of that kind
+abbrev Named : Layout → Type 0
+Named l = unknownKind (kindOf l) ≡ false → layoutFor (kindOf l) ≡ l
+
+plain-named : Named plain
+unfolding layoutFor rowWhere
+plain-named e = refl
+
+counted-named : Named withCount
+unfolding layoutFor rowWhere
+counted-named e = refl
+
+-- the layout of a survey of a kind that is known is the layout of that kind
+pub layout-known : (s : List ℕ) (kind : ℕ) → kindOf (layoutOf s) ≡ kind → unknownKind kind ≡ false → layoutFor kind ≡ layoutOf s
+layout-known s kind e known = rw (← e) (layout-has Named (every Named (plain-named ▸ counted-named ▸ done)) s (rw (← e) at known))
+
+-- a kind that is known is that of its layout
+pub kind-known : (kind : ℕ) → unknownKind kind ≡ false → kindOf (layoutFor kind) ≡ kind
+unfolding unknownKind
+kind-known kind e = eqb-true _ _ (not-false _ e)

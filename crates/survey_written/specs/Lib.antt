@@ -1,0 +1,12 @@
+-- the layouts that the writer knows
+pub mod Layouts
+-- the fields of a survey that was written
+pub mod Fields
+-- figures as columns
+pub mod Columns
+-- what the reader says of it
+pub mod ReadBack
+-- a survey that was read and is written again
+pub mod Former
+-- writes that make its records
+pub mod Written

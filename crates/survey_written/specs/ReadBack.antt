@@ -1,0 +1,119 @@
+-- What the reader says of a survey that was written: the refusal of its figures, or none, and the figures.
+use mathlib.Core.Bool.{Bool, true, false, not, _||_}
+use mathlib.Core.List.{List, [], _∷_, map}
+use mathlib.Core.Path.{_≡_, refl, sym, ap, ap₂, _∙_}
+use Prim.Native.Nat.{ℕ, zero, suc, _+_, _-_, _*_, _/_, _%_, _≤_, _<_}
+use native.Mathlib.Nat.{add-zero, zero-add}
+use native.Mathlib.Omega.{arith}
+use lib.Dec.{ltb}
+use lib.ListN.{getD, length}
+use borrow.Author.Tests.{le-ltb, ltb-false}
+use mir.Syntax.{w16, w32}
+use mir.ValLaws.{toZ-ofZ}
+use Rattle.order.specs.Lists.{numbersFrom}
+use Rattle.network.specs.Limits.{maxCeilings, maxLinks, maxStations}
+use Rattle.network.specs.Bytes.{bitsOf, signed}
+use Rattle.network.specs.Survey.{layoutOf, linkCount, linkSize, linkStart}
+use Rattle.network.specs.Checked.{firstRefusal, refuseIf, _orElse_}
+use Rattle.network.specs.Refusals.{badCount, badLength, badRanks, checkedOf, checkedWith, linkChecked, linkCheckedAt, linksChecked, outside, yardChecked}
+use Rattle.network.specs.Writing.{Figures, Link, figuresChecked, figuresIn, figuresOf, linkFiguresChecked, linkIn, linksFiguresChecked, noLink}
+use Rattle.network.specs.Writing.{surveyIn, yardFiguresChecked}
+use Rattle.network.specs.declared.Checked.{Checked}
+use Rattle.network.specs.declared.Checked.the-variants.{Fine, Refused}
+use Rattle.network.specs.declared.Layout.{Layout}
+use Rattle.survey_written.specs.Layouts.{Writable}
+use Rattle.survey_written.specs.Columns.{first-agree}
+use Rattle.survey_written.specs.Fields.{Fitting, link-held, survey-layout, survey-length, yard-held}
+
+-- ---- the order of the refusals
+
+-- a wrong count does not show where there are too many links
+no-count : (before : Checked) (many wrong : Bool) → (many ≡ false → wrong ≡ false)
+    → before orElse refuseIf many 4 0 orElse refuseIf wrong 15 0 ≡ before orElse refuseIf many 4 0
+unfolding refuseIf _orElse_
+no-count (Refused r) many wrong e = refl
+no-count Fine true wrong e = refl
+no-count Fine false wrong e = rw (e refl)
+
+-- a list is what a function gives for the numbers of its entries, where that is each entry
+map-numbers : {A : Type 0} (f : ℕ → A) (d : A) (xs : List A) (k : ℕ) → ((i : ℕ) → i < length xs → f (k + i) ≡ getD xs i d)
+    → map f (numbersFrom (length xs) k) ≡ xs
+unfolding numbersFrom
+map-numbers f d [] k e = refl
+map-numbers f d (x ∷ xs) k e =
+    ap₂ (λ y ys. y ∷ ys) (ap f (sym (add-zero k)) ∙ e 0 (omega arith))
+    (map-numbers f d xs (suc k) (λ i h. let step : suc k + i ≡ k + suc i = omega arith in ap f step ∙ e (suc i) (omega arith)))
+
+module _ (l : Layout) (w : Writable l) (f : Figures) where
+  abbrev m : ℕ
+  m = length (f .links)
+
+  abbrev s : List ℕ
+  s = surveyIn l f
+
+  rest : length s - l .yard .size ≡ m * linkSize
+  rest = let e = survey-length l w f in omega arith
+
+  right-length : badLength l (length s) ≡ false
+  unfolding badLength
+  right-length =
+      let room : ltb (length s) (l .yard .size) ≡ false = le-ltb (length s) (l .yard .size) (omega (arith, survey-length l w f)) in
+      let whole : m * linkSize % linkSize ≡ 0 = omega arith in
+      rw (room, rest, w .link-size, whole)
+
+  link-count : linkCount l s ≡ m
+  link-count = rw (rest, w .link-size) (omega arith)
+
+  yard-agrees : yardChecked s l m ≡ yardFiguresChecked (f .yard) m
+  unfolding yardChecked yardFiguresChecked refuseIf _orElse_
+  yard-agrees =
+      let held = yard-held l w f in
+      let y = f .yard in
+      rw (held .marked, held .stations, held .ceilings, held .rank1, held .rank2)
+      (ap (λ (c : Checked). c orElse refuseIf (ltb maxCeilings (y .p)) 5 0 orElse refuseIf (badRanks (y .n) (y .p) (y .k1 ∷ y .k2 ∷ [])) 6 0)
+      (no-count (refuseIf (outside (y .n) 1 maxStations) 3 0) (ltb maxLinks m) (badCount s l m) (λ e. held .count (ltb-false maxLinks m e))))
+
+  module _ (fits : (i : ℕ) → i < m → Fitting (getD (f .links) i noLink)) where
+    -- the bytes of link record i get what its figures get
+    link-agrees : (i : ℕ) → i < m → linkCheckedAt s l i ≡ linkFiguresChecked (f .yard) (getD (f .links) i noLink) (i + 1)
+    unfolding linkChecked linkFiguresChecked refuseIf _orElse_ signed bitsOf
+    link-agrees i h =
+        let x : Link = getD (f .links) i noLink in
+        let yard = yard-held l w f in
+        let held = link-held l w f i h (fits i h) in
+        rw (held .marked, yard .stations, yard .ceilings, held .first, held .second)
+        (rw (held .sum, held .c1, held .c2, toZ-ofZ w32 (x .sum) (fits i h .sum)))
+
+    -- the reader's verdict on the survey is that on its figures
+    pub reader-agrees : checkedOf s ≡ figuresChecked f
+    unfolding checkedWith figuresChecked refuseIf _orElse_
+    reader-agrees =
+        let links : linksChecked s l m ≡ linksFiguresChecked (f .yard) (f .links) m = first-agree _ _ m link-agrees in
+        rw (survey-layout l w f, right-length, link-count) (ap₂ (λ (a b : Checked). a orElse b) yard-agrees links)
+
+    -- the figures of link record i are read back
+    link-read : (i : ℕ) → i < m → linkIn s (linkStart l i) ≡ getD (f .links) i noLink
+    unfolding signed bitsOf
+    link-read i h =
+        let x : Link = getD (f .links) i noLink in
+        let fit = fits i h in
+        let held = link-held l w f i h fit in
+        λ k.
+        record {
+          first = held .first k;
+          second = held .second k;
+          sum = (ap (signed w32) (held .sum) ∙ toZ-ofZ w32 (x .sum) (fit .sum)) k;
+          c1 = (ap (signed w16) (held .c1) ∙ toZ-ofZ w16 (x .c1) (fit .c1)) k;
+          c2 = (ap (signed w16) (held .c2) ∙ toZ-ofZ w16 (x .c2) (fit .c2)) k;
+        }
+
+    -- so are all figures
+    pub figures-read : figuresOf s ≡ f
+    unfolding figuresIn
+    figures-read =
+        let yard = yard-held l w f in
+        let links : map (λ i. linkIn s (linkStart l i)) (numbersFrom (linkCount l s) 0) ≡ f .links =
+        ap (λ (n : ℕ). map (λ i. linkIn s (linkStart l i)) (numbersFrom n 0)) link-count
+        ∙ map-numbers (λ i. linkIn s (linkStart l i)) noLink (f .links) 0 (λ i h. rw (zero-add i) (link-read i h)) in
+        ap (λ (k : Layout). figuresIn k s) (survey-layout l w f)
+        ∙ (λ k. record { yard = record { n = yard .stations k; p = yard .ceilings k; k1 = yard .rank1 k; k2 = yard .rank2 k }; links = links k })

@@ -14,6 +14,8 @@ ghost use Rattle.network.specs.Cut.{CutNoticed};
 ghost use Rattle.network.specs.Indexing.{indexAfter, indexStatus, lookupReply};
 ghost use Rattle.network.specs.Promise.{Promised};
 ghost use Rattle.network.specs.IndexPromise.{IndexPromised};
+ghost use Rattle.network.specs.Writing.{figuresFrom, writeAfter, writeStatus};
+ghost use Rattle.network.specs.WritingPromise.{WritePromised};
 ghost use Rattle.capi_found.specs.Flat.{FoundPromised, flatFound};
 ghost use Rattle.capi_part.specs.Parts.{PartOf, partOf};
 ghost use Rattle.capi_reply.specs.Replies.{flatReply};
@@ -98,6 +100,9 @@ pub extern "C" fn ranqustei_write_survey(
     costs: &[i16],
     survey: &mut [u8],
 ) -> Status
+    ensures reply { λ r. ⌜ r ≡ writeStatus kind (figuresFrom yard (now (ends .entry)) (now (sums .entry)) (now (costs .entry))) (length (now (survey .entry))) ⌝ }
+    ensures leaves { λ _. ⌜ now (survey .exit) ≡ writeAfter kind (figuresFrom yard (now (ends .entry)) (now (sums .entry)) (now (costs .entry))) (now (survey .entry)) ⌝ }
+    ensures promised { λ r. ⌜ WritePromised kind (figuresFrom yard (now (ends .entry)) (now (sums .entry)) (now (costs .entry))) (now (survey .entry)) r (now (survey .exit)) ⌝ }
 {
     planner::write_survey(kind, yard, ends, sums, costs, survey)
 }

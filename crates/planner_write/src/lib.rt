@@ -3,10 +3,10 @@ use network::Checked;
 use network::Status;
 use network::YardFigures;
 use survey_figures::check_yard;
-use survey_figures::full_costs;
-use survey_figures::full_ends;
 use survey_kind::kind_of;
 use survey_kind::layout_for;
+use survey_padding::full_costs;
+use survey_padding::full_ends;
 use survey_writing::write_full;
 ghost use mathlib.Core.Path.{_≡_};
 ghost use lib.ListN.{length};
@@ -14,7 +14,17 @@ ghost use Rattle.network.specs.Writing.{figuresFrom, writeAfter, writeStatus};
 ghost use Rattle.network.specs.WritingPromise.{WritePromised};
 
 // The survey of the figures, with the kind of yard record asked for, into the output, whose bytes past it stay: number 0 and place 0, or the refusal.
-pub fn write_survey(kind: u32, yard: YardFigures, ends: &[u8], sums: &[i32], costs: &[i16], survey: &mut [u8]) -> Status
+pub fn write_survey(
+    kind: u32,
+    yard: YardFigures,
+    ends: &[u8],
+    sums: &[i32],
+    costs: &[i16],
+    survey: &mut [u8],
+) -> Status
+    ensures reply { λ r. ⌜ r ≡ writeStatus kind (figuresFrom yard (now (ends .entry)) (now (sums .entry)) (now (costs .entry))) (length (now (survey .entry))) ⌝ }
+    ensures leaves { λ _. ⌜ now (survey .exit) ≡ writeAfter kind (figuresFrom yard (now (ends .entry)) (now (sums .entry)) (now (costs .entry))) (now (survey .entry)) ⌝ }
+    ensures promised { λ r. ⌜ WritePromised kind (figuresFrom yard (now (ends .entry)) (now (sums .entry)) (now (costs .entry))) (now (survey .entry)) r (now (survey .exit)) ⌝ }
 {
     let l = layout_for(kind);
     if kind_of(l) != kind {
@@ -24,17 +34,19 @@ pub fn write_survey(kind: u32, yard: YardFigures, ends: &[u8], sums: &[i32], cos
         };
     }
     let checked = check_yard(yard, sums.len());
-    if let Checked::Refused(refusal) = checked {
-        return Status {
+    match checked {
+        Checked::Refused(refusal) => Status {
             number: refusal.number,
             place: refusal.place,
-        };
+        },
+        Checked::Fine => {
+            let entries = 2 * sums.len();
+            if (entries <= ends.len()) & (entries <= costs.len()) {
+                return write_full(l, yard, ends, sums, costs, survey);
+            }
+            let all_ends = full_ends(ends);
+            let all_costs = full_costs(costs);
+            write_full(l, yard, &all_ends, sums, &all_costs, survey)
+        }
     }
-    let entries = 2 * sums.len();
-    if (entries <= ends.len()) & (entries <= costs.len()) {
-        return write_full(l, yard, ends, sums, costs, survey);
-    }
-    let e = full_ends(ends);
-    let c = full_costs(costs);
-    write_full(l, yard, &e, sums, &c, survey)
 }

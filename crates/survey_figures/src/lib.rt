@@ -13,8 +13,9 @@ use survey_ends::bad_ends;
 use survey_ranks::bad_ranks;
 ghost use mathlib.Core.Path.{_≡_};
 ghost use lib.ListN.{length};
-ghost use Rattle.network.specs.Writing.{linkFiguresChecked, yardFiguresChecked};
+ghost use Rattle.network.specs.Writing.{figuresFrom, linkFiguresChecked, yardFiguresChecked};
 ghost use Rattle.survey_written.specs.Columns.{Full, columnsChecked};
+ghost use Rattle.survey_written.specs.Fields.{Met};
 
 // The rules of a yard with m links.
 pub fn check_yard(y: YardFigures, m: usize) -> Checked
@@ -31,15 +32,7 @@ pub fn check_yard(y: YardFigures, m: usize) -> Checked
 }
 
 // The rules of a link with ends a and b.
-fn check_link(
-    y: YardFigures,
-    a: u8,
-    b: u8,
-    sum: i32,
-    c1: i16,
-    c2: i16,
-    place: u8,
-) -> Checked
+fn check_link(y: YardFigures, a: u8, b: u8, sum: i32, c1: i16, c2: i16, place: u8) -> Checked
     ensures { λ r. ⌜ r ≡ linkFiguresChecked y (record { first = a; second = b; sum = sum; c1 = c1; c2 = c2 }) place ⌝ }
 {
     let n = y.n;
@@ -51,7 +44,8 @@ fn check_link(
 // The rules of all links, in their order.
 pub fn check_links(y: YardFigures, ends: &[u8], sums: &[i32], costs: &[i16]) -> Checked
     requires { ⌜ Full (now ends) (now sums) (now costs) ⌝ }
-    ensures { λ r. ⌜ r ≡ columnsChecked y (now (ends .entry)) (now (sums .entry)) (now (costs .entry)) (length (now (sums .entry))) ⌝ }
+    ensures verdict { λ r. ⌜ r ≡ columnsChecked y (now (ends .entry)) (now (sums .entry)) (now (costs .entry)) (length (now (sums .entry))) ⌝ }
+    ensures met { λ _. ⌜ Met (figuresFrom y (now (ends .entry)) (now (sums .entry)) (now (costs .entry))) ⌝ }
 {
     let mut i = 0;
     while i < sums.len() {

@@ -13,20 +13,17 @@ ghost use Rattle.network.specs.Survey.{linkSize};
 ghost use Rattle.network.specs.Writing.{figuresFrom, surveyAtFront, surveyIn};
 ghost use Rattle.encoding_overwrite.specs.Overwrite.{overwrite};
 ghost use Rattle.survey_written.specs.Columns.{Full};
+ghost use Rattle.survey_written.specs.Fields.{Met};
 ghost use Rattle.survey_written.specs.Layouts.{Writable};
 ghost use Rattle.survey_written.specs.Written.{recordsTo};
 ghost use Rattle.survey_writing.specs.Filled.{fullAfter, fullStatus};
 
 // Writes the records of all links behind the yard record.
 fn write_links(out: &mut [u8], l: Layout, ends: &[u8], sums: &[i32], costs: &[i16])
-    requires {
-        ⌜ Writable l × Full (now ends) (now sums) (now costs) × (l .yard .size + length (now sums) * linkSize ≤ length (now out)) ⌝
-    }
-    ensures {
-        λ _. ⌜ now (out .exit)
-            ≡ overwrite (now (out .entry)) (l .yard .size)
-              (recordsTo (l .link .mark) (now (ends .entry)) (now (sums .entry)) (now (costs .entry)) (length (now (sums .entry)))) ⌝
-    }
+    requires { ⌜ Writable l × Full (now ends) (now sums) (now costs) × (l .yard .size + length (now sums) * linkSize ≤ length (now out)) ⌝ }
+    ensures { λ _. ⌜ now (out .exit)
+        ≡ overwrite (now (out .entry)) (l .yard .size)
+        (recordsTo (l .link .mark) (now (ends .entry)) (now (sums .entry)) (now (costs .entry)) (length (now (sums .entry)))) ⌝ }
 {
     let mark = l.link.mark;
     let size = l.link.size;
@@ -52,13 +49,9 @@ fn write_records(
     sums: &[i32],
     costs: &[i16],
 )
-    requires {
-        ⌜ Writable l × Full (now ends) (now sums) (now costs) × (l .yard .size + length (now sums) * linkSize ≤ length (now out)) ⌝
-    }
-    ensures {
-        λ _. ⌜ now (out .exit)
-            ≡ surveyAtFront (surveyIn l (figuresFrom y (now (ends .entry)) (now (sums .entry)) (now (costs .entry)))) (now (out .entry)) ⌝
-    }
+    requires { ⌜ Writable l × Full (now ends) (now sums) (now costs) × (l .yard .size + length (now sums) * linkSize ≤ length (now out)) ⌝ }
+    ensures { λ _. ⌜ now (out .exit)
+        ≡ surveyAtFront (surveyIn l (figuresFrom y (now (ends .entry)) (now (sums .entry)) (now (costs .entry)))) (now (out .entry)) ⌝ }
 {
     write_yard(out, l, y, sums.len());
     write_links(out, l, ends, sums, costs);
@@ -74,12 +67,9 @@ pub fn write_full(
     out: &mut [u8],
 ) -> Status
     requires { ⌜ Writable l × Full (now ends) (now sums) (now costs) ⌝ }
-    ensures reply {
-        λ r. ⌜ r ≡ fullStatus l (figuresFrom y (now (ends .entry)) (now (sums .entry)) (now (costs .entry))) (length (now (out .entry))) ⌝
-    }
-    ensures leaves {
-        λ _. ⌜ now (out .exit) ≡ fullAfter l (figuresFrom y (now (ends .entry)) (now (sums .entry)) (now (costs .entry))) (now (out .entry)) ⌝
-    }
+    ensures reply { λ r. ⌜ r ≡ fullStatus l (figuresFrom y (now (ends .entry)) (now (sums .entry)) (now (costs .entry))) (length (now (out .entry))) ⌝ }
+    ensures leaves { λ _. ⌜ now (out .exit) ≡ fullAfter l (figuresFrom y (now (ends .entry)) (now (sums .entry)) (now (costs .entry))) (now (out .entry)) ⌝ }
+    ensures met { λ _. ⌜ Met (figuresFrom y (now (ends .entry)) (now (sums .entry)) (now (costs .entry))) ⌝ }
 {
     let checked = check_links(y, ends, sums, costs);
     match checked {

@@ -1,15 +1,19 @@
 -- Figures that are handed in as columns: their links one by one, and their rules.
 use mathlib.Core.List.{List, _∷_, map}
+use mathlib.Core.Logic.{⊎-elim}
 use mathlib.Core.Path.{_≡_, refl, sym, ap, ap₂, _∙_}
 use Prim.Native.Nat.{ℕ, zero, suc, _+_, _*_, _≤_, _<_}
-use native.Mathlib.Nat.{zero-add}
+use native.Mathlib.Nat.{eq-or-lt-of-le, zero-add}
 use native.Mathlib.Omega.{arith}
+use borrow.Author.Tests.{ltb-false, ltb-true}
+use lib.Dec.{ltb}
 use lib.IntN.{ℤ, pos}
 use lib.ListN.{getD, length, length-map}
 use mir.Syntax.{w16, w32}
-use mir.Val.{SFits, ofZ, toZ}
+use mir.Val.{ofZ, toZ}
 use mir.ValLaws.{toZ-ofZ}
 use Rattle.order.specs.Lists.{getD-default, getD-map, numbersFrom}
+use Rattle.order.specs.Test.{by-test}
 use Rattle.order.specs.Sorted.{number-at, numbers-length}
 use Rattle.network.specs.Limits.{maxLinks}
 use Rattle.network.specs.Column.{column, column-at, column-length}
@@ -19,13 +23,22 @@ use Rattle.network.specs.declared.Checked.{Checked}
 use Rattle.network.specs.declared.Checked.the-variants.{Fine, Refused}
 use Rattle.network.specs.declared.Refusal.{Refusal}
 use Rattle.network.specs.declared.YardFigures.{YardFigures}
-use Rattle.survey_written.specs.Fields.{Fitting}
+use Rattle.survey_written.specs.Fields.{Fitting, Met}
 
--- the first refusal of checks that agree so far
-pub first-agree : (f g : ℕ → Checked) (m : ℕ) → ((i : ℕ) → i < m → f i ≡ g i) → firstRefusal f m ≡ firstRefusal g m
-unfolding firstRefusal
+-- the first refusal of checks that agree up to it
+pub first-agree : (f g : ℕ → Checked) (m : ℕ) → ((i : ℕ) → i < m → firstRefusal g i ≡ Fine → f i ≡ g i) → firstRefusal f m ≡ firstRefusal g m
+unfolding firstRefusal _orElse_
 first-agree f g zero e = refl
-first-agree f g (suc m) e = ap₂ (λ (a b : Checked). a orElse b) (first-agree f g m (λ i h. e i (omega arith))) (e m (omega arith))
+first-agree f g (suc m) e =
+    ap (λ (c : Checked). c orElse f m) (first-agree f g m (λ i h. e i (omega arith))) ∙ next (firstRefusal g m) (e m (omega arith))
+  where
+    next : (c : Checked) → (c ≡ Fine → f m ≡ g m) → c orElse f m ≡ c orElse g m
+    next Fine q = q refl
+    next (Refused r) q = refl
+
+-- a refusal is not nothing
+pub refused-fine : {r : Refusal} {c : Checked} → c ≡ Refused r → c ≡ Fine → ⊥
+refused-fine e q = let z : _≡_ {A = ℕ} 0 1 = cc in omega arith
 
 -- columns with both ends and both ceiling costs for each link, and no more links than a survey may have
 pub record Full (ends : List ℕ) (sums costs : List ℤ) : Type 0 where
@@ -54,18 +67,38 @@ module _ (y : YardFigures) (ends : List ℕ) (sums costs : List ℤ) where
       getD-map (linkFrom ends sums costs) (numbersFrom (length sums) 0) i 0 noLink (omega arith)
       ∙ ap (linkFrom ends sums costs) (number-at (length sums) 0 i h ∙ zero-add i)
 
-  -- the rules of the links are those of the columns
-  pub links-checked : linksFiguresChecked y links (length links) ≡ columnsChecked (length sums)
+  -- the rules of the first m links are those of the columns
+  links-to : (m : ℕ) → m ≤ length sums → linksFiguresChecked y links m ≡ columnsChecked m
   unfolding columnsChecked
-  links-checked =
-      ap (linksFiguresChecked y links) link-many
-      ∙ first-agree _ _ (length sums) (λ i h. ap (λ (x : Link). linkFiguresChecked y x (i + 1)) (link-at i h))
+  links-to m h = first-agree _ _ m (λ i less e. ap (λ (x : Link). linkFiguresChecked y x (i + 1)) (link-at i (omega arith)))
 
-  -- entries that fit their types make links that fit their bytes
-  pub links-fit : ((i : ℕ) → SFits w32 (getD sums i (pos 0))) → ((i : ℕ) → SFits w16 (getD costs i (pos 0))) → (i : ℕ) → i < length links
-      → Fitting (getD links i noLink)
-  links-fit sum cost i h =
-      rw (link-at i (omega (arith, link-many))) (record { sum = sum i; c1 = cost (2 * i); c2 = cost (2 * i + 1) })
+  -- so are those of all links
+  pub links-checked : linksFiguresChecked y links (length links) ≡ columnsChecked (length sums)
+  links-checked = ap (linksFiguresChecked y links) link-many ∙ links-to (length sums) (omega arith)
+
+  -- links of the columns that fit are links of the figures that fit
+  met : ((i : ℕ) → i < length sums → columnsChecked i ≡ Fine → Fitting (linkFrom ends sums costs i)) → Met (figuresFrom y ends sums costs)
+  unfolding figuresFrom
+  met fits =
+      record {
+        each = λ i h e.
+            let less : i < length sums = omega (arith, link-many) in
+            rw (link-at i less) (fits i less (sym (links-to i (omega arith)) ∙ e));
+      }
+
+  -- where all links fit
+  pub met-all : ((i : ℕ) → i < length sums → Fitting (linkFrom ends sums costs i)) → Met (figuresFrom y ends sums costs)
+  met-all fits = met (λ i h e. fits i h)
+
+  -- where link k is refused, and the links up to it fit
+  pub met-found : (k : ℕ) (r : Refusal) → columnsChecked k ≡ Fine → linkFiguresChecked y (linkFrom ends sums costs k) (k + 1) ≡ Refused r
+      → ((i : ℕ) → i < k + 1 → Fitting (linkFrom ends sums costs i)) → Met (figuresFrom y ends sums costs)
+  unfolding columnsChecked
+  met-found k r so-far found fits =
+      met (λ i h e.
+      by-test (ltb k i)
+      (λ q. absurd (refused-fine (first-found _ k r so-far found i (ltb-true k i q)) e))
+      (λ q. fits i (omega (arith, ltb-false k i q))))
 
 -- ---- a loop over the links
 
@@ -93,6 +126,10 @@ module _ (ends : List ℕ) (sums costs : List ℤ) (full : Full ends sums costs)
         c2 = toZ-ofZ w16 (getD costs (2 * i + 1) (pos 0)) (fits .c2) k;
       }
 
+  -- one link more that fits
+  pub fits-more : ((j : ℕ) → j < i → Fitting (linkFrom ends sums costs j)) → (j : ℕ) → j < i + 1 → Fitting (linkFrom ends sums costs j)
+  fits-more before j less = ⊎-elim (λ (e : j ≡ i). rw e fits) (λ (l : j < i). before j l) (eq-or-lt-of-le (omega arith))
+
   module _ (y : YardFigures) {c : Checked} (q : c ≡ linkFiguresChecked y (linkRead ends sums costs i) (i + 1)) (so-far : columnsChecked y ends sums costs i ≡ Fine) where
     checked : c ≡ linkFiguresChecked y (linkFrom ends sums costs i) (i + 1)
     checked = q ∙ ap (λ (x : Link). linkFiguresChecked y x (i + 1)) link-read
@@ -103,9 +140,13 @@ module _ (ends : List ℕ) (sums costs : List ℤ) (full : Full ends sums costs)
     columns-more e = first-more _ i so-far (sym checked ∙ e)
 
     -- the first that is
-    pub columns-found : (r : Refusal) → c ≡ Refused r → c ≡ columnsChecked y ends sums costs (length sums)
+    pub columns-found : (r : Refusal) → c ≡ Refused r → ((j : ℕ) → j < i → Fitting (linkFrom ends sums costs j))
+        → (c ≡ columnsChecked y ends sums costs (length sums)) × Met (figuresFrom y ends sums costs)
     unfolding columnsChecked
-    columns-found r e = e ∙ sym (first-found _ i r so-far (sym checked ∙ e) (length sums) h)
+    columns-found r e before = (
+      e ∙ sym (first-found _ i r so-far (sym checked ∙ e) (length sums) h),
+      met-found y ends sums costs i r so-far (sym checked ∙ e) (fits-more before),
+    )
 
 -- ---- columns made full
 

@@ -21,7 +21,8 @@ use Rattle.network.specs.Layouts.{layout-kept}
 use Rattle.network.specs.Refusals.{badCount}
 use Rattle.network.specs.PlanList.{join}
 use Rattle.network.specs.Moved.{Moved, moved-mark, moved-on, moved-u16, moved-u32}
-use Rattle.network.specs.Writing.{Figures, Link, linkBytes, noLink, surveyIn, yardBytes}
+use Rattle.network.specs.Writing.{Figures, Link, linkBytes, linksFiguresChecked, noLink, surveyIn, yardBytes}
+use Rattle.network.specs.declared.Checked.the-variants.{Fine}
 use Rattle.network.specs.declared.Layout.{Layout}
 use Rattle.network.specs.declared.YardFigures.{YardFigures}
 use Rattle.encoding_numbers.specs.RoundTrip.{u16-bytes, u32-bytes}
@@ -35,6 +36,10 @@ pub record Fitting (x : Link) : Type 0 where
   pub sum : SFits w32 (x .sum)
   pub c1 : SFits w16 (x .c1)
   pub c2 : SFits w16 (x .c2)
+
+-- each link before which none is refused fits its bytes
+pub record Met (f : Figures) : Type 0 where
+  pub each : (i : ℕ) → i < length (f .links) → linksFiguresChecked (f .yard) (f .links) i ≡ Fine → Fitting (getD (f .links) i noLink)
 
 -- a link record with this mark and these figures stands at an index
 pub record LinkHeld (s : List ℕ) (at : ℕ) (mark : List ℕ) (x : Link) : Type 0 where

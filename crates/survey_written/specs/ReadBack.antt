@@ -1,9 +1,10 @@
 -- What the reader says of a survey that was written: the refusal of its figures, or none, and the figures.
 use mathlib.Core.Bool.{Bool, true, false, not, _||_}
 use mathlib.Core.List.{List, [], _∷_, map}
+use mathlib.Core.Logic.{⊎-elim}
 use mathlib.Core.Path.{_≡_, refl, sym, ap, ap₂, _∙_}
 use Prim.Native.Nat.{ℕ, zero, suc, _+_, _-_, _*_, _/_, _%_, _≤_, _<_}
-use native.Mathlib.Nat.{add-zero, zero-add}
+use native.Mathlib.Nat.{add-zero, eq-or-lt-of-le, zero-add}
 use native.Mathlib.Omega.{arith}
 use lib.Dec.{ltb}
 use lib.ListN.{getD, length}
@@ -14,7 +15,7 @@ use Rattle.order.specs.Lists.{numbersFrom}
 use Rattle.network.specs.Limits.{maxCeilings, maxLinks, maxStations}
 use Rattle.network.specs.Bytes.{bitsOf, signed}
 use Rattle.network.specs.Survey.{layoutOf, linkCount, linkSize, linkStart}
-use Rattle.network.specs.Checked.{firstRefusal, refuseIf, _orElse_}
+use Rattle.network.specs.Checked.{fine-both, firstRefusal, refuseIf, _orElse_}
 use Rattle.network.specs.Refusals.{badCount, badLength, badRanks, checkedOf, checkedWith, linkChecked, linkCheckedAt, linksChecked, outside, yardChecked}
 use Rattle.network.specs.Writing.{Figures, Link, figuresChecked, figuresIn, figuresOf, linkFiguresChecked, linkIn, linksFiguresChecked, noLink}
 use Rattle.network.specs.Writing.{surveyIn, yardFiguresChecked}
@@ -23,7 +24,7 @@ use Rattle.network.specs.declared.Checked.the-variants.{Fine, Refused}
 use Rattle.network.specs.declared.Layout.{Layout}
 use Rattle.survey_written.specs.Layouts.{Writable}
 use Rattle.survey_written.specs.Columns.{first-agree}
-use Rattle.survey_written.specs.Fields.{Fitting, link-held, survey-layout, survey-length, yard-held}
+use Rattle.survey_written.specs.Fields.{Fitting, Met, link-held, survey-layout, survey-length, yard-held}
 
 -- ---- the order of the refusals
 
@@ -34,6 +35,13 @@ unfolding refuseIf _orElse_
 no-count (Refused r) many wrong e = refl
 no-count Fine true wrong e = refl
 no-count Fine false wrong e = rw (e refl)
+
+-- where nothing is refused, nothing is among the first checks
+first-part : (f : ℕ → Checked) (m : ℕ) → firstRefusal f m ≡ Fine → (i : ℕ) → i ≤ m → firstRefusal f i ≡ Fine
+unfolding firstRefusal
+first-part f zero e i h = let none : i ≡ 0 = omega arith in rw none
+first-part f (suc m) e i h =
+    ⊎-elim (λ (q : i ≡ suc m). rw q e) (λ (q : i < suc m). first-part f m (fine-both _ _ e .0) i (omega arith)) (eq-or-lt-of-le h)
 
 -- a list is what a function gives for the numbers of its entries, where that is each entry
 map-numbers : {A : Type 0} (f : ℕ → A) (d : A) (xs : List A) (k : ℕ) → ((i : ℕ) → i < length xs → f (k + i) ≡ getD xs i d)
@@ -73,24 +81,34 @@ module _ (l : Layout) (w : Writable l) (f : Figures) where
       (ap (λ (c : Checked). c orElse refuseIf (ltb maxCeilings (y .p)) 5 0 orElse refuseIf (badRanks (y .n) (y .p) (y .k1 ∷ y .k2 ∷ [])) 6 0)
       (no-count (refuseIf (outside (y .n) 1 maxStations) 3 0) (ltb maxLinks m) (badCount s l m) (λ e. held .count (ltb-false maxLinks m e))))
 
-  module _ (fits : (i : ℕ) → i < m → Fitting (getD (f .links) i noLink)) where
-    -- the bytes of link record i get what its figures get
-    link-agrees : (i : ℕ) → i < m → linkCheckedAt s l i ≡ linkFiguresChecked (f .yard) (getD (f .links) i noLink) (i + 1)
-    unfolding linkChecked linkFiguresChecked refuseIf _orElse_ signed bitsOf
-    link-agrees i h =
-        let x : Link = getD (f .links) i noLink in
-        let yard = yard-held l w f in
-        let held = link-held l w f i h (fits i h) in
-        rw (held .marked, yard .stations, yard .ceilings, held .first, held .second)
-        (rw (held .sum, held .c1, held .c2, toZ-ofZ w32 (x .sum) (fits i h .sum)))
+  -- the bytes of link record i get what its figures get
+  link-agrees : (i : ℕ) → i < m → Fitting (getD (f .links) i noLink)
+      → linkCheckedAt s l i ≡ linkFiguresChecked (f .yard) (getD (f .links) i noLink) (i + 1)
+  unfolding linkChecked linkFiguresChecked refuseIf _orElse_ signed bitsOf
+  link-agrees i h fits =
+      let x : Link = getD (f .links) i noLink in
+      let yard = yard-held l w f in
+      let held = link-held l w f i h fits in
+      rw (held .marked, yard .stations, yard .ceilings, held .first, held .second)
+      (rw (held .sum, held .c1, held .c2, toZ-ofZ w32 (x .sum) (fits .sum)))
+
+  module _ (met : yardFiguresChecked (f .yard) m ≡ Fine → Met f) where
+    -- the reader's verdict on the links, once the yard is not refused
+    links-agree : yardFiguresChecked (f .yard) m ≡ Fine → linksChecked s l m ≡ linksFiguresChecked (f .yard) (f .links) m
+    links-agree yard = first-agree _ _ m (λ i h so-far. link-agrees i h (met yard .each i h so-far))
 
     -- the reader's verdict on the survey is that on its figures
     pub reader-agrees : checkedOf s ≡ figuresChecked f
     unfolding checkedWith figuresChecked refuseIf _orElse_
     reader-agrees =
-        let links : linksChecked s l m ≡ linksFiguresChecked (f .yard) (f .links) m = first-agree _ _ m link-agrees in
-        rw (survey-layout l w f, right-length, link-count) (ap₂ (λ (a b : Checked). a orElse b) yard-agrees links)
+        rw (survey-layout l w f, right-length, link-count, yard-agrees) (go (yardFiguresChecked (f .yard) m) links-agree)
+      where
+        go : (c : Checked) → (c ≡ Fine → linksChecked s l m ≡ linksFiguresChecked (f .yard) (f .links) m)
+            → c orElse linksChecked s l m ≡ c orElse linksFiguresChecked (f .yard) (f .links) m
+        go Fine e = e refl
+        go (Refused r) e = refl
 
+  module _ (fits : (i : ℕ) → i < m → Fitting (getD (f .links) i noLink)) where
     -- the figures of link record i are read back
     link-read : (i : ℕ) → i < m → linkIn s (linkStart l i) ≡ getD (f .links) i noLink
     unfolding signed bitsOf
@@ -117,3 +135,10 @@ module _ (l : Layout) (w : Writable l) (f : Figures) where
         ∙ map-numbers (λ i. linkIn s (linkStart l i)) noLink (f .links) 0 (λ i h. rw (zero-add i) (link-read i h)) in
         ap (λ (k : Layout). figuresIn k s) (survey-layout l w f)
         ∙ (λ k. record { yard = record { n = yard .stations k; p = yard .ceilings k; k1 = yard .rank1 k; k2 = yard .rank2 k }; links = links k })
+
+  -- where nothing is refused, all links fit
+  pub legal-fit : figuresChecked f ≡ Fine → (yardFiguresChecked (f .yard) m ≡ Fine → Met f) → (i : ℕ) → i < m → Fitting (getD (f .links) i noLink)
+  unfolding figuresChecked
+  legal-fit e met i h =
+      let both = fine-both _ _ e in
+      met (both .0) .each i h (first-part _ m (both .1) i (omega arith))

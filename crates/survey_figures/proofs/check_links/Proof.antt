@@ -1,24 +1,27 @@
 -- `survey_figures::check_links` meets its contract. The invariant: the links before i are not refused. The first refusal is that of all links.
 use borrow.Author.Needs.{needs}
-use Prim.Native.Nat.{_≤_, _-_}
+use Prim.Native.Nat.{ℕ, _≤_, _<_, _-_}
 use mathlib.Core.Path.{_≡_, refl, sym, ap, _∙_}
 use native.Mathlib.Omega.{arith}
 use lib.ListN.{length}
 use Rattle.network.specs.Checked.{firstRefusal}
+use Rattle.network.specs.Writing.{linkFrom}
 use Rattle.network.specs.declared.Checked.the-variants.{Fine}
-use Rattle.survey_written.specs.Columns.{columns-found, columns-more, columnsChecked}
+use Rattle.survey_written.specs.Columns.{columns-found, columns-more, columnsChecked, fits-more, met-all}
+use Rattle.survey_written.specs.Fields.{Fitting}
 use Rattle.survey_figures.proofs.check_links.Statement.{statement}
 use Rattle.survey_figures.proofs.check_links.Tie as tie
 
 abbrev Inv-loop : tie.InvT-loop
-Inv-loop y ends sums costs i₀ i = (i ≤ length sums) × (columnsChecked y ends sums costs i ≡ Fine)
+Inv-loop y ends sums costs i₀ i =
+    (i ≤ length sums) × (columnsChecked y ends sums costs i ≡ Fine) × ((j : ℕ) → j < i → Fitting (linkFrom ends sums costs j))
 
 abbrev μ-loop : tie.MeasureT-loop
 μ-loop y ends sums costs i₀ i = length sums - i
 
 loop-holds : tie.Need-loop-holds Inv-loop μ-loop
 unfolding columnsChecked firstRefusal
-loop-holds c = (search needs, refl)
+loop-holds c = (search needs, refl, λ j h. absurd (omega arith))
 
 mul-a : tie.Need-mul-a Inv-loop μ-loop
 mul-a c = search needs
@@ -80,7 +83,7 @@ returns c =
     let start = turn .before .before .before .before .before .before in
     let full = start .before .before .before .pre in
     columns-found _ _ _ full _ (start .loop-test .taken) (record { sum = search needs; c1 = search needs; c2 = search needs }) _ (turn .check-link .ensures)
-    (start .before .loop .inv .1) _ (c .enum-told .given .1)
+    (start .before .loop .inv .1) _ (c .enum-told .given .1) (start .before .loop .inv .2)
 
 enum-told-2 : tie.Need-enum-told-2 Inv-loop μ-loop
 enum-told-2 c = search needs
@@ -99,10 +102,13 @@ loop-again c =
       search needs,
       columns-more _ _ _ full _ (start .loop-test .taken) (record { sum = search needs; c1 = search needs; c2 = search needs }) _ (turn .check-link .ensures)
           (start .before .loop .inv .1) (c .enum-told2 .given .1),
+      fits-more _ _ _ full _ (start .loop-test .taken) (record { sum = search needs; c1 = search needs; c2 = search needs }) (start .before .loop .inv .2),
     )
 
 returns-2 : tie.Need-returns-2 Inv-loop μ-loop
-returns-2 c = sym (c .before .loop .inv .1) ∙ ap (columnsChecked _ _ _ _) (omega arith)
+returns-2 c =
+    let so-far = c .before .loop .inv in
+    (sym (so-far .1) ∙ ap (columnsChecked _ _ _ _) (omega arith), met-all _ _ _ _ (λ j h. so-far .2 j (omega (arith, c .loop-test .left))))
 
 pub check-links-spec : {M : Type 1} → statement M
 check-links-spec =

@@ -38,7 +38,8 @@ returns : tie.Need-returns
 returns c =
     let checked = c .before .before .before in
     let start = checked .before .before .before in
-    full-short _ (start .pre .0) _ _ _ _ (checked .check-links .ensures) _ (c .before .enum-told .given .1) (c .if1 .taken)
+    let done = full-short _ (start .pre .0) _ _ _ _ (checked .check-links .ensures .0) _ (c .before .enum-told .given .1) (c .if1 .taken) in
+    (done .0, (done .1, checked .check-links .ensures .1))
 
 write-records-requires : tie.Need-write-records-requires
 write-records-requires c κs =
@@ -51,7 +52,8 @@ returns-2 : tie.Need-returns-2
 returns-2 c =
     let checked = c .before .before .before in
     let start = checked .before .before .before in
-    full-refused _ (start .pre .0) _ _ _ _ (checked .check-links .ensures) _ _ (c .before .checked .given .1)
+    let done = full-refused _ (start .pre .0) _ _ _ _ (checked .check-links .ensures .0) _ _ (c .before .checked .given .1) in
+    (done .0, (done .1, checked .check-links .ensures .1))
 
 same-length : tie.Need-same-length
 same-length c = search needs
@@ -62,7 +64,10 @@ returns-3 c =
     let test = written .before .before in
     let checked = test .before .before .before in
     let start = checked .before .before .before in
-    full-fine _ (start .pre .0) _ _ _ _ (checked .check-links .ensures) _ (test .before .enum-told .given .1) (test .if1 .left) (written .write-records .ensures)
+    let verdict = checked .check-links .ensures in
+    let done =
+    full-fine _ (start .pre .0) _ _ _ _ (verdict .0) _ (test .before .enum-told .given .1) (test .if1 .left) (written .write-records .ensures) in
+    (done .0, (done .1, verdict .1))
 
 pub write-full-spec : {M : Type 1} → statement M
 write-full-spec =

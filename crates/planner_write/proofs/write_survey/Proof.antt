@@ -1,0 +1,118 @@
+-- `planner_write::write_survey` meets its contract. By the kind, then the verdict on the yard, then full columns.
+use mathlib.Core.Path.{sym, _∙_}
+use borrow.Author.Needs.{needs}
+use Rattle.planner_write.specs.Calling.{by-full, by-kind, by-links, by-yard, filled, known, long-enough, unknown}
+use Rattle.planner_write.proofs.write_survey.Statement.{statement}
+use Rattle.planner_write.proofs.write_survey.Tie as tie
+
+layout-for-requires : tie.Need-layout-for-requires
+layout-for-requires c κs = search needs
+
+kind-of-requires : tie.Need-kind-of-requires
+kind-of-requires c κs = search needs
+
+returns : tie.Need-returns
+returns c =
+    let layout = c .before .before .layout-for in
+    by-kind _ _ _ _ _ _ (unknown (layout .ensures .0) (c .before .kind-of .ensures) (c .if1 .taken))
+
+check-yard-requires : tie.Need-check-yard-requires
+check-yard-requires c κs = search needs
+
+enum-known-checked : tie.Need-enum-known-checked
+enum-known-checked c = search needs
+
+enum-told : tie.Need-enum-told
+enum-told c = search needs
+
+mul-entries : tie.Need-mul-entries
+mul-entries c = search needs
+
+write-full-requires : tie.Need-write-full-requires
+write-full-requires c κs =
+    let test = c .before in
+    let yard = test .before .before .before in
+    (yard .before .before .before .layout-for .ensures .1, long-enough _ _ _ _ (sym (yard .check-yard .ensures) ∙ test .before .enum-told .given .1) (test .if2 .taken))
+
+same-length : tie.Need-same-length
+same-length c = search needs
+
+returns-2 : tie.Need-returns-2
+returns-2 c =
+    let written = c .before .before in
+    let test = written .before .before in
+    let yard = test .before .before .before in
+    let kind = yard .before .before in
+    let layout = kind .before .layout-for in
+    let ensured = written .write-full .ensures in
+    by-links _ _ _ _ _ _ (known (layout .ensures .0) (kind .kind-of .ensures) (yard .before .if1 .left)) (layout .ensures .0)
+    (sym (yard .check-yard .ensures) ∙ test .before .enum-told .given .1) (ensured .0) (ensured .1 .0) (ensured .1 .1)
+
+full-ends-requires : tie.Need-full-ends-requires
+full-ends-requires c κs = search needs
+
+full-costs-requires : tie.Need-full-costs-requires
+full-costs-requires c κs = search needs
+
+slice-aggregate-write-full : tie.Need-slice-aggregate-write-full
+slice-aggregate-write-full c = search needs
+
+slice-aggregate-write-full-2 : tie.Need-slice-aggregate-write-full-2
+slice-aggregate-write-full-2 c = search needs
+
+write-full-requires-2 : tie.Need-write-full-requires-2
+write-full-requires-2 c κs =
+    let costs = c .before .before .before in
+    let test = costs .before .before in
+    let yard = test .before .before .before in (
+      yard .before .before .before .layout-for .ensures .1,
+      filled _ _ _ _ (costs .before .full-ends .ensures) (costs .full-costs .ensures)
+          (sym (yard .check-yard .ensures) ∙ test .before .enum-told .given .1),
+    )
+
+returns-3 : tie.Need-returns-3
+returns-3 c =
+    let yard = c .before .before .before in
+    let kind = yard .before .before in
+    let layout = kind .before .layout-for in
+    by-yard _ _ _ _ _ _ (known (layout .ensures .0) (kind .kind-of .ensures) (yard .before .if1 .left)) _
+    (sym (yard .check-yard .ensures) ∙ c .before .checked .given .1)
+
+same-length-2 : tie.Need-same-length-2
+same-length-2 c = search needs
+
+returns-4 : tie.Need-returns-4
+returns-4 c =
+    let written = c .before .before in
+    let costs = written .before .before .before .before in
+    let test = costs .before .before in
+    let yard = test .before .before .before in
+    let kind = yard .before .before in
+    let layout = kind .before .layout-for in
+    let ensured = written .write-full2 .ensures in
+    by-full _ _ _ _ _ _ (known (layout .ensures .0) (kind .kind-of .ensures) (yard .before .if1 .left)) (layout .ensures .0)
+    (costs .before .full-ends .ensures) (costs .full-costs .ensures) (sym (yard .check-yard .ensures) ∙ test .before .enum-told .given .1)
+    (ensured .0) (ensured .1 .0) (ensured .1 .1)
+
+pub write-survey-spec : {M : Type 1} → statement M
+write-survey-spec =
+    tie.close
+    (tie.spec
+    layout-for-requires
+    kind-of-requires
+    returns
+    check-yard-requires
+    enum-known-checked
+    enum-told
+    mul-entries
+    write-full-requires
+    same-length
+    returns-2
+    full-ends-requires
+    full-costs-requires
+    slice-aggregate-write-full
+    slice-aggregate-write-full-2
+    write-full-requires-2
+    returns-3
+    same-length-2
+    returns-4)

@@ -1,4 +1,7 @@
-/* Every call with null and length 0 for each of its byte strings in turn: the replies are those of empty bytes, and what else was lent stays. */
+/*
+ * Every call with null and length 0 for each of its byte strings and columns in turn: the replies are those of empty ones, and what else was lent
+ * stays.
+ */
 #include "ranqustei.h"
 
 #include <stdio.h>
@@ -12,6 +15,13 @@ static const uint8_t survey_a[] = {
     0x4C, 0x4B, 0, 2, 1, 0, 0, 0, 9, 0, 0, 0,
 };
 static const uint8_t single[] = {0x59, 0x44, 1, 0, 0, 0};
+
+/* The figures of one link between two stations under a ceiling, and its survey where the costs are not handed in. */
+static const ranqustei_yard yard = {2, 1, 1, 0}, single_yard = {1, 0, 0, 0};
+static const uint8_t ends[] = {0, 1};
+static const int32_t sums[] = {5};
+static const int16_t costs[] = {3, 0};
+static const uint8_t without_costs[] = {0x59, 0x44, 2, 1, 1, 0, 0x4C, 0x4B, 0, 1, 5, 0, 0, 0, 0, 0, 0, 0};
 
 /* A plan list of one plan, and one of none. */
 static const uint8_t one_plan[] = {0x50, 0x48, 1, 0, 1, 0, 0, 0, 1, 1, 0x50, 0x4C, 5, 0, 0, 0, 3, 0, 0, 0, 0};
@@ -106,6 +116,34 @@ static void look_up(void)
     check("lookup, no index of no plan", bare_found(ranqustei_index_lookup(no_plan, sizeof no_plan, NULL, 0, 8), RANQUSTEI_NO_SUCH_PLAN));
 }
 
+static void decline_to_write(void)
+{
+    const uint32_t kind = RANQUSTEI_YARD_PLAIN;
+    ranqustei_status status = ranqustei_write_survey(kind, yard, NULL, 0, sums, 1, costs, 2, lent, LENT);
+
+    check("write, no ends", status.number == RANQUSTEI_BAD_ENDS && status.place == 1);
+    status = ranqustei_write_survey(kind, yard, ends, 2, sums, 1, costs, 2, NULL, 0);
+    check("write, no output", bare_status(status, RANQUSTEI_SHORT_OUTPUT));
+    status = ranqustei_write_survey(kind, single_yard, NULL, 0, NULL, 0, NULL, 0, NULL, 0);
+    check("write, nothing for one station", bare_status(status, RANQUSTEI_SHORT_OUTPUT));
+    status = ranqustei_write_survey(0, single_yard, NULL, 0, NULL, 0, NULL, 0, NULL, 0);
+    check("write, nothing and no kind", bare_status(status, RANQUSTEI_BAD_MARK));
+}
+
+static void write_survey(void)
+{
+    const uint32_t kind = RANQUSTEI_YARD_PLAIN;
+    uint8_t written[sizeof without_costs];
+    ranqustei_status status = ranqustei_write_survey(kind, yard, ends, 2, sums, 1, NULL, 0, written, sizeof written);
+
+    check("write, no costs", bare_status(status, RANQUSTEI_OK));
+    check("write, costs of 0", memcmp(written, without_costs, sizeof written) == 0);
+    status = ranqustei_write_survey(kind, single_yard, ends, 2, NULL, 0, costs, 2, written, sizeof written);
+    check("write, no sums", bare_status(status, RANQUSTEI_OK));
+    check("write, no links", memcmp(written, single, sizeof single) == 0);
+    check("write, what follows stays", memcmp(written + sizeof single, without_costs + sizeof single, sizeof written - sizeof single) == 0);
+}
+
 int main(void)
 {
     memset(lent, FILLER, sizeof lent);
@@ -115,6 +153,8 @@ int main(void)
     fetch();
     build_index();
     look_up();
+    decline_to_write();
+    write_survey();
     check("what was lent stays", lent_stays());
     return failures != 0;
 }

@@ -1,7 +1,8 @@
-/* Every call on survey A of document 01 and its list, and the ceilings question with a yard record that counts the links. */
+/* Every call on survey A of document 01, its list and its figures, and the ceilings question with a yard record that counts the links. */
 #include "ranqustei.h"
 
 #include <stdio.h>
+#include <string.h>
 
 /* Three stations, one ceiling with k = 1; links 0-1 (sum 4, cost 7), 1-2 (3, 2), 0-2 (1, 9). */
 #define LINKS \
@@ -19,6 +20,11 @@ static void print_links(const uint8_t *links, size_t count)
     for (size_t i = 0; i < count; i++)
         printf(" %d", links[i]);
     printf("\n");
+}
+
+static void print_status(const char *what, ranqustei_status status)
+{
+    printf("%s: number %d, place %d\n", what, status.number, status.place);
 }
 
 static void print_reply(const char *what, ranqustei_reply reply)
@@ -41,8 +47,7 @@ static uint8_t list[RANQUSTEI_LIST_BYTES];
 
 static void list_and_fetch(void)
 {
-    ranqustei_status status = ranqustei_list(survey, sizeof survey, RANQUSTEI_POSITIONS, list, sizeof list);
-    printf("list: number %d, place %d\n", status.number, status.place);
+    print_status("list", ranqustei_list(survey, sizeof survey, RANQUSTEI_POSITIONS, list, sizeof list));
     ranqustei_part part = ranqustei_fetch(list, sizeof list, 0);
     for (uint32_t r = 0; part.number == RANQUSTEI_OK; part = ranqustei_fetch(list, sizeof list, ++r)) {
         printf("plan %u, links", (unsigned)r);
@@ -54,8 +59,7 @@ static void list_and_fetch(void)
 static void index_and_look_up(void)
 {
     uint8_t index[RANQUSTEI_INDEX_BYTES];
-    ranqustei_status status = ranqustei_index(list, sizeof list, index, sizeof index);
-    printf("index: number %d, place %d\n", status.number, status.place);
+    print_status("index", ranqustei_index(list, sizeof list, index, sizeof index));
     printf("plans by ceiling cost:");
     for (size_t i = 0; i < 2; i++)
         printf(" %d", index[2 * i] + 256 * index[2 * i + 1]);
@@ -66,6 +70,31 @@ static void index_and_look_up(void)
     print_found("an index cut short", ranqustei_index_lookup(list, sizeof list, index, 3, 8));
     index[0] = 0;
     print_found("an index with a plan twice", ranqustei_index_lookup(list, sizeof list, index, sizeof index, 8));
+}
+
+static uint8_t written[RANQUSTEI_SURVEY_BYTES];
+
+/* Writes the survey of the figures of survey A, but with these ends of its links, into so many bytes. */
+static ranqustei_status write_a(uint32_t kind, const uint8_t ends[6], size_t length)
+{
+    static const ranqustei_yard yard = {3, 1, 1, 0};
+    static const int32_t sums[] = {4, 3, 1};
+    static const int16_t costs[] = {7, 0, 2, 0, 9, 0};
+
+    return ranqustei_write_survey(kind, yard, ends, 6, sums, 3, costs, 6, written, length);
+}
+
+static void write_surveys(void)
+{
+    static const uint8_t ends[] = {0, 1, 1, 2, 0, 2}, to_station_3[] = {0, 1, 1, 2, 0, 3};
+
+    print_status("write, plain", write_a(RANQUSTEI_YARD_PLAIN, ends, sizeof written));
+    printf("the bytes of the survey: %s\n", memcmp(written, survey, sizeof survey) == 0 ? "yes" : "no");
+    print_status("write, counted", write_a(RANQUSTEI_YARD_COUNTED, ends, sizeof written));
+    printf("the bytes of the counted survey: %s\n", memcmp(written, counted, sizeof counted) == 0 ? "yes" : "no");
+    print_status("write, another kind", write_a(0x5946, ends, sizeof written));
+    print_status("write, link 2 to station 3", write_a(RANQUSTEI_YARD_PLAIN, to_station_3, sizeof written));
+    print_status("write, a byte too few", write_a(RANQUSTEI_YARD_PLAIN, ends, sizeof survey - 1));
 }
 
 int main(void)
@@ -88,5 +117,6 @@ int main(void)
     print_reply("a survey cut short", ranqustei_judge(survey, sizeof survey - 1, drawn, sizeof drawn));
     print_reply("counted, best under 8", ranqustei_best(counted, sizeof counted, 8, 0, tree, sizeof tree));
     print_reply("counted, its last link cut off", ranqustei_best(counted, CUT_OFF, 8, 0, tree, sizeof tree));
+    write_surveys();
     return 0;
 }

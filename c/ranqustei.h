@@ -6,11 +6,11 @@
  *
  *     cc -std=c99 -Ic program.c target/staticlib/libcapi.a -o program
  *
- * What every call keeps to. A call takes its bytes as a pointer and a length. Whatever the bytes and numbers are, the call ends, stays inside the
- * bytes that it was lent, allocates nothing, keeps nothing for a later call, and gives the reply that is written below; the caller need check
- * nothing first. The caller owes what C cannot check: each pointer points to as many bytes as its length says, and bytes that a call writes are not
- * also lent to it as another argument. A pointer with a length of 0 may be null: nothing is read or written through it. Calls from several threads
- * at once do not disturb each other.
+ * What every call keeps to. A call takes its bytes as a pointer and a length, and likewise a column of numbers, whose length counts its entries.
+ * Whatever the bytes and numbers are, the call ends, stays inside what it was lent, allocates nothing, keeps nothing for a later call, and gives the
+ * reply that is written below; the caller need check nothing first. The caller owes what C cannot check: each pointer points to as many bytes or
+ * entries as its length says, aligned as C has it for their type, and bytes that a call writes are not also lent to it as another argument. A pointer
+ * with a length of 0 may be null: nothing is read or written through it. Calls from several threads at once do not disturb each other.
  *
  * Letters. n is the number of stations, m the number of links, p the number of ceilings, and t = n - 1 the number of links of a tree. M is the
  * number of positions: for each ceiling count the different costs that the links have for it, and multiply; without ceilings M is 1.
@@ -96,15 +96,16 @@ enum {
  *     fetch   12 for head or length; then 13; then 12 for the mark of plan r
  *     index   12 for head or length, or for the mark of any plan; then 16
  *     lookup  as index; then 12 for the index; then 13
+ *     write   2 for the kind, 3, 4, 5, 6; then 7, 8 for link 0, then for link 1, and so on; then 17
  *
- * The place is the link's number plus 1 where a link record is at fault (2, 7, 8), and 0 everywhere else.
+ * The place is the link's number plus 1 where a link is at fault (2, 7, 8), and 0 everywhere else.
  */
 enum {
     /* The call succeeded. */
     RANQUSTEI_OK = 0,
     /* The survey has fewer than 6 bytes, or its length less 6 is no multiple of 12; with the mark of the counted yard record put 7 for 6. */
     RANQUSTEI_BAD_LENGTH = 1,
-    /* The yard record begins with neither of its marks, or a link record (place) not with its mark. */
+    /* The yard record begins with neither of its marks, the kind to be written is neither, or a link record (place) does not begin with its mark. */
     RANQUSTEI_BAD_MARK = 2,
     /* There are no stations, or more than 24. */
     RANQUSTEI_BAD_STATIONS = 3,
@@ -133,13 +134,29 @@ enum {
     /* The counted yard record holds another number than the links that follow: the survey may be cut off. */
     RANQUSTEI_WRONG_COUNT = 15,
     /* The index buffer has fewer than 2 bytes for each plan. */
-    RANQUSTEI_SHORT_INDEX = 16
+    RANQUSTEI_SHORT_INDEX = 16,
+    /* The output has fewer bytes than the survey that is to be written. */
+    RANQUSTEI_SHORT_OUTPUT = 17
+};
+
+/* The kinds of yard record that a survey is written with: the mark as a number, its first byte high. */
+enum {
+    RANQUSTEI_YARD_PLAIN = 0x5944,
+    RANQUSTEI_YARD_COUNTED = 0x5945
 };
 
 /* The version of what this header declares: it changes whenever a struct, a call or the meaning of a reply changes. */
-enum { RANQUSTEI_VERSION = 4 };
+enum { RANQUSTEI_VERSION = 5 };
 
-/* The reply of the list call and of the index call: RANQUSTEI_OK and place 0, or the refusal and its place. */
+/* The figures of a yard record: the stations, the ceilings and their ranks. */
+typedef struct {
+    uint8_t n;
+    uint8_t p;
+    uint8_t k1;
+    uint8_t k2;
+} ranqustei_yard;
+
+/* The reply of the list call, of the index call and of writing: RANQUSTEI_OK and place 0, or the refusal and its place. */
 typedef struct {
     uint8_t number;
     uint8_t place;
@@ -220,6 +237,20 @@ ranqustei_status ranqustei_index(const uint8_t *list, size_t list_length, uint8_
  * too, and else that the index is not the list's. Each lookup goes through the whole list and the whole index, to test them.
  */
 ranqustei_found ranqustei_index_lookup(const uint8_t *list, size_t list_length, const uint8_t *index, size_t index_length, int16_t value);
+
+/*
+ * The survey of a yard and its links, with the yard record of `kind`, RANQUSTEI_YARD_PLAIN or RANQUSTEI_YARD_COUNTED. There are as many links as `sums`
+ * has entries. Of link i, counted from 0, the ends are the entries 2 * i and 2 * i + 1 of `ends`, the sum cost is entry i of `sums`, and the costs of
+ * ceiling 1 and ceiling 2 are the entries 2 * i and 2 * i + 1 of `costs`, 0 for an absent ceiling. Where `ends` has no such entry, that end is no
+ * station; where `costs` has none, that cost is 0. Entries after those of the last link are not looked at. RANQUSTEI_SURVEY_BYTES are always enough for
+ * `survey`.
+ * On success the survey stands at the front of `survey`, and the bytes after it are as they were. On a refusal all of `survey` is as it was.
+ * The survey is accepted, and its fields are the figures that were handed in. The figures of an accepted survey, written with the kind of its own yard
+ * record, give its bytes again.
+ */
+ranqustei_status ranqustei_write_survey(
+    uint32_t kind, ranqustei_yard yard, const uint8_t *ends, size_t ends_length, const int32_t *sums, size_t sums_length, const int16_t *costs,
+    size_t costs_length, uint8_t *survey, size_t survey_length);
 
 #ifdef __cplusplus
 }

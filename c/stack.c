@@ -13,12 +13,19 @@
 #include <string.h>
 
 enum { STACK = 1 << 18, PATTERN = 0xA5 };
+enum { LINKS = 40, LINK_BYTES = 12 };
 enum { PLANS = RANQUSTEI_POSITIONS, HEAD_BYTES = 10, PLAN_BYTES = 10 + RANQUSTEI_TREE_BYTES };
 
 static _Alignas(4096) uint8_t stack[STACK];
 static uint8_t survey[4096], list[RANQUSTEI_LIST_BYTES], tree[RANQUSTEI_TREE_BYTES], built[RANQUSTEI_INDEX_BYTES];
 static size_t survey_length;
 static uint8_t *caller;
+
+/* The figures of the survey's links, and the survey that is written from them. */
+static uint8_t ends[2 * LINKS], written[RANQUSTEI_SURVEY_BYTES];
+static int32_t sums[LINKS];
+static int16_t costs[2 * LINKS];
+static size_t links;
 
 /* Notes the caller's stack pointer. */
 #define NOTE_CALLER() __asm__ volatile("mov %%rsp, %0" : "=r"(caller))
@@ -40,10 +47,20 @@ static void *best(void *unused)
 /* Judges the tree that `best` found. */
 static void *judge(void *unused)
 {
-    size_t links = survey[2] - 1u;
+    size_t drawn = survey[2] - 1u;
 
     NOTE_CALLER();
-    ranqustei_judge(survey, survey_length, tree, links < sizeof tree ? links : sizeof tree);
+    ranqustei_judge(survey, survey_length, tree, drawn < sizeof tree ? drawn : sizeof tree);
+    return unused;
+}
+
+/* Writes the survey once more, from its figures. */
+static void *write_survey(void *unused)
+{
+    ranqustei_yard yard = {survey[2], survey[3], survey[4], survey[5]};
+
+    NOTE_CALLER();
+    ranqustei_write_survey(survey[0] * 256u + survey[1], yard, ends, 2 * links, sums, links, costs, 2 * links, written, sizeof written);
     return unused;
 }
 
@@ -93,6 +110,18 @@ static void measure_list(void)
     printf(" %zu |\n", taken(look_up));
 }
 
+/* Takes the figures of the links from the survey; the machine has its low bytes first, as the records have. */
+static void take_links(void)
+{
+    const uint8_t *record = survey + (survey[1] == 0x45 ? 7 : 6), *end = survey + survey_length;
+
+    for (links = 0; links < LINKS && record + LINK_BYTES <= end; links++, record += LINK_BYTES) {
+        memcpy(ends + 2 * links, record + 2, 2);
+        memcpy(sums + links, record + 4, 4);
+        memcpy(costs + 2 * links, record + 8, 4);
+    }
+}
+
 static int measure(const char *name)
 {
     FILE *file = fopen(name, "rb");
@@ -103,11 +132,13 @@ static int measure(const char *name)
     }
     survey_length = fread(survey, 1, sizeof survey, file);
     fclose(file);
+    take_links();
     /* The dynamic linker looks memcpy and memset up when they are first called, on the caller's stack; here that is done before it counts. */
     plans(NULL);
     printf("| %s | %zu |", name, taken(plans));
     printf(" %zu |", taken(best));
     printf(" %zu |", taken(judge));
+    printf(" %zu |", taken(write_survey));
     measure_list();
     return 0;
 }
@@ -130,7 +161,7 @@ static int measure_longest_list(void)
 {
     fill_list();
     build_index(NULL); /* for the dynamic linker, as for a survey */
-    printf("| a list of %d plans | | | |", PLANS);
+    printf("| a list of %d plans | | | | |", PLANS);
     measure_list();
     return ranqustei_index_lookup(list, sizeof list, built, sizeof built, INT16_MAX).number != RANQUSTEI_OK;
 }
@@ -139,7 +170,7 @@ int main(int count, char **names)
 {
     int failures = 0;
 
-    printf("| survey | list | best | judge | fetch | index | lookup |\n|---|---|---|---|---|---|---|\n");
+    printf("| survey | list | best | judge | write | fetch | index | lookup |\n|---|---|---|---|---|---|---|---|\n");
     for (int i = 1; i < count; i++)
         failures += measure(names[i]);
     failures += measure_longest_list();

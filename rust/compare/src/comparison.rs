@@ -1,9 +1,11 @@
 //! One call on two planners, and what differs.
 
+use crate::columns::Columns;
 use crate::index_rules::{build_fault, lookup_fault};
 use crate::list_bytes::Plans;
 use crate::planner::Planner;
 use crate::tally::{Call, Tally};
+use crate::write_rules::{write_fault, Request};
 use peer::{Costs, Refusal};
 use std::fmt::{self, Debug, Display, Formatter};
 
@@ -143,6 +145,42 @@ impl<'a> Comparison<'a> {
         let outcome = self.settle(Call::Lookup, outcomes, describe)?;
         let fault = lookup_fault(list, index, value, &outcome);
         hold(outcome, fault, describe)
+    }
+
+    /// Writes a survey, to an output that holds the bytes of `lent`.
+    pub fn write_survey(
+        &mut self,
+        request: &Request,
+        lent: &[u8],
+    ) -> Result<Outcome<()>, Difference> {
+        let figures = Columns::copy_of(&request.figures);
+        let outcomes = self.planners.map(|planner| {
+            let mut bytes = lent.to_vec();
+            let reply = planner.write_survey(request.kind, &request.figures, &mut bytes);
+            Outcome { reply, bytes }
+        });
+        let describe = || format!("write {request:x?} lent {lent:x?}");
+        let outcome = self.settle(Call::Write, outcomes, describe)?;
+        let due = request.due(lent.len());
+        let changed = Columns::copy_of(&request.figures) != figures;
+        let fault = write_fault(&due, lent, &outcome)
+            .or_else(|| changed.then(|| format!("the figures were {figures:x?}")))
+            .or_else(|| self.reading_fault(&due));
+        let outcome = hold(outcome, fault, describe)?;
+        self.tally.writes.count(request, lent.len(), outcome.reply);
+        Ok(outcome)
+    }
+
+    /// What is wrong if a planner does not take a survey that was written. One that it takes is
+    /// refused by 9, since there is no room for its list.
+    fn reading_fault(&self, written: &Result<Vec<u8>, Refusal>) -> Option<String> {
+        let survey = written.as_ref().ok()?;
+        let mut replies = self
+            .planners
+            .iter()
+            .map(|planner| planner.list(survey, 0, &mut []));
+        let other = replies.find(|&reply| reply != Err(Refusal::whole(9)))?;
+        Some(format!("a list of the survey is replied to by {other:?}"))
     }
 
     /// What was compared so far.

@@ -5,6 +5,9 @@ use crate::rng::Rng;
 use crate::sums::LIMITS_AND_OUTSIDE;
 use peer::records::YARD_RECORDS;
 
+/// Costs that an absent ceiling must not have.
+pub const COSTS_NOT_0: [i16; 4] = [1, -1, 256, i16::MIN];
+
 /// A yard mark that no kind of yard record has.
 const UNKNOWN_MARK: [u8; 2] = [0x59, 0x46];
 
@@ -51,18 +54,18 @@ pub fn damaged(mut draft: Draft, rng: &mut Rng) -> Vec<u8> {
     bytes
 }
 
-/// All surveys with two damages to their fields, in either order.
-pub fn damaged_in_pairs(draft: &Draft, rng: &mut Rng) -> Vec<Vec<u8>> {
-    let mut surveys = Vec::new();
+/// All drafts with two damages to their fields, in either order.
+pub fn damaged_in_pairs(draft: &Draft, rng: &mut Rng) -> Vec<Draft> {
+    let mut drafts = Vec::new();
     for first in FIELD_DAMAGES {
         for second in FIELD_DAMAGES {
             let mut draft = draft.clone();
             first(&mut draft, rng);
             second(&mut draft, rng);
-            surveys.push(draft.bytes());
+            drafts.push(draft);
         }
     }
-    surveys
+    drafts
 }
 
 /// All parts of a survey or a list, from its start.
@@ -81,17 +84,17 @@ pub fn cuts_and_flips(whole: &[u8]) -> Vec<Vec<u8>> {
     cuts(whole).into_iter().chain(flips).collect()
 }
 
-/// All surveys that differ from one by a sum cost at a limit or outside, on any link.
-pub fn sums_at_limits(draft: &Draft) -> Vec<Vec<u8>> {
-    let mut surveys = Vec::new();
+/// All drafts that differ from one by a sum cost at a limit or outside, on any link.
+pub fn sums_at_limits(draft: &Draft) -> Vec<Draft> {
+    let mut drafts = Vec::new();
     for link in 0..draft.links.len() {
         for sum in LIMITS_AND_OUTSIDE {
             let mut draft = draft.clone();
             draft.links[link].sum = sum;
-            surveys.push(draft.bytes());
+            drafts.push(draft);
         }
     }
-    surveys
+    drafts
 }
 
 /// Changes a byte to any other.
@@ -164,7 +167,7 @@ fn sum(draft: &mut Draft, rng: &mut Rng) {
 }
 
 fn cost_of_any_ceiling(draft: &mut Draft, rng: &mut Rng) {
-    let (ceiling, cost) = (rng.below(2), rng.pick(&[1, -1, 256, i16::MIN]));
+    let (ceiling, cost) = (rng.below(2), rng.pick(&COSTS_NOT_0));
     if let Some(link) = any_link(draft, rng) {
         link.costs[ceiling] = cost;
     }

@@ -1,6 +1,7 @@
 //! A survey in the making: any field can hold any value, legal or not.
 
-use peer::records::{YardRecord, LINK_BYTES};
+use peer::records::{YardRecord, LINK_BYTES, LINK_MARK};
+use peer::Figures;
 use std::ops::Range;
 
 /// Where in a survey the sum cost of a link stands.
@@ -40,6 +41,25 @@ pub struct Draft {
 }
 
 impl Draft {
+    /// The survey that figures have with a yard record. An end that is not handed in is no
+    /// station, a cost is 0.
+    pub fn of(figures: &Figures, record: YardRecord) -> Draft {
+        let link = |(number, &sum): (usize, &i32)| LinkDraft {
+            mark: LINK_MARK,
+            ends: pair_at(number, figures.ends, u8::MAX),
+            sum,
+            costs: pair_at(number, figures.costs, 0),
+        };
+        Draft {
+            mark: record.mark,
+            stations: figures.stations,
+            ceilings: figures.ceilings,
+            ranks: figures.ranks,
+            count: record.count_at.map(|_| figures.sums.len() as u8),
+            links: figures.sums.iter().enumerate().map(link).collect(),
+        }
+    }
+
     /// The survey's bytes.
     pub fn bytes(&self) -> Vec<u8> {
         let mut bytes = self.mark.to_vec();
@@ -61,4 +81,10 @@ impl Draft {
         let present = self.links.len() as u8;
         self.count = self.count.map(|_| present);
     }
+}
+
+/// The two entries of a link in a column, or what stands for one that is not there.
+fn pair_at<T: Copy>(link: usize, column: &[T], missing: T) -> [T; 2] {
+    let entry = |at: usize| column.get(at).copied().unwrap_or(missing);
+    [entry(2 * link), entry(2 * link + 1)]
 }

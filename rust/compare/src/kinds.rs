@@ -2,6 +2,7 @@
 
 use crate::comparison::{Comparison, Difference};
 use crate::damage::{cuts, cuts_and_flips, damaged, damaged_in_pairs, sums_at_limits};
+use crate::draft::Draft;
 use crate::rng::Rng;
 use crate::round::{all_calls, few_calls};
 use crate::yards::Layout::{self, Any, Connected, Disconnected};
@@ -98,8 +99,8 @@ impl Kind {
             Whole => vec![draft.bytes()],
             Random => vec![damaged(draft, rng)],
             Each => cuts_and_flips(&draft.bytes()),
-            EachSum => sums_at_limits(&draft),
-            EachPair => damaged_in_pairs(&draft, rng),
+            EachSum => bytes_of(&sums_at_limits(&draft)),
+            EachPair => bytes_of(&damaged_in_pairs(&draft, rng)),
             EachCut => cuts(&draft.bytes()),
         }
     }
@@ -118,6 +119,10 @@ impl Kind {
             }
         }
     }
+}
+
+fn bytes_of(drafts: &[Draft]) -> Vec<Vec<u8>> {
+    drafts.iter().map(Draft::bytes).collect()
 }
 
 /// Yards small enough to list all trees.

@@ -1,4 +1,4 @@
-//! Holds two planners against each other: generated surveys and lists, calls, comparison.
+//! Holds two planners against each other: generated surveys, lists and figures, calls, comparison.
 //!
 //! `cargo test --release` compares the proved planner with the independent one and prints how
 //! much was compared; `cargo run --release --bin bench` times both.
@@ -6,10 +6,14 @@
 #![forbid(unsafe_code)]
 
 pub mod by_listing;
+pub mod columns;
 pub mod comparison;
 pub mod damage;
 pub mod draft;
 pub mod fetching;
+pub mod figure_damage;
+pub mod figure_kinds;
+pub mod figure_reasons;
 pub mod index_damage;
 pub mod index_rules;
 pub mod index_tally;
@@ -24,6 +28,10 @@ pub mod planner;
 pub mod records;
 pub mod rng;
 pub mod round;
+pub mod round_trip;
 pub mod sums;
 pub mod tally;
+pub mod write_rules;
+pub mod write_tally;
+pub mod writing;
 pub mod yards;

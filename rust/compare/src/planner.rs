@@ -1,6 +1,6 @@
 //! The planners behind one interface.
 
-use peer::{Costs, Refusal};
+use peer::{Costs, Figures, Refusal};
 
 /// The calls. Where a planner does not say otherwise, they are the independent planner's.
 pub trait Planner {
@@ -32,6 +32,11 @@ pub trait Planner {
     /// The cheapest plan whose first ceiling cost is at most a value.
     fn index_lookup(&self, list: &[u8], index: &[u8], value: i16) -> Result<u16, Refusal> {
         peer::index_lookup(list, index, value)
+    }
+
+    /// The survey of figures, with a yard record of some kind.
+    fn write_survey(&self, kind: u32, figures: &Figures, survey: &mut [u8]) -> Result<(), Refusal> {
+        peer::write_survey(kind, figures, survey)
     }
 }
 
@@ -67,6 +72,26 @@ impl Planner for Archive {
 
     fn index_lookup(&self, list: &[u8], index: &[u8], value: i16) -> Result<u16, Refusal> {
         ranqustei::index_lookup(list, index, value).map_err(refusal)
+    }
+
+    fn write_survey(&self, kind: u32, figures: &Figures, survey: &mut [u8]) -> Result<(), Refusal> {
+        let &Figures {
+            stations,
+            ceilings,
+            ranks,
+            ends,
+            sums,
+            costs,
+        } = figures;
+        let figures = ranqustei::Figures {
+            stations,
+            ceilings,
+            ranks,
+            ends,
+            sums,
+            costs,
+        };
+        ranqustei::write_survey(kind, &figures, survey).map_err(refusal)
     }
 }
 

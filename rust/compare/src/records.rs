@@ -13,6 +13,11 @@ pub fn marks() -> [String; YARD_RECORDS.len()] {
     })
 }
 
+/// The number that asks for a yard record: its mark, first byte high.
+pub fn kind_of(record: YardRecord) -> u32 {
+    u16::from_be_bytes(record.mark).into()
+}
+
 /// How much was compared, by yard records.
 #[derive(Clone, Copy, Default)]
 pub struct RecordTally {

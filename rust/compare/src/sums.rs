@@ -47,16 +47,28 @@ pub struct SumTally {
     pub refused: [Refused; OUTSIDE.len()],
 }
 
-/// The surveys that were refused for one sum cost.
+/// What was refused for one cause on a link, such as a sum cost.
 #[derive(Clone, Copy, Default)]
 pub struct Refused {
-    /// How many.
-    pub surveys: u64,
+    /// How often.
+    pub count: u64,
     /// The links that had it.
     pub links: LinkSet,
 }
 
 impl Refused {
+    /// Counts a refusal at a link.
+    pub fn count_at(&mut self, link: u8) {
+        self.count += 1;
+        self.links = self.links.with(link);
+    }
+
+    /// Adds what was refused elsewhere for the same cause.
+    pub fn add(&mut self, other: &Refused) {
+        self.count += other.count;
+        self.links = self.links.or(other.links);
+    }
+
     /// On how many links it was refused.
     pub fn places(&self) -> usize {
         self.links.links().count()
@@ -87,8 +99,7 @@ impl SumTally {
         };
         for (refused, sum) in self.refused.iter_mut().zip(OUTSIDE) {
             if survey[sum_bytes(survey, link.into())] == sum.to_le_bytes() {
-                refused.surveys += 1;
-                refused.links = refused.links.with(link);
+                refused.count_at(link);
             }
         }
     }
@@ -107,9 +118,8 @@ impl SumTally {
         for (count, more) in self.sorts.iter_mut().zip(other.sorts) {
             *count += more;
         }
-        for (refused, more) in self.refused.iter_mut().zip(other.refused) {
-            refused.surveys += more.surveys;
-            refused.links = refused.links.or(more.links);
+        for (refused, more) in self.refused.iter_mut().zip(&other.refused) {
+            refused.add(more);
         }
     }
 }

@@ -4,6 +4,7 @@ use crate::index_tally::IndexTally;
 use crate::listed::Listed;
 use crate::records::RecordTally;
 use crate::sums::SumTally;
+use crate::write_tally::WriteTally;
 
 /// The calls.
 #[derive(Clone, Copy)]
@@ -20,27 +21,30 @@ pub enum Call {
     Index,
     /// The cheapest plan under a value, by the index.
     Lookup,
+    /// The survey of figures.
+    Write,
 }
 
 /// The numbers that are replied end here; 0 is success.
-pub const NUMBERS: usize = 17;
+pub const NUMBERS: usize = 18;
 
 /// The name of each call in reports, and the numbers that it replies with, in the order of `Call`.
-pub const CALLS: [(&str, &[usize]); 6] = [
+pub const CALLS: [(&str, &[usize]); 7] = [
     ("judge", &[0, 1, 2, 3, 4, 5, 6, 7, 8, 11, 15]),
     ("best", &[0, 1, 2, 3, 4, 5, 6, 7, 8, 9, 14, 15]),
     ("list", &[0, 1, 2, 3, 4, 5, 6, 7, 8, 9, 10, 15]),
     ("fetch", &[0, 12, 13]),
     ("index", &[0, 12, 16]),
     ("lookup", &[0, 12, 13, 16]),
+    ("write", &[0, 2, 3, 4, 5, 6, 7, 8, 17]),
 ];
 
 /// How much was compared.
 #[derive(Clone, Copy, Default)]
 pub struct Tally {
-    /// Surveys, or hand-made lists.
+    /// Surveys, hand-made lists, or figures.
     pub samples: u64,
-    /// Surveys that are legal.
+    /// Surveys or figures that are legal.
     pub legal: u64,
     /// How often each call replied with each number, made on both planners.
     pub replies: [[u64; NUMBERS]; CALLS.len()],
@@ -54,6 +58,8 @@ pub struct Tally {
     pub records: RecordTally,
     /// Which plan lists were indexed.
     pub indexes: IndexTally,
+    /// Which figures were written.
+    pub writes: WriteTally,
 }
 
 impl Tally {
@@ -78,6 +84,7 @@ impl Tally {
         self.sums.add(&other.sums);
         self.records.add(&other.records);
         self.indexes.add(&other.indexes);
+        self.writes.add(&other.writes);
         let replies = self.replies.as_flattened_mut().iter_mut();
         for (count, more) in replies.zip(other.replies.as_flattened()) {
             *count += more;

@@ -71,7 +71,7 @@ const HIGHEST: i64 = sums::HIGHEST as i64;
 const EXTREMES: [i64; 7] = [LOWEST, LOWEST + 1, -1, 0, 1, HIGHEST - 1, HIGHEST];
 
 /// The ranks that a yard may have where they are not above t.
-const RANKS: [[u8; 2]; 10] = [
+pub const RANKS: [[u8; 2]; 10] = [
     [0, 0],
     [1, 0],
     [2, 0],

@@ -17,6 +17,7 @@ pub mod records;
 mod reply;
 pub mod survey;
 pub mod walk;
+mod writing;
 
 use kruskal::{Groups, Solver};
 use link_set::LinkSet;
@@ -26,6 +27,7 @@ pub use plan_list::fetch;
 pub use reply::{Costs, Refusal};
 use survey::Yard;
 use walk::{Positions, Walk};
+pub use writing::{write_survey, Figures};
 
 /// The costs of a drawn tree.
 pub fn judge(survey: &[u8], drawn: &[u8]) -> Result<Costs, Refusal> {

@@ -42,6 +42,12 @@ impl YardRecord {
         known.unwrap_or(PLAIN)
     }
 
+    /// The kind that is named by its mark, read as a number with the first byte high.
+    pub fn named(mark: u32) -> Option<YardRecord> {
+        let mut kinds = YARD_RECORDS.into_iter();
+        kinds.find(|kind| u32::from(u16::from_be_bytes(kind.mark)) == mark)
+    }
+
     /// The link count that is written in a record of this kind, if it has one.
     pub fn written_count(&self, record: &[u8]) -> Option<usize> {
         self.count_at.map(|at| record[at].into())

@@ -3,7 +3,7 @@
 /// Why a call declined: its number, and the place where the number has one.
 #[derive(Clone, Copy, PartialEq, Eq, Debug)]
 pub struct Refusal {
-    /// The number of the cause, 1 to 16.
+    /// The number of the cause, 1 to 17.
     pub number: u8,
     /// 0 for the yard record, link number plus 1 for a link.
     pub place: u8,
@@ -13,6 +13,14 @@ impl Refusal {
     /// A refusal at place 0.
     pub const fn whole(number: u8) -> Refusal {
         Refusal { number, place: 0 }
+    }
+
+    /// A refusal at a link.
+    pub const fn at_link(link: u8, number: u8) -> Refusal {
+        Refusal {
+            number,
+            place: link + 1,
+        }
     }
 }
 

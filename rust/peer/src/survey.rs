@@ -15,6 +15,40 @@ pub const MAX_EXCEPTIONS: usize = 2;
 /// The greatest rank of a ceiling.
 pub const MAX_RANK: usize = MAX_EXCEPTIONS + 1;
 
+/// The figures that every yard record has.
+#[derive(Clone, Copy, Debug)]
+pub(crate) struct Head {
+    /// How many stations there are.
+    pub stations: usize,
+    /// How many ceilings are present.
+    pub ceilings: usize,
+    /// The rank of each ceiling; 0 where it is absent.
+    pub ranks: [usize; 2],
+}
+
+impl Head {
+    /// Gives the number of the first refusal, if these figures are illegal, or the links are too
+    /// many or not as many as written.
+    pub fn check(&self, link_count: usize, written_count: Option<usize>) -> Result<(), u8> {
+        if !(1..=MAX_STATIONS).contains(&self.stations) {
+            return Err(3);
+        }
+        if link_count > MAX_LINKS {
+            return Err(4);
+        }
+        if written_count.is_some_and(|written| written != link_count) {
+            return Err(15);
+        }
+        if self.ceilings > 2 {
+            return Err(5);
+        }
+        if !ranks_are_legal(self.ceilings, self.ranks, self.stations - 1) {
+            return Err(6);
+        }
+        Ok(())
+    }
+}
+
 /// A link of the survey.
 #[derive(Clone, Copy, Debug, Default)]
 pub struct Link {
@@ -56,10 +90,7 @@ impl Yard {
         for (number, record) in records.iter().enumerate() {
             yard.links[number] = yard
                 .read_link(number as u8, record)
-                .map_err(|cause| Refusal {
-                    number: cause,
-                    place: number as u8 + 1,
-                })?;
+                .map_err(|cause| Refusal::at_link(number as u8, cause))?;
         }
         Ok(yard)
     }
@@ -76,32 +107,21 @@ impl Yard {
 
     /// The yard without its links, out of a record of the kind's length, or the number of the
     /// refusal.
-    fn read_head(kind: YardRecord, head: &[u8], link_count: usize) -> Result<Yard, u8> {
-        let [stations, ceilings, k1, k2] = [2, 3, 4, 5].map(|at| head[at]);
-        let ranks = [k1, k2].map(usize::from);
-        let written_count = kind.written_count(head);
-        if !head.starts_with(&kind.mark) {
+    fn read_head(kind: YardRecord, record: &[u8], link_count: usize) -> Result<Yard, u8> {
+        if !record.starts_with(&kind.mark) {
             return Err(2);
         }
-        if !(1..=MAX_STATIONS).contains(&usize::from(stations)) {
-            return Err(3);
-        }
-        if link_count > MAX_LINKS {
-            return Err(4);
-        }
-        if written_count.is_some_and(|written| written != link_count) {
-            return Err(15);
-        }
-        if ceilings > 2 {
-            return Err(5);
-        }
-        if !ranks_are_legal(ceilings.into(), ranks, usize::from(stations) - 1) {
-            return Err(6);
-        }
+        let [stations, ceilings, k1, k2] = [2, 3, 4, 5].map(|at| record[at].into());
+        let head = Head {
+            stations,
+            ceilings,
+            ranks: [k1, k2],
+        };
+        head.check(link_count, kind.written_count(record))?;
         Ok(Yard {
-            stations: stations.into(),
-            ceilings: ceilings.into(),
-            ranks,
+            stations,
+            ceilings,
+            ranks: head.ranks,
             links: [Link::default(); MAX_LINKS],
             link_count,
         })
@@ -115,12 +135,7 @@ impl Yard {
         if [mark0, mark1] != LINK_MARK {
             return Err(2);
         }
-        if usize::from(a.max(b)) >= self.stations || a == b {
-            return Err(7);
-        }
-        if !SUMS.contains(&sum) || costs[self.ceilings..].iter().any(|&cost| cost != 0) {
-            return Err(8);
-        }
+        check_link(self.stations, self.ceilings, [a, b], sum, costs)?;
         Ok(Link {
             number,
             ends: [a, b],
@@ -137,4 +152,23 @@ fn ranks_are_legal(ceilings: usize, ranks: [usize; 2], tree_len: usize) -> bool 
     absent.iter().all(|&rank| rank == 0)
         && present.iter().all(|rank| (1..=tree_len).contains(rank))
         && present.iter().map(|rank| rank - 1).sum::<usize>() <= MAX_EXCEPTIONS
+}
+
+/// Gives the number of the first refusal, if a link is illegal in a yard of that many stations and
+/// ceilings.
+pub(crate) fn check_link(
+    stations: usize,
+    ceilings: usize,
+    [a, b]: [u8; 2],
+    sum: i32,
+    costs: [i16; 2],
+) -> Result<(), u8> {
+    if usize::from(a.max(b)) >= stations || a == b {
+        return Err(7);
+    }
+    let zero_if_absent = |(i, &cost)| i < ceilings || cost == 0;
+    if !SUMS.contains(&sum) || !costs.iter().enumerate().all(zero_if_absent) {
+        return Err(8);
+    }
+    Ok(())
 }

@@ -5,10 +5,24 @@
 #![allow(unsafe_code)]
 
 /// The version of what is declared here; [`ranqustei_version`] is the archive's own.
-pub const VERSION: u32 = 4;
+pub const VERSION: u32 = 5;
 
-/// The reply of the list call and of the index call: number 0 and place 0, or the refusal and its
-/// place.
+/// The figures of a yard record.
+#[repr(C)]
+#[derive(Clone, Copy, PartialEq, Eq, Debug)]
+pub struct Yard {
+    /// The stations.
+    pub n: u8,
+    /// The ceilings.
+    pub p: u8,
+    /// The rank of the first ceiling.
+    pub k1: u8,
+    /// The rank of the second ceiling.
+    pub k2: u8,
+}
+
+/// The reply of the list call, of the index call and of writing: number 0 and place 0, or the
+/// refusal and its place.
 #[repr(C)]
 #[derive(Clone, Copy, PartialEq, Eq, Debug)]
 pub struct Status {
@@ -129,4 +143,22 @@ unsafe extern "C" {
         index_length: usize,
         value: i16,
     ) -> Found;
+
+    /// The survey of a yard and its links.
+    ///
+    /// # Safety
+    /// Each pointer is aligned and points to as many entries as its length says; `survey` overlaps
+    /// nothing else.
+    pub unsafe fn ranqustei_write_survey(
+        kind: u32,
+        yard: Yard,
+        ends: *const u8,
+        ends_length: usize,
+        sums: *const i32,
+        sums_length: usize,
+        costs: *const i16,
+        costs_length: usize,
+        survey: *mut u8,
+        survey_length: usize,
+    ) -> Status;
 }

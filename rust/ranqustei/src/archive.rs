@@ -1,10 +1,10 @@
 //! The calls of the proved archive on slices: the only unsafe code of this crate.
 
 use crate::refusal::{Refusal, DAMAGED};
-use crate::Costs;
+use crate::{Costs, Figures};
 use ranqustei_sys::{
     ranqustei_best, ranqustei_fetch, ranqustei_index, ranqustei_index_lookup, ranqustei_judge,
-    ranqustei_list, Reply,
+    ranqustei_list, ranqustei_write_survey, Reply, Yard,
 };
 
 /// Nothing for number 0, else the refusal.
@@ -130,4 +130,45 @@ pub fn index_lookup(list: &[u8], index: &[u8], value: i16) -> Result<u16, Refusa
     };
     settle(found.number, found.place)?;
     Ok(found.plan)
+}
+
+/// Writes the survey of the figures into the front of `survey`, with the yard record of this kind:
+/// [`YardRecord::kind`](crate::YardRecord::kind). The bytes after it stay. 487 bytes are always
+/// enough.
+///
+/// # Errors
+/// 2 if the kind is that of no yard record; 3 to 8 for the figures, as a survey of them would be
+/// declined; 17 if `survey` has no room for the survey. `survey` then stays as it was.
+pub fn write_survey(kind: u32, figures: &Figures, survey: &mut [u8]) -> Result<(), Refusal> {
+    let Figures {
+        stations,
+        ceilings,
+        ranks: [k1, k2],
+        ends,
+        sums,
+        costs,
+    } = *figures;
+    let yard = Yard {
+        n: stations,
+        p: ceilings,
+        k1,
+        k2,
+    };
+    // SAFETY: each pointer is that of a live slice and goes with its length. `survey` is borrowed
+    // for writing, so that it overlaps none of the others.
+    let status = unsafe {
+        ranqustei_write_survey(
+            kind,
+            yard,
+            ends.as_ptr(),
+            ends.len(),
+            sums.as_ptr(),
+            sums.len(),
+            costs.as_ptr(),
+            costs.len(),
+            survey.as_mut_ptr(),
+            survey.len(),
+        )
+    };
+    settle(status.number, status.place)
 }

@@ -1,8 +1,9 @@
 //! The planner of the radio links of bee yards, for Rust callers.
 //!
 //! The planner itself is proved and comes as an archive. [`judge`], [`best`], [`list`], [`fetch`],
-//! [`index`] and [`index_lookup`] are its calls on bytes: they allocate nothing and take any bytes.
-//! [`Yard`], [`Survey`], [`Plan`], [`PlanList`] and [`PlanIndex`] are the same calls on figures.
+//! [`index`], [`index_lookup`] and [`write_survey`] are its calls on slices: they allocate nothing
+//! and take any bytes and figures. [`Yard`], [`Survey`], [`Plan`], [`PlanList`] and [`PlanIndex`]
+//! are the same calls on values.
 //!
 //! A yard has stations and links between them. A plan is a tree: it connects all stations without
 //! a ring. Its sum is taken over its links, of which some may give charge back and count below 0;
@@ -69,6 +70,7 @@
 
 #[allow(unsafe_code)]
 mod archive;
+mod figures;
 mod plan;
 mod plan_index;
 mod plan_list;
@@ -77,7 +79,8 @@ mod refusal;
 mod survey;
 mod yard;
 
-pub use archive::{best, fetch, index, index_lookup, judge, list};
+pub use archive::{best, fetch, index, index_lookup, judge, list, write_survey};
+pub use figures::Figures;
 pub use plan::{Costs, Plan};
 pub use plan_index::PlanIndex;
 pub use plan_list::PlanList;

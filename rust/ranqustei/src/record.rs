@@ -31,29 +31,31 @@ pub enum YardRecord {
 /// Every yard record.
 const RECORDS: [YardRecord; 2] = [YardRecord::Plain, YardRecord::Counted];
 
-/// How a yard record is laid out: a mark, the fields that every yard record has, the link count.
+/// How a yard record is laid out.
 pub(crate) struct Layout {
     /// Its first two bytes.
-    pub(crate) mark: [u8; 2],
+    mark: [u8; 2],
     /// Its bytes in all; the links follow.
     pub(crate) len: usize,
-    /// Whether it has the link count.
-    pub(crate) has_count: bool,
 }
 
 impl YardRecord {
+    /// Its kind, as [`write_survey`](crate::write_survey) takes it: the mark as a number, the first
+    /// byte high.
+    pub fn kind(self) -> u32 {
+        u16::from_be_bytes(self.layout().mark).into()
+    }
+
     /// How it is laid out.
     pub(crate) fn layout(self) -> Layout {
         match self {
             YardRecord::Plain => Layout {
                 mark: *b"YD",
                 len: 6,
-                has_count: false,
             },
             YardRecord::Counted => Layout {
                 mark: *b"YE",
                 len: 7,
-                has_count: true,
             },
         }
     }
@@ -66,9 +68,6 @@ impl YardRecord {
         named.unwrap_or(YardRecord::Plain)
     }
 }
-
-/// The mark of a link record.
-pub(crate) const LINK_MARK: [u8; 2] = *b"LK";
 
 /// The bytes of a link record.
 pub(crate) const LINK_LEN: usize = 12;

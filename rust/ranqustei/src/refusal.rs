@@ -7,7 +7,7 @@ use std::fmt;
 #[derive(Clone, Copy, PartialEq, Eq, Debug)]
 #[non_exhaustive]
 pub struct Refusal {
-    /// The number of the cause, 1 to 16.
+    /// The number of the cause, 1 to 17.
     pub number: u8,
     /// 0 for the yard record or no record, else the link number plus 1.
     pub place: u8,
@@ -25,7 +25,8 @@ pub(crate) const DAMAGED: Refusal = Refusal {
 pub enum Cause {
     /// 1: the survey is not a yard record and whole link records.
     Length,
-    /// 2: the yard or a link record does not open with its mark.
+    /// 2: the yard or a link record has a wrong mark, or the kind to be written is that of no yard
+    /// record.
     Mark,
     /// 3: the stations are not 1 to 24.
     Stations,
@@ -55,6 +56,8 @@ pub enum Cause {
     LinkCount,
     /// 16: the index has fewer than 2 bytes for each plan.
     Index,
+    /// 17: the output has no room for the survey.
+    Output,
     /// A number that the planner never gives.
     Unknown(u8),
 }
@@ -79,6 +82,7 @@ impl Refusal {
             14 => Cause::NoTree,
             15 => Cause::LinkCount,
             16 => Cause::Index,
+            17 => Cause::Output,
             number => Cause::Unknown(number),
         }
     }
@@ -96,7 +100,7 @@ impl Cause {
             Cause::Length => {
                 "a survey is 6 bytes, or 7 with a link count, and then 12 bytes for each link"
             }
-            Cause::Mark => "does not open with its mark",
+            Cause::Mark => "has a wrong mark",
             Cause::Stations => "a yard has 1 to 24 stations",
             Cause::Links => "a yard has at most 40 links",
             Cause::Ceilings => "a yard has at most 2 ceilings",
@@ -122,6 +126,7 @@ impl Cause {
                 "the survey has more or fewer links than its yard record counts: it may be cut off"
             }
             Cause::Index => "the index has fewer than 2 bytes for each plan",
+            Cause::Output => "the output has no room for the survey",
             Cause::Unknown(_) => "refused for an unknown cause",
         }
     }
@@ -152,7 +157,7 @@ mod tests {
 
     #[test]
     fn numbers_that_the_planner_never_gives() {
-        for number in [0, 17, 255] {
+        for number in [0, 18, 255] {
             let refusal = Refusal { number, place: 2 };
             assert_eq!(refusal.cause(), Cause::Unknown(number));
             assert_eq!(

@@ -21,10 +21,15 @@ impl Survey {
         // nothing is wrong with the survey.
         match list(&bytes, 0, &mut []) {
             Err(refusal) if refusal.cause() != Cause::Buffer => Err(refusal),
-            _ => Ok(Survey {
-                yard: Yard::read(&bytes),
-                bytes,
-            }),
+            _ => Ok(Survey::accepted(bytes)),
+        }
+    }
+
+    /// The survey of bytes that the planner accepts.
+    pub(crate) fn accepted(bytes: Vec<u8>) -> Survey {
+        Survey {
+            yard: Yard::read(&bytes),
+            bytes,
         }
     }
 

@@ -1,7 +1,7 @@
 //! A yard in figures, and its survey bytes.
 
-use crate::record::{part, Layout, LINK_LEN, LINK_MARK};
-use crate::{Refusal, Survey, YardRecord};
+use crate::record::{part, LINK_LEN};
+use crate::{write_survey, Figures, Refusal, Survey, YardRecord};
 use std::error::Error;
 use std::fmt;
 
@@ -94,13 +94,46 @@ impl Yard {
         self.survey_with(YardRecord::Counted)
     }
 
-    /// The yard's survey with the yard record that is asked for.
+    /// The yard's survey with the yard record that is asked for. The yard of a survey, with the
+    /// record of that survey, has its bytes.
+    ///
+    /// ```
+    /// use ranqustei::{Survey, YardRecord};
+    ///
+    /// let bytes = b"YD\x02\x00\x00\x00LK\x00\x01\x05\x00\x00\x00\x00\x00\x00\x00";
+    /// let survey = Survey::new(bytes.to_vec())?;
+    /// assert_eq!(survey.record(), YardRecord::Plain);
+    /// let mut yard = survey.yard().clone();
+    /// assert_eq!(yard.survey_with(survey.record())?.as_bytes(), bytes);
+    ///
+    /// // A station more, and a link to it.
+    /// yard.stations += 1;
+    /// yard.links.push(ranqustei::Link::new([1, 2], 4, []));
+    /// assert_eq!(yard.survey_with(survey.record())?.as_bytes().len(), 30);
+    /// # Ok::<(), Box<dyn std::error::Error>>(())
+    /// ```
     ///
     /// # Errors
     /// As for [`Yard::survey`].
     pub fn survey_with(&self, record: YardRecord) -> Result<Survey, YardError> {
-        let bytes = self.bytes(record.layout())?;
-        Survey::new(bytes).map_err(YardError::Refused)
+        let ranks = padded(&self.ranks).ok_or(YardError::Ceilings {
+            found: self.ranks.len(),
+        })?;
+        let ends: Vec<[u8; 2]> = self.links.iter().map(|link| link.ends).collect();
+        let sums: Vec<i32> = self.links.iter().map(|link| link.sum).collect();
+        let costs = self.costs()?;
+        let figures = Figures {
+            stations: self.stations,
+            ceilings: self.ranks.len() as u8,
+            ranks,
+            ends: ends.as_flattened(),
+            sums: &sums,
+            costs: costs.as_flattened(),
+        };
+        let mut bytes = vec![0; record.layout().len + LINK_LEN * self.links.len()];
+        write_survey(record.kind(), &figures, &mut bytes).map_err(YardError::Refused)?;
+        // The planner accepts what it writes.
+        Ok(Survey::accepted(bytes))
     }
 
     /// The number t of links of a tree.
@@ -108,28 +141,11 @@ impl Yard {
         usize::from(self.stations).saturating_sub(1)
     }
 
-    fn bytes(&self, layout: Layout) -> Result<Vec<u8>, YardError> {
-        let [k1, k2] = padded(&self.ranks).ok_or(YardError::Ceilings {
-            found: self.ranks.len(),
-        })?;
-        let ceilings = self.ranks.len() as u8;
-        let mut bytes = Vec::with_capacity(layout.len + LINK_LEN * self.links.len());
-        bytes.extend(layout.mark);
-        bytes.extend([self.stations, ceilings, k1, k2]);
-        if layout.has_count {
-            // The low byte of a count that needs more: so many links are declined as too many,
-            // whatever stands here.
-            bytes.push(self.links.len() as u8);
-        }
-        for (number, link) in self.links.iter().enumerate() {
-            let [c1, c2] = self.link_costs(number, link)?;
-            bytes.extend(LINK_MARK);
-            bytes.extend(link.ends);
-            bytes.extend(link.sum.to_le_bytes());
-            bytes.extend(c1.to_le_bytes());
-            bytes.extend(c2.to_le_bytes());
-        }
-        Ok(bytes)
+    /// The costs of each link for both ceilings.
+    fn costs(&self) -> Result<Vec<[i16; 2]>, YardError> {
+        let links = self.links.iter().enumerate();
+        let costs = links.map(|(number, link)| self.link_costs(number, link));
+        costs.collect()
     }
 
     fn link_costs(&self, number: usize, link: &Link) -> Result<[i16; 2], YardError> {

@@ -27,24 +27,18 @@ or-refuse-if-requires c κs = search needs
 returns : tie.Need-returns
 unfolding linkFiguresChecked
 returns c =
-    let second = c .before .before in
+    let costs = c .before .before in
+    let second = costs .before in
     let first = second .before in
-    let c7 = first .before in
-    let start = c7 .before .before in
+    let ends = first .before in
+    let start = ends .before in
     let sum = toZ-ofZ w32 (start .args .sum) (start .fits .sum) in
     let c1 = toZ-ofZ w16 (start .args .c1) (start .fits .c1) in
     let c2 = toZ-ofZ w16 (start .args .c2) (start .fits .c2) in
-    rw (c .or-refuse-if .ensures, c .before .bad-costs .ensures, sum, second .bits162 .ensures, first .bits16 .ensures, c1, c2)
-    (rw (c7 .refuse-if .ensures, c7 .before .bad-ends .ensures))
+    rw (c .or-refuse-if .ensures, costs .bad-costs .ensures, sum, second .bits162 .ensures, first .bits16 .ensures, c1, c2)
+    (rw (c .before .refuse-if .ensures, ends .bad-ends .ensures))
 
 pub check-link-spec : {M : Type 1} → statement M
 check-link-spec =
     tie.close
-    (tie.spec
-    bad-ends-requires
-    refuse-if-requires
-    bits16-requires
-    bits16-requires-2
-    bad-costs-requires
-    or-refuse-if-requires
-    returns)
+    (tie.spec bad-ends-requires bits16-requires bits16-requires-2 bad-costs-requires refuse-if-requires or-refuse-if-requires returns)

@@ -1,5 +1,6 @@
 //! Hand-made plan lists, and the lists of surveys: the index calls on them.
 
+use crate::seeds::{over_seeds, Tallies};
 use compare::comparison::{Comparison, Difference};
 use compare::list_kinds::{ListKind, LIST_KINDS};
 use compare::planner::{Archive, Peer};
@@ -7,15 +8,13 @@ use compare::rng::Rng;
 use compare::tally::Tally;
 
 /// Compares on the hand-made lists of all seeds, or of one.
-pub fn compare_lists(seed: Option<u64>) -> Result<Vec<(&'static str, Tally)>, String> {
+pub fn compare_lists(seed: Option<u64>) -> Result<Tallies, String> {
     let mut tallies = Vec::new();
     for kind in &LIST_KINDS {
-        let mut tally = Tally::default();
-        let seeds = kind.first_seed..kind.first_seed + kind.seeds;
-        for seed in seeds.filter(|&each| seed.is_none_or(|seed| seed == each)) {
-            compare_seed(kind, seed, &mut tally)
-                .map_err(|difference| format!("DIFFERENCE, seed {seed}\n{difference}"))?;
-        }
+        let tally = over_seeds(kind.first_seed, kind.seeds, seed, |seed, tally| {
+            compare_seed(kind, seed, tally)
+                .map_err(|difference| format!("DIFFERENCE, seed {seed}\n{difference}"))
+        })?;
         tallies.push((kind.name, tally));
     }
     Ok(tallies)

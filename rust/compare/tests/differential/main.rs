@@ -1,11 +1,14 @@
 //! Holds the proved planner against the independent one, call by call and byte by byte.
 //!
-//! It runs all kinds of surveys and of hand-made lists, or with a seed as its argument those of
-//! that seed alone.
+//! It runs all kinds of surveys, of hand-made lists and of figures, or with a seed as its argument
+//! those of that seed alone.
 
+mod figures;
 mod lists;
 mod reached;
 mod report;
+mod seeds;
+mod write_report;
 
 use compare::by_listing::ByListing;
 use compare::comparison::{Comparison, Difference};
@@ -14,12 +17,16 @@ use compare::kinds::{Kind, KINDS};
 use compare::listed::is_listed;
 use compare::planner::{Archive, Peer};
 use compare::rng::Rng;
-use compare::tally::{Call, Tally};
+use compare::round_trip::round_trip;
+use compare::tally::Tally;
+use figures::compare_figures;
 use lists::{compare_lists, with_list};
 use peer::survey::Yard;
-use reached::{unreached, unreached_lists, unreached_numbers};
+use reached::{unreached, unreached_figures, unreached_lists, unreached_numbers};
 use report::{print_calls, print_indexes, print_listed, print_numbers, print_records, print_sums};
+use seeds::{over_seeds, total_of, Tallies};
 use std::process::ExitCode;
+use write_report::print_writes;
 
 fn main() -> ExitCode {
     let seed: Option<u64> = std::env::args().find_map(|argument| argument.parse().ok());
@@ -39,66 +46,76 @@ fn main() -> ExitCode {
 /// Compares on all seeds, or on one; gives what was not reached.
 fn compare_all(seed: Option<u64>) -> Result<Vec<String>, String> {
     let surveys = compare_surveys(seed)?;
-    let total = sum(&surveys, |_| true);
-    print_calls("surveys", Call::Judge, &named(&surveys), &total);
-    print_listed(&surveys, &total);
-    print_sums(&surveys, &total);
-    print_records(&surveys, &total);
-    let [legal, damaged] =
-        [true, false].map(|legal| sum(&surveys, |kind| kind.is_legal() == legal));
-    println!(
-        "\n{} surveys: {} made legal and {} made damaged, of which {} are legal all the same.\n",
-        total.samples, legal.samples, damaged.samples, damaged.legal
-    );
+    let total = total_of(&named(&surveys));
+    print_surveys(&surveys, &total);
     let lists = compare_lists(seed)?;
-    let mut by_hand = Tally::default();
-    lists.iter().for_each(|(_, tally)| by_hand.add(tally));
-    print_calls("lists", Call::Index, &lists, &by_hand);
+    let by_hand = total_of(&lists);
+    print_calls("lists", &lists, &by_hand);
     print_indexes(&total.indexes, &by_hand.indexes);
-    let mut all = total;
-    all.add(&by_hand);
+    let figures = compare_figures(seed)?;
+    let written = total_of(&figures);
+    print_calls("figures", &figures, &written);
+    print_writes(&written);
+    let all = total_of(&[("surveys", total), ("lists", by_hand), ("figures", written)]);
     print_numbers(&all);
     let mut missing = unreached(&surveys, &total);
     missing.extend(unreached_lists(&by_hand.indexes));
+    missing.extend(unreached_figures(&written));
     missing.extend(unreached_numbers(&all));
     Ok(missing)
+}
+
+/// The tables of the surveys.
+fn print_surveys(surveys: &[(&'static Kind, Tally)], total: &Tally) {
+    print_calls("surveys", &named(surveys), total);
+    print_listed(surveys, total);
+    print_sums(surveys, total);
+    print_records(surveys, total);
+    let [legal, damaged] = [true, false].map(|legal| {
+        let mut rows = surveys.to_vec();
+        rows.retain(|(kind, _)| kind.is_legal() == legal);
+        total_of(&named(&rows))
+    });
+    println!(
+        "\n{} surveys: {} made legal and {} made damaged, of which {} are legal all the same.",
+        total.samples, legal.samples, damaged.samples, damaged.legal
+    );
+    println!(
+        "{} legal surveys were written back with either yard record.",
+        total.writes.round_trips
+    );
 }
 
 /// Compares on the surveys of all seeds, or of one.
 fn compare_surveys(seed: Option<u64>) -> Result<Vec<(&'static Kind, Tally)>, String> {
     let mut tallies = Vec::new();
     for kind in &KINDS {
-        let mut tally = Tally::default();
-        let seeds = kind.first_seed..kind.first_seed + kind.seeds;
-        for seed in seeds.filter(|&each| seed.is_none_or(|seed| seed == each)) {
-            compare_seed(kind, seed, &mut tally)?;
-        }
+        let tally = over_seeds(kind.first_seed, kind.seeds, seed, |seed, tally| {
+            compare_seed(kind, seed, tally)
+        })?;
         tallies.push((kind, tally));
     }
     Ok(tallies)
 }
 
-fn sum(tallies: &[(&Kind, Tally)], chosen: impl Fn(&Kind) -> bool) -> Tally {
-    let mut sum = Tally::default();
-    let chosen = tallies.iter().filter(|(kind, _)| chosen(kind));
-    chosen.for_each(|(_, tally)| sum.add(tally));
-    sum
-}
-
-fn named(tallies: &[(&'static Kind, Tally)]) -> Vec<(&'static str, Tally)> {
+fn named(tallies: &[(&'static Kind, Tally)]) -> Tallies {
     let rows = tallies.iter();
     rows.map(|(kind, tally)| (kind.name, *tally)).collect()
 }
 
 /// Compares on the surveys of a seed; a difference is reported with all it takes to repeat it.
 fn compare_seed(kind: &Kind, seed: u64, tally: &mut Tally) -> Result<(), String> {
-    let mut rng = Rng::new(seed);
+    let [mut rng, mut filler] = [seed, !seed].map(Rng::new);
     for survey in kind.surveys(&mut rng) {
         let before = survey.clone();
         let report = |difference: String| {
             format!("DIFFERENCE, seed {seed}\nsurvey: {before:02x?}\n{difference}")
         };
         compare_survey(kind, &survey, &mut rng, tally)
+            .and_then(|()| {
+                let mut comparison = Comparison::new(&Archive, &Peer, tally);
+                round_trip(&mut comparison, &survey, &mut filler)
+            })
             .map_err(|difference| report(difference.to_string()))?;
         if survey != before {
             return Err(report(format!("the survey became {survey:02x?}")));

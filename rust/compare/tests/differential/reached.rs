@@ -1,12 +1,16 @@
-//! What the surveys and lists have to reach, so that agreement on them means something.
+//! What the surveys, lists and figures have to reach, so that agreement on them means something.
 
+use compare::figure_reasons::{LINK_REASONS, YARD_REASONS};
 use compare::index_damage::INDEX_DAMAGES;
 use compare::index_tally::{IndexTally, LIST_SORTS};
 use compare::kinds::Kind;
 use compare::list_damage::LIST_DAMAGES;
 use compare::records::marks;
 use compare::sums::{OUTSIDE, SORTS};
-use compare::tally::{Tally, CALLS};
+use compare::tally::{Call, Tally, CALLS};
+use compare::write_tally::{WriteTally, LENGTHS, UNKNOWN_KINDS, YARD_SORTS};
+use compare::yards::RANKS;
+use peer::survey::MAX_LINKS;
 
 /// What the surveys did not reach.
 pub fn unreached(tallies: &[(&Kind, Tally)], total: &Tally) -> Vec<String> {
@@ -29,6 +33,9 @@ pub fn unreached(tallies: &[(&Kind, Tally)], total: &Tally) -> Vec<String> {
     }
     if !total.records.is_cut_everywhere() {
         missing.push("40 links cut at every record end and refused by 15".to_string());
+    }
+    if total.writes.round_trips != total.legal {
+        missing.push("every legal survey written back".to_string());
     }
     missing
 }
@@ -67,10 +74,85 @@ pub fn unreached_lists(tally: &IndexTally) -> Vec<String> {
         ),
     ];
     let others = others.map(|(name, count)| (name.to_string(), count));
-    let all = sorts.chain(lists).chain(indexes).chain(others);
-    all.filter(|(_, count)| *count == 0)
-        .map(|(name, _)| name)
-        .collect()
+    lacking(sorts.chain(lists).chain(indexes).chain(others))
+}
+
+/// The names of what was counted and is not there.
+fn lacking(counted: impl Iterator<Item = (String, u64)>) -> Vec<String> {
+    let lacking = counted.filter(|(_, count)| *count == 0);
+    lacking.map(|(name, _)| name).collect()
+}
+
+/// What the figures did not reach.
+pub fn unreached_figures(total: &Tally) -> Vec<String> {
+    let tally = &total.writes;
+    let sorts = YARD_SORTS.iter().zip(tally.sorts);
+    let sorts = sorts.map(|((name, _), count)| (format!("figures with {name}"), count));
+    let ranks = RANKS.iter().zip(tally.ranks);
+    let ranks = ranks.map(|(ranks, count)| (format!("figures with ranks {ranks:?}"), count));
+    let sums = SORTS.iter().zip(total.sums.sorts);
+    let sums = sums.map(|((name, _), count)| (format!("figures with sums {name}"), count));
+    let mut missing = lacking(sorts.chain(ranks).chain(sums));
+    if !tally.has_all_sizes() {
+        missing.push("figures with every number of stations and of links".to_string());
+    }
+    missing.extend(unreached_lengths(tally));
+    missing.extend(unreached_reasons(tally));
+    missing.extend(unreached_order(tally));
+    missing
+}
+
+/// The lengths of outputs and columns that did not have the reply that is due to them.
+fn unreached_lengths(tally: &WriteTally) -> Vec<String> {
+    let due = LENGTHS.iter().enumerate().flat_map(|(i, (name, length))| {
+        let is_short = length(MAX_LINKS) < MAX_LINKS;
+        let reply = usize::from(is_short);
+        let [plain, counted] = tally.outputs[i].map(|counts| counts[reply]);
+        [
+            ("an output for the plain record", plain),
+            ("an output for the counted record", counted),
+            ("ends", tally.ends[i][reply]),
+            ("costs", tally.costs[i]),
+        ]
+        .map(|(lent, count)| (format!("{lent}, {name}"), count))
+    });
+    lacking(due)
+}
+
+/// The reasons for which nothing was refused, or not on every link.
+fn unreached_reasons(tally: &WriteTally) -> Vec<String> {
+    let kinds = UNKNOWN_KINDS.iter().zip(tally.unknown);
+    let kinds = kinds.flat_map(|(kind, counts)| {
+        let [legal, illegal] = counts;
+        [("legal", legal), ("illegal", illegal)]
+            .map(|(figures, count)| (format!("kind {kind:X} for {figures} figures"), count))
+    });
+    let yards = YARD_REASONS.iter().zip(tally.yards);
+    let yards = yards.map(|((name, ..), count)| (format!("figures refused for {name}"), count));
+    let links = LINK_REASONS.iter().zip(&tally.links);
+    let links = links.map(|((name, ..), refused)| {
+        let name = format!("every link refused for {name}");
+        (name, refused.is_everywhere().into())
+    });
+    lacking(kinds.chain(yards).chain(links))
+}
+
+/// The pairs of numbers that had a reason both, of which none was replied to by the first.
+fn unreached_order(tally: &WriteTally) -> Vec<String> {
+    let (_, numbers) = CALLS[Call::Write as usize];
+    let refusals = numbers.iter().filter(|&&number| number > 0);
+    let pairs = refusals.clone().flat_map(|&first| {
+        let others = refusals.clone().filter(move |&&other| other > first);
+        others.map(move |&other| {
+            let name = format!("{first} where there is reason for {other}");
+            (name, tally.before[first][other])
+        })
+    });
+    let later = [[7, 7], [7, 8], [8, 7], [8, 8]].map(|[first, other]| {
+        let name = format!("{first} before {other} at a later link");
+        (name, tally.before_later[first][other])
+    });
+    lacking(pairs.chain(later))
 }
 
 /// The numbers that some call did not reply with, though it can.

@@ -6,18 +6,19 @@ use compare::kinds::Kind;
 use compare::list_damage::LIST_DAMAGES;
 use compare::records::marks;
 use compare::sums::{OUTSIDE, SORTS};
-use compare::tally::{Call, Tally, CALLS, NUMBERS};
+use compare::tally::{Tally, CALLS, NUMBERS};
 
-/// How often each call was made on each kind of surveys or lists, from one call on.
-pub fn print_calls(samples: &str, first: Call, tallies: &[(&str, Tally)], total: &Tally) {
-    let calls = &CALLS[first as usize..];
-    let names: Vec<&str> = calls.iter().map(|(name, _)| *name).collect();
-    let columns = names.join(" | ");
-    println!("| kind | {samples} | {columns} | bytes compared | differences |");
-    println!("|---|---|{}---|---|", "---|".repeat(names.len()));
+/// How often each call was made on each kind of samples, for the calls that were made on some.
+pub fn print_calls(samples: &str, tallies: &[(&str, Tally)], total: &Tally) {
+    let mut calls: Vec<usize> = (0..CALLS.len()).collect();
+    calls.retain(|&call| total.calls()[call] > 0);
+    let columns: Vec<&str> = calls.iter().map(|&call| CALLS[call].0).collect();
+    let columns = columns.join(" | ");
+    println!("\n| kind | {samples} | {columns} | bytes compared | differences |");
+    println!("|---|---|{}---|---|", "---|".repeat(calls.len()));
     for (name, tally) in tallies.iter().chain([&("all", *total)]) {
-        let counts = tally.calls().map(|count| count.to_string());
-        let counts = counts[first as usize..].join(" | ");
+        let counts = calls.iter().map(|&call| tally.calls()[call].to_string());
+        let counts = counts.collect::<Vec<_>>().join(" | ");
         let (samples, bytes) = (tally.samples, tally.bytes);
         println!("| {name} | {samples} | {counts} | {bytes} | 0 |");
     }
@@ -55,7 +56,7 @@ pub fn print_sums(tallies: &[(&Kind, Tally)], total: &Tally) {
     }
     println!("\n| sum refused | surveys | links that had it |\n|---|---|---|");
     for (sum, refused) in OUTSIDE.iter().zip(&total.sums.refused) {
-        println!("| {sum} | {} | {} |", refused.surveys, refused.places());
+        println!("| {sum} | {} | {} |", refused.count, refused.places());
     }
 }
 

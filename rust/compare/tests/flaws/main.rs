@@ -2,14 +2,18 @@
 //! that the proved planner is held to.
 
 mod any_yard;
+mod figures;
 mod indexes;
 mod link_counts;
 mod lookups;
+mod on_figures;
 mod on_lists;
 mod orders;
+mod outputs;
 mod reading;
 mod signed_sums;
 mod two_ranks;
+mod write_refusals;
 
 use any_yard::{
     AllSolved, ClearedTail, DifferentValues, KeptTail, LastTree, NoExceptions, NoPlace,
@@ -55,6 +59,18 @@ fn assert_noticed(
         assert!(is_noticed, "not noticed: {flaw}");
         let elsewhere = is_noticed_among(kinds, spared, *planner);
         assert!(!elsewhere, "noticed where it should not be: {flaw}");
+        println!("noticed: {flaw}");
+    }
+}
+
+/// Asserts that each flaw is noticed, beside the peer and where both planners have it.
+fn assert_each_noticed(
+    is_noticed: fn(&dyn Planner, &dyn Planner) -> bool,
+    flawed: &[(&str, impl Planner)],
+) {
+    for (flaw, planner) in flawed {
+        assert!(is_noticed(&Peer, planner), "not noticed: {flaw}");
+        assert!(is_noticed(planner, planner), "not noticed in both: {flaw}");
         println!("noticed: {flaw}");
     }
 }

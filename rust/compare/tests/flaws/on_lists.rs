@@ -3,7 +3,7 @@
 use crate::indexes::{Declining, Misreading, Touching, READINGS, REFUSALS, TOUCHES};
 use crate::lookups::{choice, is_index, Choosing, Testing, ValueFirst, CHOICES, TESTS};
 use crate::orders::{Ordering, ORDERS};
-use crate::SEEDS;
+use crate::{assert_each_noticed, SEEDS};
 use compare::comparison::Comparison;
 use compare::list_kinds::LIST_KINDS;
 use compare::planner::{Peer, Planner};
@@ -20,15 +20,6 @@ fn is_noticed(left: &dyn Planner, right: &dyn Planner) -> bool {
             kind.calls(&mut comparison, &list, &mut rng).is_err()
         })
     })
-}
-
-/// Asserts that each flaw is noticed, beside the peer and where both planners have it.
-fn assert_noticed(flawed: &[(&str, impl Planner)]) {
-    for (flaw, planner) in flawed {
-        assert!(is_noticed(&Peer, planner), "not noticed: {flaw}");
-        assert!(is_noticed(planner, planner), "not noticed in both: {flaw}");
-        println!("noticed: {flaw}");
-    }
 }
 
 #[test]
@@ -49,31 +40,31 @@ fn right_planners_are_not_noticed() {
 
 #[test]
 fn flawed_orders_are_noticed() {
-    assert_noticed(&ORDERS);
+    assert_each_noticed(is_noticed, &ORDERS);
 }
 
 #[test]
 fn flaws_of_the_buffer_are_noticed() {
-    assert_noticed(&TOUCHES);
+    assert_each_noticed(is_noticed, &TOUCHES);
 }
 
 #[test]
 fn flawed_refusals_are_noticed() {
-    assert_noticed(&REFUSALS);
-    assert_noticed(&[("13 before 12 for the index", ValueFirst)]);
+    assert_each_noticed(is_noticed, &REFUSALS);
+    assert_each_noticed(is_noticed, &[("13 before 12 for the index", ValueFirst)]);
 }
 
 #[test]
 fn flawed_readings_are_noticed() {
-    assert_noticed(&READINGS);
+    assert_each_noticed(is_noticed, &READINGS);
 }
 
 #[test]
 fn flawed_tests_of_an_index_are_noticed() {
-    assert_noticed(&TESTS);
+    assert_each_noticed(is_noticed, &TESTS);
 }
 
 #[test]
 fn flawed_choices_are_noticed() {
-    assert_noticed(&CHOICES);
+    assert_each_noticed(is_noticed, &CHOICES);
 }

@@ -1,7 +1,7 @@
 //! The counted yard record: a survey that is cut off is declined, wherever the cut is.
 
-use crate::samples::{bytes_a, bytes_of, chain, largest, told, yard, yard_a, RECORDS};
-use ranqustei::{best, judge, list, Survey, Yard, YardError, YardRecord};
+use crate::samples::{bytes_a, bytes_of, largest, told, yard, yards, RECORDS};
+use ranqustei::{best, judge, list, Survey, YardError, YardRecord};
 
 /// A plain survey with the counted record instead, and this count in it.
 fn counting(plain: &[u8], count: u8) -> Vec<u8> {
@@ -20,19 +20,6 @@ fn declined(survey: &[u8]) -> Option<(u8, u8)> {
     assert_eq!(refusals, [refusals[0]; 3]);
     assert!(tree.iter().chain(&buffer).all(|&byte| byte == 0xA5));
     refusals[0].map(told)
-}
-
-/// Accepted yards of every size.
-fn yards() -> [Yard; 7] {
-    [
-        yard(1, &[], &[]),
-        yard(2, &[], &[]),
-        yard(2, &[1], &[]),
-        yard_a(1),
-        yard_a(2),
-        chain(24, -5),
-        largest(),
-    ]
 }
 
 #[test]

@@ -1,8 +1,9 @@
 //! Every refusal number: its call, its place, its cause and its sentence.
 
-use crate::samples::{bytes_a, bytes_of, told, yard_a};
+use crate::samples::{bytes_a, bytes_of, figures_a, told, yard_a};
 use ranqustei::{
-    best, fetch, index, index_lookup, judge, list, Cause, Refusal, YardError, YardRecord,
+    best, fetch, index, index_lookup, judge, list, write_survey, Cause, Refusal, YardError,
+    YardRecord,
 };
 
 /// Holds a refusal against what document 01 and the sentences say.
@@ -53,7 +54,7 @@ fn yard_records() {
         2,
         0,
         Cause::Mark,
-        "the yard record does not open with its mark",
+        "the yard record has a wrong mark",
     );
     check(
         edited(2, 0),
@@ -103,13 +104,7 @@ fn link_counts() {
 
 #[test]
 fn link_records() {
-    check(
-        edited(19, 0),
-        2,
-        2,
-        Cause::Mark,
-        "link 1 does not open with its mark",
-    );
+    check(edited(19, 0), 2, 2, Cause::Mark, "link 1 has a wrong mark");
     let ends = "joins a station that the yard does not have, or joins a station to itself";
     check(edited(32, 3), 7, 3, Cause::Ends, &format!("link 2 {ends}"));
     check(edited(8, 1), 7, 1, Cause::Ends, &format!("link 0 {ends}"));
@@ -238,5 +233,24 @@ fn indexes() {
         0,
         Cause::PlanNumber,
         "the list has no such plan",
+    );
+}
+
+#[test]
+fn written_surveys() {
+    let write = |kind, room| write_survey(kind, &figures_a(), &mut vec![7; room]).err();
+    check(
+        write(YardRecord::Plain.kind(), 41),
+        17,
+        0,
+        Cause::Output,
+        "the output has no room for the survey",
+    );
+    check(
+        write(0x5946, 42),
+        2,
+        0,
+        Cause::Mark,
+        "the yard record has a wrong mark",
     );
 }

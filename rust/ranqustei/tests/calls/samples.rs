@@ -1,6 +1,6 @@
 //! Yards that several tests use.
 
-use ranqustei::{Link, Refusal, Yard, YardRecord};
+use ranqustei::{Figures, Link, Refusal, Yard, YardRecord};
 
 /// The yard records that a survey may have.
 pub const RECORDS: [YardRecord; 2] = [YardRecord::Plain, YardRecord::Counted];
@@ -20,6 +20,18 @@ pub fn yard_a(rank: u8) -> Yard {
         &[rank],
         &[(0, 1, 4, &[7]), (1, 2, 3, &[2]), (0, 2, 1, &[9])],
     )
+}
+
+/// The figures of survey A.
+pub fn figures_a() -> Figures<'static> {
+    Figures {
+        stations: 3,
+        ceilings: 1,
+        ranks: [1, 0],
+        ends: &[0, 1, 1, 2, 0, 2],
+        sums: &[4, 3, 1],
+        costs: &[7, 0, 2, 0, 9, 0],
+    }
 }
 
 /// The bytes of survey A, as document 01 has it.
@@ -50,6 +62,19 @@ pub fn largest() -> Yard {
         link.costs = vec![20 - number, i16::MIN + number];
     }
     yard
+}
+
+/// Accepted yards of every size.
+pub fn yards() -> [Yard; 7] {
+    [
+        yard(1, &[], &[]),
+        yard(2, &[], &[]),
+        yard(2, &[1], &[]),
+        yard_a(1),
+        yard_a(2),
+        chain(24, -5),
+        largest(),
+    ]
 }
 
 /// The bytes of a plan list of this t and p, whoever made it: each plan with its sum and both

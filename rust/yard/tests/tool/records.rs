@@ -41,6 +41,20 @@ fn a_survey_keeps_its_record_unless_another_is_asked_for() {
 }
 
 #[test]
+fn an_altered_yard_is_stored() {
+    for (record, example) in RECORDS {
+        let text = run(&["text", &repository(example)], "").expect("the example is accepted");
+        let altered = text.replace("1 2 3 2", "1 2 -7 2");
+        let written = run_bytes(&["survey", "-", "--record", record], altered);
+        // The sum of the last link but one.
+        let mut stored = bytes(example);
+        let sum = stored.len() - 20;
+        stored[sum..][..4].copy_from_slice(&[0xF9, 0xFF, 0xFF, 0xFF]);
+        assert_eq!(written, Ok(stored));
+    }
+}
+
+#[test]
 fn the_text_is_the_same_for_both_records() {
     let [plain, counted] = RECORDS.map(|(_, example)| run(&["text", &repository(example)], ""));
     assert!(plain.is_ok());

@@ -1,6 +1,6 @@
 //! The table of the index: building it, and lookups in it.
 
-use crate::timing::fastest;
+use crate::timing::{fastest, print_ratios};
 use compare::list_bytes::Plans;
 use compare::list_draft::ListDraft;
 use compare::rng::Rng;
@@ -22,6 +22,7 @@ pub fn print_table(lists: &[(String, Vec<u8>)]) {
     println!("lookup is the mean over values that are the y1 of plans.\n");
     println!("| list | plans | archive | peer | ratio | archive | peer | ratio |");
     println!("|---|---|---|---|---|---|---|---|");
+    let [mut build_ratios, mut lookup_ratios] = [const { Vec::new() }; 2];
     for (name, list) in lists {
         let plans = Plans::read(list).expect("the lists are whole");
         let mut index = vec![0; plans.index_bytes()];
@@ -33,7 +34,11 @@ pub fn print_table(lists: &[(String, Vec<u8>)]) {
              | {lookup:.2} | {peer_lookup:.2} | {lookup_ratio:.2} |",
             plans.costs.len()
         );
+        build_ratios.push(build_ratio);
+        lookup_ratios.push(lookup_ratio);
     }
+    print_ratios("a build", &build_ratios);
+    print_ratios("a lookup", &lookup_ratios);
 }
 
 /// The time of a build; the index is left in the buffer.

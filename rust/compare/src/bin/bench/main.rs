@@ -2,6 +2,7 @@
 
 mod index;
 mod timing;
+mod writing;
 
 use compare::kinds::{hard, large};
 use compare::list_bytes::{plan_count, solved_count, used_bytes};
@@ -12,7 +13,7 @@ use peer::records::COUNTED;
 use peer::survey::{Yard, MAX_LINKS};
 use peer::walk::Positions;
 use std::hint::black_box;
-use timing::{fastest, RUNS};
+use timing::{fastest, print_ratios, RUNS};
 
 /// Yards of a row.
 const YARDS: u64 = 6;
@@ -43,6 +44,7 @@ fn main() {
     compare_variant("Link counts", "counted", &yards().with_record(COUNTED));
     growth();
     compare_indexes();
+    writing::print_table();
 }
 
 /// The tables of the list call and the ceilings question.
@@ -63,6 +65,7 @@ fn compare_planners() {
         let (label, solved, ratio) = (&row.label, row.solved, archive / peer);
         println!("| {label} | {solved:.0} | {archive:.1} | {peer:.1} | {ratio:.2} |");
     }
+    print_ratios("a list call", &ratios(&rows, |row| row.list));
     println!("\n## The ceilings question\n");
     println!("| set | n | k | archive | peer | ratio |\n|---|---|---|---|---|---|");
     for row in &rows {
@@ -70,6 +73,13 @@ fn compare_planners() {
         let (label, ratio) = (&row.label, archive / peer);
         println!("| {label} | {archive:.2} | {peer:.2} | {ratio:.2} |");
     }
+    print_ratios("a question", &ratios(&rows, |row| row.best));
+}
+
+/// The ratios of rows in one of their calls.
+fn ratios(rows: &[Row], call: fn(&Row) -> [f64; 2]) -> Vec<f64> {
+    let times = rows.iter().map(call);
+    times.map(|[archive, peer]| archive / peer).collect()
 }
 
 /// The table of both calls on a variant of the hard set.

@@ -1,0 +1,2 @@
+-- costs of absent ceilings, one after the other
+pub mod Absent

@@ -1,0 +1,45 @@
+//! Surveys that are read, written and read again.
+
+use crate::columns::Columns;
+use crate::comparison::{Comparison, Difference};
+use crate::records::kind_of;
+use crate::rng::Rng;
+use crate::write_rules::Request;
+use peer::records::{YardRecord, YARD_RECORDS};
+use peer::survey::Yard;
+use std::fmt::Debug;
+
+/// Writes a survey back with either yard record, if it is legal: with its own it has its former
+/// bytes, and with any it reads back as the figures that it had.
+pub fn round_trip(c: &mut Comparison, survey: &[u8], rng: &mut Rng) -> Result<(), Difference> {
+    let Ok(yard) = Yard::read(survey) else {
+        return Ok(());
+    };
+    let columns = Columns::of_yard(&yard);
+    for record in YARD_RECORDS {
+        let request = Request {
+            kind: kind_of(record),
+            figures: columns.figures(),
+        };
+        let need = request.need();
+        let spare = rng.below(3);
+        let output = c.write_survey(&request, &rng.bytes(need + spare))?.bytes;
+        let written = &output[..need];
+        if record == YardRecord::of(survey) && written != survey {
+            return Err(altered(survey, written));
+        }
+        let read_again = Yard::read(written).map(|yard| Columns::of_yard(&yard));
+        if read_again.as_ref() != Ok(&columns) {
+            return Err(altered(&columns, read_again));
+        }
+    }
+    c.tally().writes.round_trips += 1;
+    Ok(())
+}
+
+fn altered(before: impl Debug, after: impl Debug) -> Difference {
+    Difference {
+        call: "read and write".into(),
+        replies: [format!("{before:x?}"), format!("{after:x?}")],
+    }
+}

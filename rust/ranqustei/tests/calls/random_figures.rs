@@ -1,0 +1,122 @@
+//! Random figures: they are written if and only if a survey of them is accepted.
+
+use crate::random::Random;
+use crate::samples::told;
+use crate::writing::{encoded, written, KINDS};
+use ranqustei::{Figures, Survey};
+
+/// Figures with columns of their own.
+struct Draft {
+    stations: u8,
+    ceilings: u8,
+    ranks: [u8; 2],
+    ends: Vec<u8>,
+    sums: Vec<i32>,
+    costs: Vec<i16>,
+}
+
+/// Sets any entry of a column, if it has one.
+fn set<T>(column: &mut [T], random: &mut Random, value: T) {
+    let at = random.below(column.len().max(1));
+    if let Some(entry) = column.get_mut(at) {
+        *entry = value;
+    }
+}
+
+impl Draft {
+    /// Figures that are accepted.
+    fn legal(random: &mut Random) -> Draft {
+        let stations = 3 + random.below(22);
+        let ceilings = random.below(3);
+        let links = random.below(41);
+        let ends = (0..links).flat_map(|_| {
+            let end = random.below(stations);
+            let other = end + 1 + random.below(stations - 1);
+            [end as u8, (other % stations) as u8]
+        });
+        let ends = ends.collect();
+        let sums = (0..links).map(|_| random.below(2_000_001) as i32 - 1_000_000);
+        let sums = sums.collect();
+        let costs = (0..2 * links).map(|at| match at % 2 < ceilings {
+            true => random.below(65_536) as u16 as i16,
+            false => 0,
+        });
+        Draft {
+            stations: stations as u8,
+            ceilings: ceilings as u8,
+            ranks: [[0, 0], [2, 0], [1, 2]][ceilings],
+            ends,
+            sums,
+            costs: costs.collect(),
+        }
+    }
+
+    /// Gives one figure another value, or doubles the links.
+    fn change(&mut self, random: &mut Random) {
+        match random.below(7) {
+            0 => self.stations = random.below(27) as u8,
+            1 => self.ceilings = random.below(5) as u8,
+            2 => self.ranks[random.below(2)] = random.below(5) as u8,
+            3 => {
+                let end = random.below(26) as u8;
+                set(&mut self.ends, random, end);
+            }
+            4 => {
+                let sum = random.below(3_000_000) as i32 - 1_500_000;
+                set(&mut self.sums, random, sum);
+            }
+            5 => {
+                let cost = random.below(3) as i16 - 1;
+                set(&mut self.costs, random, cost);
+            }
+            _ => {
+                self.ends.extend_from_within(..);
+                self.sums.extend_from_within(..);
+                self.costs.extend_from_within(..);
+            }
+        }
+    }
+
+    fn figures(&self) -> Figures<'_> {
+        Figures {
+            stations: self.stations,
+            ceilings: self.ceilings,
+            ranks: self.ranks,
+            ends: &self.ends,
+            sums: &self.sums,
+            costs: &self.costs,
+        }
+    }
+}
+
+/// Holds what is written from figures against what a survey of them is read as.
+fn check(kind: u32, figures: &Figures) -> bool {
+    let survey = encoded(kind, figures);
+    let read = Survey::new(survey.clone());
+    let reply = written(kind, figures, survey.len());
+    match &read {
+        Err(refusal) => assert_eq!(reply, Err(told(*refusal))),
+        Ok(read) => {
+            assert_eq!(reply.as_ref(), Ok(&survey));
+            assert_eq!(read.yard().survey_with(read.record()).as_ref(), Ok(read));
+        }
+    }
+    read.is_ok()
+}
+
+#[test]
+fn figures_are_declined_as_their_surveys_are() {
+    let mut random = Random(10);
+    let mut accepted = 0;
+    for round in 0..20_000 {
+        let mut draft = Draft::legal(&mut random);
+        for _ in 0..round % 4 {
+            draft.change(&mut random);
+        }
+        let [plain, counted] = KINDS.map(|kind| check(kind, &draft.figures()));
+        assert_eq!(plain, counted);
+        assert!(plain || round % 4 > 0);
+        accepted += usize::from(plain);
+    }
+    assert!((6_000..14_000).contains(&accepted), "{accepted}");
+}

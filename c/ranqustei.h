@@ -244,9 +244,10 @@ ranqustei_found ranqustei_index_lookup(const uint8_t *list, size_t list_length, 
  * ceiling 1 and ceiling 2 are the entries 2 * i and 2 * i + 1 of `costs`, 0 for an absent ceiling. Where `ends` has no such entry, that end is no
  * station; where `costs` has none, that cost is 0. Entries after those of the last link are not looked at. RANQUSTEI_SURVEY_BYTES are always enough for
  * `survey`.
- * On success the survey stands at the front of `survey`, and the bytes after it are as they were. On a refusal all of `survey` is as it was.
- * The survey is accepted, and its fields are the figures that were handed in. The figures of an accepted survey, written with the kind of its own yard
- * record, give its bytes again.
+ * On success the survey stands at the front of `survey`, 6 + 12 * m bytes of it, or with the counted yard record 7 + 12 * m, and the bytes after it are
+ * as they were. On a refusal all of `survey` is as it was.
+ * A survey that is written is accepted, and its fields are the figures that were handed in. The figures of an accepted survey with one of these two yard
+ * records, written with the kind of its own, survey[0] * 256 + survey[1], give its bytes again.
  */
 ranqustei_status ranqustei_write_survey(
     uint32_t kind, ranqustei_yard yard, const uint8_t *ends, size_t ends_length, const int32_t *sums, size_t sums_length, const int16_t *costs,

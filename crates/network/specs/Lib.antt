@@ -18,11 +18,11 @@ pub mod Calls
 pub mod Fetching
 -- the index by first ceiling: 12, 13, 16
 pub mod Indexing
--- writing surveys: figures, 2 to 8 of figures, 17
+-- writing surveys: 2 of the kind, 3 to 8 of figures, 17
 pub mod Writing
 -- printing
 pub mod Printing
--- the yards worked through, P1 to P29
+-- the yards worked through, P1 to P33
 pub mod Worked
 -- theorems: what the definitions mean, what holds of a survey's layout, of an accepted survey's bytes, of its sum costs and of its network
 pub mod Meaning

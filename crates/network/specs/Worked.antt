@@ -1,14 +1,14 @@
 -- Document 01, "Yards worked through": P1 to P12 in one table, from survey bytes to list bytes, then the yards of later requests, and the theorem
 -- that every row is right. It is computed from the definitions.
 use mathlib.Core.Bool.{not}
-use mathlib.Core.List.{List, [], _∷_, _++_, map, List·Memᴰ·cases-cons, List·Memᴰ·not-nil}
-use mathlib.Core.Logic.{⊎-elim}
-use mathlib.Core.Path.{_≡_, refl, subst⁻¹}
+use mathlib.Core.List.{List, [], _∷_, _++_, map}
+use mathlib.Core.Path.{_≡_, refl}
 use Prim.Native.Nat.{ℕ, _-_}
 use lib.IntN.{ℤ, pos, negsuc}
 use lib.ListN.{drop, length, replicate, take}
 use mir.Syntax.{w32}
 use Rattle.order.specs.Lists.{_∈_, filter, numbersFrom}
+use Rattle.order.specs.Every.{_▸_, done, every}
 use Rattle.order.specs.Order.{orderℤ}
 use Rattle.spanning.specs.Labelling.{crosses, merge}
 use Rattle.spanning.specs.Tree as tree
@@ -30,9 +30,12 @@ use Rattle.network.specs.Calls.{listAfter, listChecked, listStatus, plan
 use Rattle.network.specs.Fetching.{damaged}
 use Rattle.network.specs.Indexing.{cheapest, entriesFrom, foundBy, foundPlan, indexAfter, indexChecked, indexIn, indexKey, indexOf, indexStatus}
 use Rattle.network.specs.Indexing.{isIndex, lookedUp, lookupChecked, lookupReply, meets, saysFound, unfit}
+use Rattle.network.specs.Writing.{figuresChecked, figuresFrom, layoutFor, linkBytes, linkFiguresChecked, surveyAtFront, surveyIn, unknownKind}
+use Rattle.network.specs.Writing.{writeAfter, writeChecked, writeStatus, yardBytes, yardFiguresChecked}
 use Rattle.network.specs.Printing.{printed}
 use Rattle.network.specs.Count.{countedYard, plainYard}
 use Rattle.network.specs.declared.Status.{Status}
+use Rattle.network.specs.declared.YardFigures.{YardFigures}
 
 -- ---- the rows
 
@@ -58,6 +61,8 @@ pub data Row : Type 0 where
   builds : (list buffer : List ℕ) → Status → List ℕ → Row
   -- a lookup by a list and an index, with the given value, and the reply
   looks : (list index : List ℕ) (y : ℤ) → Reply → Row
+  -- writing the survey of a yard and columns, with a kind of yard record, into an output: its reply, and the output after it
+  writes : (kind : ℕ) (y : YardFigures) (ends : List ℕ) (sums costs : List ℤ) (output : List ℕ) → Status → List ℕ → Row
   -- standard input, and what the program prints
   prints : (input output : List ℕ) → Row
 
@@ -86,6 +91,8 @@ Right (prices bits meant passed) = (map (signed w32) bits ≡ meant) × (filter 
 Right (checks s r) = status (checkedOf s) ≡ r
 Right (builds l buffer r after) = (indexStatus l (length buffer) ≡ r) × (indexAfter l buffer ≡ after)
 Right (looks l index y r) = lookupReply l index y ≡ r
+Right (writes kind y ends sums costs output r after) =
+    let f = figuresFrom y ends sums costs in (writeStatus kind f (length output) ≡ r) × (writeAfter kind f output ≡ after)
 Right (prints input output) = printed input ≡ output
 
 -- ---- bytes as document 01 writes them
@@ -130,6 +137,24 @@ replied number place = record { number = number; place = place }
 -- the bytes of an index
 abbrev entries : List ℕ → List ℕ
 entries numbers = join (map (littleEndian 2) numbers)
+
+-- the figures of a yard record
+abbrev figures : ℕ → ℕ → ℕ → ℕ → YardFigures
+figures n p k1 k2 = record { n = n; p = p; k1 = k1; k2 = k2 }
+
+-- the columns of survey A
+abbrev endsA : List ℕ
+endsA = 0 ∷ 1 ∷ 1 ∷ 2 ∷ 0 ∷ 2 ∷ []
+
+abbrev sumsA : List ℤ
+sumsA = pos 4 ∷ pos 3 ∷ pos 1 ∷ []
+
+abbrev costsA : List ℤ
+costsA = pos 7 ∷ pos 0 ∷ pos 2 ∷ pos 0 ∷ pos 9 ∷ pos 0 ∷ []
+
+-- an output of 42 bytes, as many as A has
+abbrev output42 : List ℕ
+output42 = replicate 42 0xFF
 
 -- five plans of no links with p ceilings, of which only one has another y1, and one another sum, and two are alike
 abbrev mixed : ℕ → List ℕ
@@ -209,7 +234,9 @@ listA = list 2 3 2 1 (two (plan 4 9 0 (two 1 2)) (plan 7 7 0 (two 0 1)))
 -- may be negative: P17 in two rows, P18 to P20, and P21 on the sum costs that pass. Then yard records may write their link count: P22 in two rows,
 -- P23 in three on a survey that is cut off, P24 on where 15 stands among the numbers, P25 on lengths and marks. Then plan lists
 -- have an index: P26 in four rows on that of A's list, P27 in four on signs and ties, P28 in two without ceilings, P29 in eight on equal sums, on
--- indexes and lists that are declined, and on the empty list
+-- indexes and lists that are declined, and on the empty list. Then surveys are written: P30 in two rows, A with either yard record; P31 in three, sum
+-- costs below 0, a yard without links, and ceiling costs below 0; P32 in seven on the order of the numbers; P33 in four on columns and an output that
+-- are too short
 pub table : List Row
 table =
     lists (A 1) (two (two 1 2) (two 0 1)) 3 46 listA
@@ -274,19 +301,26 @@ table =
     ∷ builds unmarked (replicate 3 0xFF) (replied 12 0) (replicate 3 0xFF)
     ∷ builds (list 0 0 0 1 []) [] (replied 0 0) []
     ∷ looks (list 0 0 0 1 []) [] (pos 3) (refused 13 0)
+    ∷ writes 0x5945 (figures 3 1 1 0) endsA sumsA costsA (replicate 46 0xFF) (replied 0 0) (countedA ++ replicate 3 0xFF)
+    ∷ writes 0x5944 (figures 3 1 1 0) endsA sumsA costsA output42 (replied 0 0) (A 1)
+    ∷ writes 0x5944 (figures 3 1 2 0) endsA (negsuc 3 ∷ negsuc 2 ∷ negsuc 0 ∷ []) costsA output42 (replied 0 0) sunny
+    ∷ writes 0x5945 (figures 1 0 0 0) [] [] [] (replicate 7 0xFF) (replied 0 0) (tallied 1 0 0 0 0 [])
+    ∷ writes 0x5944 (figures 2 2 1 1) (two 1 0) (one (pos 5)) (two (negsuc 32_767) (negsuc 0)) (replicate 18 0xFF) (replied 0 0)
+    (yard 2 2 1 1 (one (link 1 0 5 0x8000 0xFFFF)))
+    ∷ writes 0x5946 (figures 25 1 1 0) endsA sumsA costsA output42 (replied 2 0) output42
+    ∷ writes 0x5944 (figures 25 1 1 0) endsA (replicate 41 (pos 1)) costsA output42 (replied 3 0) output42
+    ∷ writes 0x5944 (figures 3 3 1 0) endsA (replicate 41 (pos 1)) costsA output42 (replied 4 0) output42
+    ∷ writes 0x5944 (figures 3 3 4 0) endsA sumsA costsA output42 (replied 5 0) output42
+    ∷ writes 0x5944 (figures 3 1 3 0) (two 0 0) (one (pos 4)) (two (pos 7) (pos 0)) output42 (replied 6 0) output42
+    ∷ writes 0x5944 (figures 3 1 1 0) (0 ∷ 1 ∷ 1 ∷ 3 ∷ []) (two (pos 4) (pos 1_000_001)) costsA output42 (replied 7 2) output42
+    ∷ writes 0x5944 (figures 3 1 1 0) (0 ∷ 1 ∷ 1 ∷ 1 ∷ []) (two (pos 4) (pos 3)) (two (pos 7) (pos 1)) output42 (replied 8 1) output42
+    ∷ writes 0x5944 (figures 3 1 1 0) (take 5 endsA) sumsA costsA (take 41 output42) (replied 7 3) (take 41 output42)
+    ∷ writes 0x5944 (figures 2 0 0 0) (two 0 1) (one (pos 5)) [] (replicate 18 0xFF) (replied 0 0) (yard 2 0 0 0 (one (link 0 1 5 0 0)))
+    ∷ writes 0x5944 (figures 3 1 1 0) endsA sumsA (take 4 costsA) output42 (replied 0 0) (yard 3 1 1 0 (link 0 1 4 7 0 ∷ link 1 2 3 2 0 ∷ link 0 2 1 0 0 ∷ []))
+    ∷ writes 0x5944 (figures 3 1 1 0) endsA sumsA costsA (take 41 output42) (replied 17 0) (take 41 output42)
     ∷ []
 
 -- ---- the theorem
-
--- every member has the property
-infixr 5 _▸_
-data Every {A : Type 0} (P : A → Type 0) : List A → Type 0 where
-  done : Every P []
-  _▸_ : {x : A} {l : List A} → P x → Every P l → Every P (x ∷ l)
-
-every : {A : Type 0} (P : A → Type 0) {l : List A} → Every P l → (x : A) → x ∈ l → P x
-every P done x m = absurd (List·Memᴰ·not-nil m)
-every P (h ▸ r) x m = ⊎-elim (λ q. subst⁻¹ P q h) (λ n. every P r x n) (List·Memᴰ·cases-cons m)
 
 -- every row of the table is right
 pub table-right : (r : Row) → r ∈ table → Right r
@@ -296,6 +330,8 @@ unfolding table endsIn sumsIn costsIn column rowWhere layoutOf networkWith raise
     judged drawnChecked asked askedChecked bestTree treeAfter treeWith roomChecked plansChecked plansAfter listChecked listStatus listAfter printed
     costsAt damaged indexKey indexOf unfit indexChecked indexStatus indexIn indexAfter entriesFrom isIndex meets cheapest lookupChecked
     foundPlan foundBy lookedUp saysFound lookupReply
+    figuresFrom yardBytes linkBytes surveyIn layoutFor unknownKind yardFiguresChecked linkFiguresChecked figuresChecked
+    writeChecked writeStatus surveyAtFront writeAfter
 table-right = every Right (
     record { promised = refl; by-walk = refl; counted = refl; needed = refl; succeeds = refl; bytes = refl }
     ▸ refl
@@ -316,5 +352,8 @@ table-right = every Right (
     ▸ refl
     ▸ (refl, refl) ▸ (refl, refl) ▸ refl ▸ refl ▸ refl ▸ refl ▸ refl ▸ refl ▸ refl ▸ refl ▸ refl ▸ refl ▸ refl ▸ refl
     ▸ (refl, refl) ▸ refl ▸ refl ▸ refl ▸ (refl, refl) ▸ refl ▸ refl ▸ refl ▸ (refl, refl) ▸ refl
-    ▸ refl ▸ refl ▸ refl ▸ refl ▸ (refl, refl) ▸ (refl, refl) ▸ (refl, refl) ▸ refl ▸ done
+    ▸ refl ▸ refl ▸ refl ▸ refl ▸ (refl, refl) ▸ (refl, refl) ▸ (refl, refl) ▸ refl
+    ▸ (refl, refl) ▸ (refl, refl) ▸ (refl, refl) ▸ (refl, refl) ▸ (refl, refl) ▸ (refl, refl) ▸ (refl, refl)
+    ▸ (refl, refl) ▸ (refl, refl) ▸ (refl, refl) ▸ (refl, refl) ▸ (refl, refl) ▸ (refl, refl) ▸ (refl, refl)
+    ▸ (refl, refl) ▸ (refl, refl) ▸ done
     )

@@ -22,7 +22,8 @@ use Rattle.network.specs.declared.YardFigures.{YardFigures}
 
 -- ---- figures
 
--- the figures of a link record: its two ends, s, c1 and c2
+-- the figures of a link record: its two ends, s, c1 and c2. s is of 32 bits and c1 and c2 are of 16: the types of the columns say so. The records that
+-- are written have two ceiling costs, whatever later ones have
 pub record Link : Type 0 where
   pub first : ℕ
   pub second : ℕ
@@ -75,7 +76,8 @@ unknownKind kind = not (isOfKind kind (layoutFor kind))
 
 -- ---- the survey
 
--- the yard record of a survey with m links: its mark, n, p, k1, k2, and the link count in the layout that has one
+-- the yard record of a survey with m links: its mark, n, p, k1, k2, and in the layout that has one the link count, whose low byte is all of it wherever
+-- number 4 does not come first
 unfoldable pub yardBytes : Layout → YardFigures → ℕ → List ℕ
 yardBytes l y m = l .yard .mark ++ (y .n ∷ y .p ∷ y .k1 ∷ y .k2 ∷ cond (hasCount l) (littleEndian 1 m) [])
 
@@ -155,6 +157,19 @@ linkFrom ends sums costs i =
       c2 = getD costs (2 * i + 1) (pos 0);
     }
 
--- the figures of a yard and of columns: as many links as sum costs
+-- the columns of links
+abbrev pub endsOf : List Link → List ℕ
+endsOf [] = []
+endsOf (x ∷ xs) = x .first ∷ x .second ∷ endsOf xs
+
+abbrev pub sumsOf : List Link → List ℤ
+sumsOf [] = []
+sumsOf (x ∷ xs) = x .sum ∷ sumsOf xs
+
+abbrev pub costsOf : List Link → List ℤ
+costsOf [] = []
+costsOf (x ∷ xs) = x .c1 ∷ x .c2 ∷ costsOf xs
+
+-- the figures of a yard and of columns: as many links as sum costs. All figures come so, by the columns of their links (`columns-say`)
 unfoldable pub figuresFrom : YardFigures → List ℕ → List ℤ → List ℤ → Figures
 figuresFrom y ends sums costs = record { yard = y; links = map (linkFrom ends sums costs) (numbersFrom (length sums) 0) }

@@ -3,9 +3,10 @@ use mathlib.Core.Bool.{Bool, true, false}
 use mathlib.Core.Path.{_≡_, refl, ap}
 use Prim.Native.Nat.{ℕ, zero, suc, _<_}
 use native.Mathlib.Omega.{arith}
+use lib.ListN.{length}
 use Rattle.network.specs.Checked.{firstRefusal, refuseIf, _orElse_}
 use Rattle.network.specs.Calls.{status}
-use Rattle.network.specs.Writing.{Figures, figuresChecked, linkFiguresChecked, writeChecked, yardFiguresChecked}
+use Rattle.network.specs.Writing.{Figures, figuresChecked, linkFiguresChecked, linksFiguresChecked, writeChecked, yardFiguresChecked}
 use Rattle.network.specs.declared.Checked.{Checked}
 use Rattle.network.specs.declared.Checked.the-variants.{Fine, Refused}
 use Rattle.network.specs.declared.Refusal.{Refusal}
@@ -40,10 +41,16 @@ status-fine (one r h) e = let none = ap (λ (s : Status). s .number) e in absurd
 write-numbered : (kind : ℕ) (f : Figures) (size : ℕ) → Numbered (writeChecked kind f size)
 unfolding writeChecked figuresChecked yardFiguresChecked linkFiguresChecked
 write-numbered kind f size =
-    let test : (bad : Bool) (number place : ℕ) → 0 < number → Numbered (refuseIf bad number place) = refuse-numbered in
-    let yard = else-numbered (else-numbered (else-numbered (test _ 3 0 (omega arith)) (test _ 4 0 (omega arith))) (test _ 5 0 (omega arith))) (test _ 6 0 (omega arith)) in
-    let links = first-numbered _ (λ i. else-numbered (test _ 7 _ (omega arith)) (test _ 8 _ (omega arith))) _ in
-    else-numbered (else-numbered (test _ 2 0 (omega arith)) (else-numbered yard links)) (test _ 17 0 (omega arith))
+    else-numbered (else-numbered (test _ 1 _) (else-numbered yard links)) (test _ 16 _)
+  where
+    test : (bad : Bool) (n place : ℕ) → Numbered (refuseIf bad (suc n) place)
+    test bad n place = refuse-numbered bad (suc n) place (omega arith)
+
+    yard : Numbered (yardFiguresChecked (f .yard) (length (f .links)))
+    yard = else-numbered (else-numbered (else-numbered (test _ 2 _) (test _ 3 _)) (test _ 4 _)) (test _ 5 _)
+
+    links : Numbered (linksFiguresChecked (f .yard) (f .links) (length (f .links)))
+    links = first-numbered _ (λ i. else-numbered (test _ 6 _) (test _ 7 _)) _
 
 -- writing that replied with number 0 and place 0 was not refused
 pub write-fine : (kind : ℕ) (f : Figures) (size : ℕ) → status (writeChecked kind f size) ≡ status Fine → writeChecked kind f size ≡ Fine

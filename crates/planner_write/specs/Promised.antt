@@ -16,13 +16,13 @@ use Rattle.network.specs.Accepted.{accepted}
 use Rattle.network.specs.Calls.{ifFine, status}
 use Rattle.network.specs.Writing.{Figures, figuresChecked, kindOf, layoutFor, surveyAtFront, surveyIn, surveyOf, unknownKind}
 use Rattle.network.specs.Writing.{writeAfter, writeChecked, writeStatus, yardFiguresChecked}
-use Rattle.network.specs.WritingPromise.{OfBytes, Says, WritePromised}
+use Rattle.network.specs.WritingPromise.{Known, OfBytes, Says, WritePromised}
 use Rattle.network.specs.declared.Checked.the-variants.{Fine}
 use Rattle.network.specs.declared.Layout.{Layout}
 use Rattle.network.specs.declared.Status.{Status}
 use Rattle.survey_written.specs.Fields.{Met, survey-layout}
 use Rattle.survey_written.specs.Former.{survey-former}
-use Rattle.survey_written.specs.Layouts.{kind-known, layout-known, writable-for}
+use Rattle.survey_written.specs.Layouts.{kind-known, kind-listed, kind-missed, layout-known, writable-for}
 use Rattle.survey_written.specs.ReadBack.{figures-read, legal-fit, reader-agrees}
 use Rattle.planner_write.specs.Numbered.{write-fine}
 
@@ -82,13 +82,24 @@ module _ (kind : ℕ) (f : Figures) (output : List ℕ) (met : unknownKind kind 
       ∙ survey-former t (layoutOf t) (rw (← layout) (writable-for kind)) fine bytes
 
   module _ {r : Status} {left : List ℕ} (reply : r ≡ writeStatus kind f (length output)) (leaves : left ≡ writeAfter kind f output) where
-    former : (t : List ℕ) → OfBytes t → Says t kind f → unknownKind kind ≡ false → length t ≤ length output → (r ≡ status Fine) × (left ≡ surveyAtFront t output)
+    former : (t : List ℕ) → OfBytes t → Says t kind f → Known kind → length t ≤ length output → (r ≡ status Fine) × (left ≡ surveyAtFront t output)
     unfolding writeStatus writeAfter writeChecked refuseIf _orElse_ ifFine
-    former t bytes told known room =
+    former t bytes told listed room =
+        let known = kind-listed kind listed in
         let same = same-bytes t bytes told known in
         let legal : figuresChecked f ≡ Fine = sym (agrees known) ∙ ap checkedOf same ∙ told .accepted in
         let enough : ltb (length output) (length t) ≡ false = le-ltb (length output) (length t) room in
         (reply ∙ rw (known, legal, same, enough), leaves ∙ rw (known, legal, same, enough))
 
+    other : (Known kind → ⊥) → r ≡ record { number = 2; place = 0 }
+    unfolding writeStatus writeChecked refuseIf _orElse_ status
+    other missed = reply ∙ rw (kind-missed kind missed)
+
     pub promised : WritePromised kind f output r left
-    promised = record { readBack = read-back reply leaves; former = former; asReader = as-reader reply leaves }
+    promised =
+        record {
+          readBack = read-back reply leaves;
+          former = former;
+          asReader = λ listed. as-reader reply leaves (kind-listed kind listed);
+          otherKind = other;
+        }

@@ -14,6 +14,7 @@ ghost use Rattle.network.specs.Writing.{figuresFrom, writeAfter, writeStatus};
 ghost use Rattle.network.specs.WritingPromise.{WritePromised};
 
 // The survey of the figures, with the kind of yard record asked for, into the output, whose bytes past it stay: number 0 and place 0, or the refusal.
+// There are as many links as sum costs, with two ends and two ceiling costs each; an end that is not handed in is no station, and a cost is 0.
 pub fn write_survey(
     kind: u32,
     yard: YardFigures,

@@ -1,6 +1,6 @@
 -- The costs of absent ceilings, tested one after the other.
 use Prim.Native.Nat.{ℕ, _≤_, _<_}
-use mathlib.Core.Bool.{Bool, true, false, not, _&&_, _||_}
+use mathlib.Core.Bool.{Bool, true, false, not, _&&_, _||_, or-false}
 use mathlib.Core.Path.{_≡_, refl, sym}
 use native.Mathlib.Omega.{arith}
 use borrow.Author.Tests.{eq-eqb, le-leb, lt-leb, ne-eqb}
@@ -11,10 +11,6 @@ use Rattle.network.specs.Refusals.{absentCost, badCosts, badSum}
 or-true : (a : Bool) → true ≡ a || true
 or-true true = refl
 or-true false = refl
-
-or-false : (a : Bool) → a ≡ a || false
-or-false true = refl
-or-false false = refl
 
 and-false : (a : Bool) → a && false ≡ false
 and-false true = refl
@@ -35,7 +31,7 @@ module _ (p bits1 bits2 : ℕ) where
 
   -- the second is 0, and the first is absent too
   pub first-left : p ≤ 0 → bits2 ≡ 0 → not (eqb bits1 0) ≡ absentCost p 0 bits1 || absentCost p 1 bits2
-  first-left h e = rw (le-leb p 0 h, le-leb p 1 (omega arith), eq-eqb bits2 0 e) (or-false (not (eqb bits1 0)))
+  first-left h e = rw (le-leb p 0 h, le-leb p 1 (omega arith), eq-eqb bits2 0 e) (sym (or-false (not (eqb bits1 0))))
 
   -- the second is 0, and the first is present
   pub first-present : 0 < p → bits2 ≡ 0 → false ≡ absentCost p 0 bits1 || absentCost p 1 bits2

@@ -37,10 +37,10 @@ fn check_link(y: YardFigures, a: u8, b: u8, sum: i32, c1: i16, c2: i16, place: u
 {
     let n = y.n;
     let p = y.p;
-    let no_ends = bad_ends(n, a, b);
-    let no_costs = bad_costs(p, sum, bits16(c1), bits16(c2));
-    let c7 = refuse_if(no_ends, 7, place);
-    or_refuse_if(c7, no_costs, 8, place)
+    let wrong_ends = bad_ends(n, a, b);
+    let wrong_costs = bad_costs(p, sum, bits16(c1), bits16(c2));
+    let c7 = refuse_if(wrong_ends, 7, place);
+    or_refuse_if(c7, wrong_costs, 8, place)
 }
 
 // The rules of all links, in their order.

@@ -25,7 +25,7 @@ use Rattle.survey_written.specs.Fields.{survey-length, yard-length}
 use Rattle.survey_written.specs.Layouts.{Writable}
 use Rattle.survey_written.specs.Written.{records-all, recordsTo}
 
--- 7 and 8 link by link, then 17
+-- 7 and 8 link by link, then 17: what is left of `writeChecked` by then
 unfoldable pub fullChecked : Layout → Figures → ℕ → Checked
 fullChecked l f size = linksFiguresChecked (f .yard) (f .links) (length (f .links)) orElse refuseIf (ltb size (length (surveyIn l f))) 17 0
 

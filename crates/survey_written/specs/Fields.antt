@@ -37,7 +37,8 @@ pub record Fitting (x : Link) : Type 0 where
   pub c1 : SFits w16 (x .c1)
   pub c2 : SFits w16 (x .c2)
 
--- each link before which none is refused fits its bytes
+-- Each link before which none is refused fits its bytes. That an entry of a column is a number of its type is known of entries that are read, and links
+-- after the first that is refused are not.
 pub record Met (f : Figures) : Type 0 where
   pub each : (i : ℕ) → i < length (f .links) → linksFiguresChecked (f .yard) (f .links) i ≡ Fine → Fitting (getD (f .links) i noLink)
 

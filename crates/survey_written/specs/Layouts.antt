@@ -1,16 +1,18 @@
 -- What holds of the layouts that the writer knows, shown over their table.
-use mathlib.Core.Bool.{Bool, true, false, cond}
-use mathlib.Core.List.{List, [], _∷_, List·Memᴰ·cases-cons, List·Memᴰ·not-nil}
-use mathlib.Core.Logic.{⊎-elim}
-use mathlib.Core.Path.{_≡_, refl, subst⁻¹}
+use mathlib.Core.Bool.{Bool, true, false, cond, not}
+use mathlib.Core.List.{List}
+use mathlib.Core.Logic.{⊎-elim, inl, inr}
+use mathlib.Core.Path.{_≡_, refl, sym, ap}
 use Prim.Native.Nat.{ℕ, _+_, _≤_}
 use native.Mathlib.Omega.{arith}
 use lib.ListN.{length}
-use borrow.Author.Tests.{eqb-true, not-false}
-use Rattle.order.specs.Lists.{_∈_}
+use borrow.Author.Tests.{eqb-true, ne-eqb, not-false}
+use lib.Dec.{eqb}
+use Rattle.order.specs.Every.{_▸_, done, every}
 use Rattle.network.specs.Survey.{hasCount, layoutOf, linkSize, plain, rowWhere, withCount, yardSize}
 use Rattle.network.specs.Layouts.{layout-has, row-has}
 use Rattle.network.specs.Writing.{isOfKind, kindOf, layoutFor, unknownKind, writable}
+use Rattle.network.specs.WritingPromise.{Known}
 use Rattle.network.specs.declared.Layout.{Layout}
 
 -- its marks have two bytes; its yard record has the shared fields and then the link count, if it has one; and a survey with its mark is read by it
@@ -29,16 +31,6 @@ yard-small {l} w = go (hasCount l) (w .size)
     go : (b : Bool) → l .yard .size ≡ yardSize + cond b 1 0 → l .yard .size ≤ yardSize + 1
     go true e = omega arith
     go false e = omega arith
-
--- a property of each row of a table
-infixr 5 _▸_
-data Every (P : Layout → Type 0) : List Layout → Type 0 where
-  done : Every P []
-  _▸_ : {l : Layout} {ls : List Layout} → P l → Every P ls → Every P (l ∷ ls)
-
-every : (P : Layout → Type 0) {ls : List Layout} → Every P ls → (l : Layout) → l ∈ ls → P l
-every P done l m = absurd (List·Memᴰ·not-nil m)
-every P (h ▸ r) l m = ⊎-elim (λ q. subst⁻¹ P q h) (λ n. every P r l n) (List·Memᴰ·cases-cons m)
 
 plain-writable : Writable plain
 unfolding layoutOf rowWhere
@@ -68,6 +60,19 @@ counted-named e = refl
 -- the layout of a survey of a kind that is known is the layout of that kind
 pub layout-known : (s : List ℕ) (kind : ℕ) → kindOf (layoutOf s) ≡ kind → unknownKind kind ≡ false → layoutFor kind ≡ layoutOf s
 layout-known s kind e known = rw (← e) (layout-has Named (every Named (plain-named ▸ counted-named ▸ done)) s (rw (← e) at known))
+
+-- the kinds of the table are known,
+pub kind-listed : (kind : ℕ) → Known kind → unknownKind kind ≡ false
+unfolding unknownKind layoutFor rowWhere
+kind-listed kind k = ⊎-elim (λ (e : kind ≡ 0x5944). rw e) (λ (e : kind ≡ 0x5945). rw e) k
+
+-- and no others are
+pub kind-missed : (kind : ℕ) → (Known kind → ⊥) → unknownKind kind ≡ true
+unfolding unknownKind layoutFor rowWhere
+kind-missed kind k =
+    let plainly : eqb 0x5944 kind ≡ false = ne-eqb 0x5944 kind (λ e. k (inl (sym e))) in
+    let counted : eqb 0x5945 kind ≡ false = ne-eqb 0x5945 kind (λ e. k (inr (sym e))) in
+    rw (plainly, counted) (ap not plainly)
 
 -- a kind that is known is that of its layout
 pub kind-known : (kind : ℕ) → unknownKind kind ≡ false → kindOf (layoutFor kind) ≡ kind

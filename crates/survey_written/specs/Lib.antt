@@ -6,6 +6,8 @@ pub mod Fields
 pub mod Columns
 -- what the reader says of it
 pub mod ReadBack
+-- any figures handed in as columns
+pub mod Handed
 -- a survey that was read and is written again
 pub mod Former
 -- writes that make its records

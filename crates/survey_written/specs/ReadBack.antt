@@ -44,7 +44,7 @@ first-part f (suc m) e i h =
     ⊎-elim (λ (q : i ≡ suc m). rw q e) (λ (q : i < suc m). first-part f m (fine-both _ _ e .0) i (omega arith)) (eq-or-lt-of-le h)
 
 -- a list is what a function gives for the numbers of its entries, where that is each entry
-map-numbers : {A : Type 0} (f : ℕ → A) (d : A) (xs : List A) (k : ℕ) → ((i : ℕ) → i < length xs → f (k + i) ≡ getD xs i d)
+pub map-numbers : {A : Type 0} (f : ℕ → A) (d : A) (xs : List A) (k : ℕ) → ((i : ℕ) → i < length xs → f (k + i) ≡ getD xs i d)
     → map f (numbersFrom (length xs) k) ≡ xs
 unfolding numbersFrom
 map-numbers f d [] k e = refl

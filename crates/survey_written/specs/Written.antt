@@ -1,6 +1,6 @@
 -- Writes one after the other that make a link record, a yard record and the link records of columns.
 use mathlib.Core.Bool.{Bool, true, false, cond}
-use mathlib.Core.List.{List, [], _∷_, _++_, map, append-assoc, append-nil}
+use mathlib.Core.List.{List, [], _∷_, _++_, map, append-assoc, append-nil, map-map}
 use mathlib.Core.Path.{_≡_, refl, sym, ap, _∙_}
 use Prim.Native.Nat.{ℕ, zero, suc, _+_, _*_, _%_, _≤_, _<_}
 use native.Mathlib.Nat.{add-zero, zero-add}
@@ -87,11 +87,6 @@ module _ (l : Layout) (w : Writable l) (y : YardFigures) (m : ℕ) (few : m ≤ 
       e ∙ ap (λ (b : Bool). overwrite d 0 (l .yard .mark ++ (y .n ∷ y .p ∷ y .k1 ∷ y .k2 ∷ cond b (littleEndian 1 m) []))) (sym has)
 
 -- ---- all link records
-
--- a function after another
-map-map : {A B C : Type 0} (g : B → C) (f : A → B) (xs : List A) → map g (map f xs) ≡ map (λ x. g (f x)) xs
-map-map g f [] = refl
-map-map g f (x ∷ xs) = ap (λ ys. g (f x) ∷ ys) (map-map g f xs)
 
 -- one record more at the end
 join-more : (g : ℕ → List ℕ) (n k : ℕ) → join (map g (numbersFrom (suc n) k)) ≡ join (map g (numbersFrom n k)) ++ g (k + n)

@@ -133,12 +133,14 @@ pub fn index_lookup(list: &[u8], index: &[u8], value: i16) -> Result<u16, Refusa
 }
 
 /// Writes the survey of the figures into the front of `survey`, with the yard record of this kind:
-/// [`YardRecord::kind`](crate::YardRecord::kind). The bytes after it stay. 487 bytes are always
+/// [`YardRecord::kind`](crate::YardRecord::kind). It has 12 bytes for each sum cost, and before
+/// them 6 bytes, or 7 with the counted yard record. The bytes after it stay. 487 bytes are always
 /// enough.
 ///
 /// # Errors
 /// 2 if the kind is that of no yard record; 3 to 8 for the figures, as a survey of them would be
-/// declined; 17 if `survey` has no room for the survey. `survey` then stays as it was.
+/// declined, 7 and 8 at the place of a link; 17 if `survey` has no room for the survey. `survey`
+/// then stays as it was.
 pub fn write_survey(kind: u32, figures: &Figures, survey: &mut [u8]) -> Result<(), Refusal> {
     let Figures {
         stations,

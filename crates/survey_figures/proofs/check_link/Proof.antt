@@ -35,8 +35,8 @@ returns c =
     let sum = toZ-ofZ w32 (start .args .sum) (start .fits .sum) in
     let c1 = toZ-ofZ w16 (start .args .c1) (start .fits .c1) in
     let c2 = toZ-ofZ w16 (start .args .c2) (start .fits .c2) in
-    rw (c .or-refuse-if .ensures, costs .bad-costs .ensures, sum, second .bits162 .ensures, first .bits16 .ensures, c1, c2)
-    (rw (c .before .refuse-if .ensures, ends .bad-ends .ensures))
+    rw (c .or-refuse-if .ensures, c .before .refuse-if .ensures, ends .bad-ends .ensures, costs .bad-costs .ensures)
+    (rw (sum, second .bits162 .ensures, first .bits16 .ensures, c1, c2))
 
 pub check-link-spec : {M : Type 1} → statement M
 check-link-spec =

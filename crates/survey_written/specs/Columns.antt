@@ -18,7 +18,7 @@ use Rattle.order.specs.Sorted.{number-at, numbers-length}
 use Rattle.network.specs.Limits.{maxLinks}
 use Rattle.network.specs.Column.{column, column-at, column-length}
 use Rattle.network.specs.Checked.{firstRefusal, first-found, first-more, _orElse_}
-use Rattle.network.specs.Writing.{Link, figuresChecked, figuresFrom, linkFiguresChecked, linkFrom, linksFiguresChecked, noLink, noStation, yardFiguresChecked}
+use Rattle.network.specs.Writing.{Link, figuresFrom, linkFiguresChecked, linkFrom, linksFiguresChecked, noLink, noStation}
 use Rattle.network.specs.declared.Checked.{Checked}
 use Rattle.network.specs.declared.Checked.the-variants.{Fine, Refused}
 use Rattle.network.specs.declared.Refusal.{Refusal}

@@ -1,11 +1,10 @@
 -- The bytes of a survey that was written: how many they are, and the fields that the reader finds in them.
-use mathlib.Core.Bool.{Bool, true, false, cond, _&&_}
+use mathlib.Core.Bool.{Bool, true, false, cond}
 use mathlib.Core.List.{List, [], _∷_, _++_, map, append-assoc, append-nil}
 use mathlib.Core.Path.{_≡_, refl, sym, ap, ap₂, _∙_}
 use Prim.Native.Nat.{ℕ, suc, _+_, _*_, _≤_, _<_}
 use native.Mathlib.Omega.{arith}
 use native.Mathlib.Nat.{zero-add}
-use lib.IntN.{ℤ}
 use lib.ListN.{drop, getD, length, length-append, length-map, take}
 use lib.Seq.{drop-append-add, getD-append-add, getD-drop, getD-take, take-at}
 use mir.Syntax.{w16, w32}
@@ -14,7 +13,7 @@ use mir.ValLaws.{ofZ-fits}
 use store.Seg.{eqb-same}
 use Rattle.order.specs.Lists.{getD-map, map-mem}
 use Rattle.order.specs.Test.{by-test}
-use Rattle.network.specs.Bytes.{bitsOf, byteAt, littleEndian, markAt, u16At, u32At}
+use Rattle.network.specs.Bytes.{bitsOf, byteAt, littleEndian, markAt, u32At}
 use Rattle.network.specs.Limits.{maxLinks}
 use Rattle.network.specs.Survey.{ceilingsIn, costBitsIn, countIn, endIn, hasCount, layoutOf, linkSize, linkStart, rankIn, stationsIn, yardSize}
 use Rattle.network.specs.Layouts.{layout-kept}

@@ -4,7 +4,7 @@ use mathlib.Core.Path.{_≡_, refl, ap, _∙_}
 use Prim.Native.Nat.{ℕ, zero, suc, _+_, _*_, _<_}
 use native.Mathlib.Nat.{zero-add}
 use native.Mathlib.Omega.{arith}
-use lib.IntN.{ℤ, pos}
+use lib.IntN.{pos}
 use lib.ListN.{getD, length}
 use Rattle.order.specs.Lists.{numbersFrom}
 use Rattle.network.specs.Writing.{Figures, Link, costsOf, endsOf, figuresFrom, linkFrom, noLink, noStation, sumsOf}

@@ -1,9 +1,9 @@
 -- What the reader says of a survey that was written: the refusal of its figures, or none, and the figures.
-use mathlib.Core.Bool.{Bool, true, false, not, _||_}
+use mathlib.Core.Bool.{Bool, true, false}
 use mathlib.Core.List.{List, [], _∷_, map}
 use mathlib.Core.Logic.{⊎-elim}
 use mathlib.Core.Path.{_≡_, refl, sym, ap, ap₂, _∙_}
-use Prim.Native.Nat.{ℕ, zero, suc, _+_, _-_, _*_, _/_, _%_, _≤_, _<_}
+use Prim.Native.Nat.{ℕ, zero, suc, _+_, _-_, _*_, _%_, _≤_, _<_}
 use native.Mathlib.Nat.{add-zero, eq-or-lt-of-le, zero-add}
 use native.Mathlib.Omega.{arith}
 use lib.Dec.{ltb}
@@ -14,7 +14,7 @@ use mir.ValLaws.{toZ-ofZ}
 use Rattle.order.specs.Lists.{numbersFrom}
 use Rattle.network.specs.Limits.{maxCeilings, maxLinks, maxStations}
 use Rattle.network.specs.Bytes.{bitsOf, signed}
-use Rattle.network.specs.Survey.{layoutOf, linkCount, linkSize, linkStart}
+use Rattle.network.specs.Survey.{linkCount, linkSize, linkStart}
 use Rattle.network.specs.Checked.{fine-both, firstRefusal, refuseIf, _orElse_}
 use Rattle.network.specs.Refusals.{badCount, badLength, badRanks, checkedOf, checkedWith, linkChecked, linkCheckedAt, linksChecked, outside, yardChecked}
 use Rattle.network.specs.Writing.{Figures, Link, figuresChecked, figuresIn, figuresOf, linkFiguresChecked, linkIn, linksFiguresChecked, noLink}

@@ -1,6 +1,5 @@
 -- `survey_writing::write_links` meets its contract. The invariant: the records of the links before i stand behind the yard record.
 use Prim.Native.Nat.{_-_}
-use mathlib.Core.Path.{_≡_}
 use native.Mathlib.Omega.{arith}
 use borrow.Author.Needs.{needs}
 use lib.ListN.{length}

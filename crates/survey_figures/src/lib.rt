@@ -24,11 +24,18 @@ pub fn check_yard(y: YardFigures, m: usize) -> Checked
     let n = y.n;
     let p = y.p;
     let ranks = [y.k1, y.k2];
+    let too_many_links = MAX_LINKS < m;
     let too_many_ceilings = (MAX_CEILINGS as u8) < p;
-    let c3 = refuse_if(is_outside(n, 1, MAX_STATIONS as u8), 3, 0);
-    let c4 = or_refuse_if(c3, MAX_LINKS < m, 4, 0);
-    let c5 = or_refuse_if(c4, too_many_ceilings, 5, 0);
-    or_refuse_if(c5, bad_ranks(n, p, &ranks), 6, 0)
+    if is_outside(n, 1, MAX_STATIONS as u8) {
+        return refuse_if(true, 3, 0);
+    }
+    if too_many_links {
+        return refuse_if(true, 4, 0);
+    }
+    if too_many_ceilings {
+        return refuse_if(true, 5, 0);
+    }
+    refuse_if(bad_ranks(n, p, &ranks), 6, 0)
 }
 
 // The rules of a link with ends a and b.

@@ -1,0 +1,2 @@
+-- the rules of a yard's figures, one after the other
+pub mod Yard

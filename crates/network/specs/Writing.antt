@@ -157,18 +157,20 @@ linkFrom ends sums costs i =
       c2 = getD costs (2 * i + 1) (pos 0);
     }
 
--- the columns of links
-abbrev pub endsOf : List Link → List ℕ
-endsOf [] = []
-endsOf (x ∷ xs) = x .first ∷ x .second ∷ endsOf xs
+-- the ends of links as a column
+abbrev pub endColumn : List Link → List ℕ
+endColumn [] = []
+endColumn (x ∷ xs) = x .first ∷ x .second ∷ endColumn xs
 
-abbrev pub sumsOf : List Link → List ℤ
-sumsOf [] = []
-sumsOf (x ∷ xs) = x .sum ∷ sumsOf xs
+-- their sum costs as a column
+abbrev pub sumColumn : List Link → List ℤ
+sumColumn [] = []
+sumColumn (x ∷ xs) = x .sum ∷ sumColumn xs
 
-abbrev pub costsOf : List Link → List ℤ
-costsOf [] = []
-costsOf (x ∷ xs) = x .c1 ∷ x .c2 ∷ costsOf xs
+-- their ceiling costs as a column
+abbrev pub costColumn : List Link → List ℤ
+costColumn [] = []
+costColumn (x ∷ xs) = x .c1 ∷ x .c2 ∷ costColumn xs
 
 -- the figures of a yard and of columns: as many links as sum costs. All figures come so, by the columns of their links (`columns-say`)
 unfoldable pub figuresFrom : YardFigures → List ℕ → List ℤ → List ℤ → Figures

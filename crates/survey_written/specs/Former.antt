@@ -101,29 +101,33 @@ module _ (s : List ℕ) (l : Layout) (w : Writable l) (fine : Accepted s l) (byt
   unfolding badCount
   counted e = eqb-true _ _ (not-false _ (rw e at (fine .yard .count)))
 
-  -- the yard record, with a link count
-  with-count : hasCount l ≡ true → yardBytes l (figuresIn l s .yard) m ≡ take (l .yard .size) s
-  unfolding yardBytes figuresIn numbersFrom
-  with-count e =
+  -- the yard record, by the bytes behind its shared fields and its size
+  yard-by : (rest : List ℕ) (size : ℕ) → cond (hasCount l) (littleEndian 1 m) [] ≡ rest → l .yard .size ≡ size
+      → byteAt s 0 ∷ byteAt s 1 ∷ byteAt s 2 ∷ byteAt s 3 ∷ byteAt s 4 ∷ byteAt s 5 ∷ rest ≡ map (byteAt s) (numbersFrom size 0)
+      → yardBytes l (figuresIn l s .yard) m ≡ take (l .yard .size) s
+  unfolding yardBytes figuresIn
+  yard-by rest size count e bytes-are =
       let mark = opening s (l .yard .mark) (w .marked) (fine .yard .mark) in
-      let size : l .yard .size ≡ 7 = w .size ∙ ap (λ (b : Bool). yardSize + cond b 1 0) e in
+      ap₂ (λ (a b : List ℕ). a ++ (byteAt s 2 ∷ byteAt s 3 ∷ byteAt s 4 ∷ byteAt s 5 ∷ b)) mark count
+      ∙ bytes-are
+      ∙ sym (window size 0 s (omega (arith, fine .records .size)))
+      ∙ ap (λ (k : ℕ). take k s) (sym e)
+
+  -- with a link count
+  with-count : hasCount l ≡ true → yardBytes l (figuresIn l s .yard) m ≡ take (l .yard .size) s
+  unfolding numbersFrom
+  with-count e =
       let at : l .count ≡ 6 = w .counted ∙ ap (λ (b : Bool). cond b yardSize 0) e in
       let written : byteAt s 6 ≡ m = ap (byteAt s) (sym at) ∙ counted e in
       let byte : m % 256 ≡ byteAt s 6 = omega (arith, written, fine .yard .few-links) in
-      ap₂ (λ (a b : List ℕ). a ++ (byteAt s 2 ∷ byteAt s 3 ∷ byteAt s 4 ∷ byteAt s 5 ∷ b)) mark
-      (ap (λ (b : Bool). cond b (littleEndian 1 m) []) e ∙ ap (λ (x : ℕ). x ∷ []) byte)
-      ∙ sym (window 7 0 s (omega (arith, fine .records .size)))
-      ∙ ap (λ (k : ℕ). take k s) (sym size)
+      yard-by (byteAt s 6 ∷ []) 7 (ap (λ (b : Bool). cond b (littleEndian 1 m) []) e ∙ ap (λ (x : ℕ). x ∷ []) byte)
+      (w .size ∙ ap (λ (b : Bool). yardSize + cond b 1 0) e) refl
 
   -- and without one
   without-count : hasCount l ≡ false → yardBytes l (figuresIn l s .yard) m ≡ take (l .yard .size) s
-  unfolding yardBytes figuresIn numbersFrom
+  unfolding numbersFrom
   without-count e =
-      let mark = opening s (l .yard .mark) (w .marked) (fine .yard .mark) in
-      let size : l .yard .size ≡ 6 = w .size ∙ ap (λ (b : Bool). yardSize + cond b 1 0) e in
-      ap₂ (λ (a b : List ℕ). a ++ (byteAt s 2 ∷ byteAt s 3 ∷ byteAt s 4 ∷ byteAt s 5 ∷ b)) mark (ap (λ (b : Bool). cond b (littleEndian 1 m) []) e)
-      ∙ sym (window 6 0 s (omega (arith, fine .records .size)))
-      ∙ ap (λ (k : ℕ). take k s) (sym size)
+      yard-by [] 6 (ap (λ (b : Bool). cond b (littleEndian 1 m) []) e) (w .size ∙ ap (λ (b : Bool). yardSize + cond b 1 0) e) refl
 
   -- THE THEOREM: its former bytes
   pub survey-former : surveyIn l (figuresIn l s) ≡ s

@@ -7,16 +7,16 @@ use native.Mathlib.Omega.{arith}
 use lib.IntN.{pos}
 use lib.ListN.{getD, length}
 use Rattle.order.specs.Lists.{numbersFrom}
-use Rattle.network.specs.Writing.{Figures, Link, costsOf, endsOf, figuresFrom, linkFrom, noLink, noStation, sumsOf}
+use Rattle.network.specs.Writing.{Figures, Link, costColumn, endColumn, figuresFrom, linkFrom, noLink, noStation, sumColumn}
 use Rattle.survey_written.specs.ReadBack.{map-numbers}
 
 -- as many sum costs as links
-sums-many : (xs : List Link) → length (sumsOf xs) ≡ length xs
+sums-many : (xs : List Link) → length (sumColumn xs) ≡ length xs
 sums-many [] = refl
 sums-many (x ∷ xs) = ap suc (sums-many xs)
 
 -- link i of the columns of links is link i
-column-link : (xs : List Link) (i : ℕ) → i < length xs → linkFrom (endsOf xs) (sumsOf xs) (costsOf xs) i ≡ getD xs i noLink
+column-link : (xs : List Link) (i : ℕ) → i < length xs → linkFrom (endColumn xs) (sumColumn xs) (costColumn xs) i ≡ getD xs i noLink
 column-link [] i h = absurd (omega arith)
 column-link (x ∷ xs) zero h = refl
 column-link (x ∷ xs) (suc i) h = step ∙ column-link xs i (omega arith)
@@ -27,22 +27,22 @@ column-link (x ∷ xs) (suc i) h = step ∙ column-link xs i (omega arith)
     after : 2 * suc i + 1 ≡ suc (suc (2 * i + 1))
     after = omega arith
 
-    step : linkFrom (endsOf (x ∷ xs)) (sumsOf (x ∷ xs)) (costsOf (x ∷ xs)) (suc i) ≡ linkFrom (endsOf xs) (sumsOf xs) (costsOf xs) i
+    step : linkFrom (endColumn (x ∷ xs)) (sumColumn (x ∷ xs)) (costColumn (x ∷ xs)) (suc i) ≡ linkFrom (endColumn xs) (sumColumn xs) (costColumn xs) i
     step =
         λ k.
         record {
-          first = getD (endsOf (x ∷ xs)) (twice k) noStation;
-          second = getD (endsOf (x ∷ xs)) (after k) noStation;
-          sum = getD (sumsOf xs) i (pos 0);
-          c1 = getD (costsOf (x ∷ xs)) (twice k) (pos 0);
-          c2 = getD (costsOf (x ∷ xs)) (after k) (pos 0);
+          first = getD (endColumn (x ∷ xs)) (twice k) noStation;
+          second = getD (endColumn (x ∷ xs)) (after k) noStation;
+          sum = getD (sumColumn xs) i (pos 0);
+          c1 = getD (costColumn (x ∷ xs)) (twice k) (pos 0);
+          c2 = getD (costColumn (x ∷ xs)) (after k) (pos 0);
         }
 
 -- THE THEOREM: the columns of the links of any figures say these figures
-pub columns-say : (f : Figures) → figuresFrom (f .yard) (endsOf (f .links)) (sumsOf (f .links)) (costsOf (f .links)) ≡ f
+pub columns-say : (f : Figures) → figuresFrom (f .yard) (endColumn (f .links)) (sumColumn (f .links)) (costColumn (f .links)) ≡ f
 unfolding figuresFrom
 columns-say f =
     let xs : List Link = f .links in
-    let link : ℕ → Link = linkFrom (endsOf xs) (sumsOf xs) (costsOf xs) in
+    let link : ℕ → Link = linkFrom (endColumn xs) (sumColumn xs) (costColumn xs) in
     let links = ap (λ (n : ℕ). map link (numbersFrom n 0)) (sums-many xs) ∙ map-numbers link noLink xs 0 (λ i h. rw (zero-add i) (column-link xs i h)) in
     λ k. record { yard = f .yard; links = links k }

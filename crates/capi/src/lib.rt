@@ -100,9 +100,12 @@ pub extern "C" fn ranqustei_write_survey(
     costs: &[i16],
     survey: &mut [u8],
 ) -> Status
-    ensures reply { λ r. ⌜ r ≡ writeStatus kind (figuresFrom yard (now (ends .entry)) (now (sums .entry)) (now (costs .entry))) (length (now (survey .entry))) ⌝ }
-    ensures leaves { λ _. ⌜ now (survey .exit) ≡ writeAfter kind (figuresFrom yard (now (ends .entry)) (now (sums .entry)) (now (costs .entry))) (now (survey .entry)) ⌝ }
-    ensures promised { λ r. ⌜ WritePromised kind (figuresFrom yard (now (ends .entry)) (now (sums .entry)) (now (costs .entry))) (now (survey .entry)) r (now (survey .exit)) ⌝ }
+    ensures reply { λ r. ⌜ r ≡ writeStatus kind
+        (figuresFrom yard (now (ends .entry)) (now (sums .entry)) (now (costs .entry))) (length (now (survey .entry))) ⌝ }
+    ensures leaves { λ _. ⌜ now (survey .exit) ≡ writeAfter kind
+        (figuresFrom yard (now (ends .entry)) (now (sums .entry)) (now (costs .entry))) (now (survey .entry)) ⌝ }
+    ensures promised { λ r. ⌜ WritePromised kind
+        (figuresFrom yard (now (ends .entry)) (now (sums .entry)) (now (costs .entry))) (now (survey .entry)) r (now (survey .exit)) ⌝ }
 {
     planner::write_survey(kind, yard, ends, sums, costs, survey)
 }

@@ -10,7 +10,8 @@ use mir.Syntax.{w16, w32}
 use Rattle.order.specs.Lists.{numbersFrom}
 use Rattle.network.specs.Limits.{maxCeilings, maxLinks, maxStations}
 use Rattle.network.specs.Bytes.{bitsOf, byteAt, littleEndian}
-use Rattle.network.specs.Survey.{ceilingsIn, costIn, endIn, hasCount, layoutOf, linkCount, linkStart, plain, rankIn, rowWhere, stationsIn, sumIn, withCount}
+use Rattle.network.specs.Survey.{ceilingsIn, costIn, endIn, hasCount, layoutOf, linkCount, linkStart, plain, rankIn, rowWhere, stationsIn}
+use Rattle.network.specs.Survey.{sumIn, withCount}
 use Rattle.network.specs.PlanList.{join}
 use Rattle.network.specs.Checked.{firstRefusal, refuseIf, _orElse_}
 use Rattle.network.specs.Refusals.{badCosts, badEnds, badRanks, outside}

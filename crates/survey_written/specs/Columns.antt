@@ -130,7 +130,8 @@ module _ (ends : List ℕ) (sums costs : List ℤ) (full : Full ends sums costs)
   pub fits-more : ((j : ℕ) → j < i → Fitting (linkFrom ends sums costs j)) → (j : ℕ) → j < i + 1 → Fitting (linkFrom ends sums costs j)
   fits-more before j less = ⊎-elim (λ (e : j ≡ i). rw e fits) (λ (l : j < i). before j l) (eq-or-lt-of-le (omega arith))
 
-  module _ (y : YardFigures) {c : Checked} (q : c ≡ linkFiguresChecked y (linkRead ends sums costs i) (i + 1)) (so-far : columnsChecked y ends sums costs i ≡ Fine) where
+  module _ (y : YardFigures) {c : Checked} (q : c ≡ linkFiguresChecked y (linkRead ends sums costs i) (i + 1))
+      (so-far : columnsChecked y ends sums costs i ≡ Fine) where
     checked : c ≡ linkFiguresChecked y (linkFrom ends sums costs i) (i + 1)
     checked = q ∙ ap (λ (x : Link). linkFiguresChecked y x (i + 1)) link-read
 

@@ -88,7 +88,8 @@ module _ (s : List ℕ) (l : Layout) (w : Writable l) (fine : Accepted s l) (byt
   unfolding numbersFrom
   links-former zero k h = refl
   links-former (suc n) k h =
-      let first = link-former s (l .link .mark) (linkStart l k) bytes (inside (fine .records) k (omega arith)) (w .link-marked) (fine .link k (omega arith) .marked) in
+      let room = inside (fine .records) k (omega arith) in
+      let first = link-former s (l .link .mark) (linkStart l k) bytes room (w .link-marked) (fine .link k (omega arith) .marked) in
       let next : linkStart l (suc k) ≡ linkStart l k + linkSize = let e = suc-mul k (l .link .size) in omega (arith, w .link-size) in
       let more : suc n * linkSize ≡ linkSize + n * linkSize = let e = suc-mul n linkSize in omega arith in
       ap₂ (λ (a b : List ℕ). a ++ b) first (links-former n (suc k) (omega arith) ∙ ap (λ (j : ℕ). take (n * linkSize) (drop j s)) next)

@@ -64,7 +64,8 @@ fields-written (a ∷ b ∷ []) d y two e₁ e₂ e₃ e₄ e₅ =
     overwrite-chain d 0 (a ∷ b ∷ y .n ∷ y .p ∷ y .k1 ∷ []) 5 (y .k2 ∷ []) e₅ to5 refl fits
 fields-written (a ∷ b ∷ c ∷ mark) d y two e₁ e₂ e₃ e₄ e₅ = absurd (omega arith)
 
-module _ (l : Layout) (w : Writable l) (y : YardFigures) (m : ℕ) (few : m ≤ maxLinks) (d : List ℕ) {o : List ℕ} (e : o ≡ overwrite d 0 (fieldBytes (l .yard .mark) y)) where
+module _ (l : Layout) (w : Writable l) (y : YardFigures) (m : ℕ) (few : m ≤ maxLinks) (d : List ℕ) {o : List ℕ}
+    (e : o ≡ overwrite d 0 (fieldBytes (l .yard .mark) y)) where
   -- the fields and the link count behind them
   pub yard-counted : 0 < l .count → {o′ : List ℕ} → o′ ≡ overwrite o (l .count) (m ∷ []) → o′ ≡ overwrite d 0 (yardBytes l y m)
   unfolding yardBytes

@@ -32,7 +32,8 @@ write-full-requires : tie.Need-write-full-requires
 write-full-requires c κs =
     let test = c .before in
     let yard = test .before .before .before in
-    (yard .before .before .before .layout-for .ensures .1, long-enough _ _ _ _ (sym (yard .check-yard .ensures) ∙ test .before .enum-told .given .1) (test .if2 .taken))
+    let fine = sym (yard .check-yard .ensures) ∙ test .before .enum-told .given .1 in
+    (yard .before .before .before .layout-for .ensures .1, long-enough _ _ _ _ fine (test .if2 .taken))
 
 same-length : tie.Need-same-length
 same-length c = search needs

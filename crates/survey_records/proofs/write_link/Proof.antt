@@ -73,7 +73,8 @@ returns c =
     let s = rw (toZ-ofZ w32 (g .sum) (start .fits .sum)) at (sum .write-i32 .ensures) in
     let c1 = rw (toZ-ofZ w16 (g .c1) (start .fits .c1)) at (first .write-i16 .ensures) in
     let c2 = rw (toZ-ofZ w16 (g .c2) (start .fits .c2)) at (second .write-i162 .ensures) in
-    link-written (g .t3) (now (g .out)) (g .at) x (two start) (omega (arith, start .pre)) (mark .copy-in .ensures) (a .write-u8 .ensures) (b .write-u82 .ensures) s c1 c2
+    link-written (g .t3) (now (g .out)) (g .at) x (two start) (omega (arith, start .pre))
+    (mark .copy-in .ensures) (a .write-u8 .ensures) (b .write-u82 .ensures) s c1 c2
 
 pub write-link-spec : {M : Type 1} → statement M
 write-link-spec =

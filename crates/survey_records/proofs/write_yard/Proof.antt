@@ -39,7 +39,8 @@ returns c =
     let test = count .before .before in
     let fields = test .before .before .before in
     let start = fields .before .before .before .before .before in
-    yard-counted (start .args .l) (start .pre .0) (start .args .y) (start .args .m) (start .pre .2) (now (start .args .out)) (fields .write-fields .ensures) (test .if1 .taken)
+    yard-counted (start .args .l) (start .pre .0) (start .args .y) (start .args .m) (start .pre .2) (now (start .args .out))
+    (fields .write-fields .ensures) (test .if1 .taken)
     (count .write-u8 .ensures)
 
 same-length-2 : tie.Need-same-length-2
@@ -49,7 +50,8 @@ returns-2 : tie.Need-returns-2
 returns-2 c =
     let fields = c .before .before .before in
     let start = fields .before .before .before .before .before in
-    yard-uncounted (start .args .l) (start .pre .0) (start .args .y) (start .args .m) (start .pre .2) (now (start .args .out)) (fields .write-fields .ensures) (c .if1 .left)
+    yard-uncounted (start .args .l) (start .pre .0) (start .args .y) (start .args .m) (start .pre .2) (now (start .args .out))
+    (fields .write-fields .ensures) (c .if1 .left)
 
 pub write-yard-spec : {M : Type 1} → statement M
 write-yard-spec =

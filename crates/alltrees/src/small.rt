@@ -208,7 +208,7 @@ fn yard_size(yard: Yard) -> u8 {
 }
 
 // The byte of the survey at an index.
-fn survey_byte(yard: Yard, i: usize) -> u8 {
+pub fn survey_byte(yard: Yard, i: usize) -> u8 {
     let first = yard_size(yard) as usize;
     if i < first {
         return byte(yard_record(yard), (i % 8) as u8);

@@ -3,6 +3,7 @@
 mod lists;
 mod lookups;
 mod questions;
+mod surveys;
 mod tally;
 
 use alltrees::listing::trees_of;
@@ -26,7 +27,8 @@ fn compare(survey: &[u8], yard: Yard, tally: Tally) -> Tally {
     let asked = questions::differences(survey, yard.kind, trees);
     let listed = lists::differences(survey, yard, trees, plans);
     let looked = lookups::differences(survey, yard.kind, trees, plans);
-    tally.yard(plans.trees, plans.plans, asked, listed, looked)
+    let written = surveys::differences(yard, trees, plans);
+    tally.yard(plans.trees, plans.plans, asked, listed, looked, written)
 }
 
 fn main() {

@@ -3,6 +3,7 @@ use crate::indexing::index_call;
 use crate::indexing::many_call;
 use crate::report::answer;
 use crate::report::status;
+use crate::writing::write_call;
 use console::item;
 use console::line::Line;
 use console::part;
@@ -90,6 +91,7 @@ pub fn call(survey: &[u8], line: Line) {
         b'a' | b'p' | b'f' => lend(survey, word, ns[0] as usize, ns[1], ns[2], ns[3]),
         b'i' | b'v' => index_call(survey, line),
         b'm' => many_call(line),
+        b'o' => write_call(survey, line),
         _ => return,
     }
     text(b"\n");

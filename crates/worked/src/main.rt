@@ -23,12 +23,15 @@
 //     index L                 building the list's index, and the index buffer of L bytes after it
 //     value L V I X J Y       the lookup by V in the index built in L bytes, with byte I as X and byte J as Y, or as it was built
 //     many L COUNT P V        building and the lookup on a list of COUNT plans, with the ends of the index buffer of L bytes
+//     output L KIND E C       writing the survey of the figures that its bytes have, legal or not, with a yard record of KIND, and the output of L bytes
+//                             after it; E ends and C ceiling costs are handed in, or two a link where the line does not say how many
 //
 // The first letter of the word counts. A line with any other word is a remark.
 mod calls;
 mod indexing;
 mod many;
 mod report;
+mod writing;
 mod yard;
 
 use console::line::Line;

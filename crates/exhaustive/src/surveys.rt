@@ -1,0 +1,72 @@
+// Surveys written from the figures of a yard with both kinds of yard record, held against its surveys and the plans among the trees listed.
+use crate::lists;
+use alltrees::answers::DIRT;
+use alltrees::figures::figures_of;
+use alltrees::figures::is_survey;
+use alltrees::figures::other_kind;
+use alltrees::listing::SETS;
+use alltrees::plans::Plans;
+use alltrees::small::Yard;
+use alltrees::small::byte;
+use alltrees::small::length;
+use console::part;
+use network::Status;
+use network::YardFigures;
+use planner::write_survey;
+use std::num::wrapping_add_u64;
+
+// One byte more than the longest survey here.
+const ROOM: usize = 92;
+
+// The kind of yard record that has no link count.
+const UNCOUNTED: u32 = 0x5944;
+
+// The first entries of a column, or none where they are not all there.
+fn first(sums: &[i32], count: usize) -> &[i32] {
+    if count <= sums.len() {
+        return &sums[0..count];
+    }
+    &sums[..0]
+}
+
+// The figures of the yard record.
+fn yard_figures(kind: u64) -> YardFigures {
+    YardFigures {
+        n: byte(kind, 0),
+        p: byte(kind, 1),
+        k1: byte(kind, 2),
+        k2: byte(kind, 3),
+    }
+}
+
+// The call with the figures of a yard, and with ends and costs of links that it does not have.
+fn write(yard: Yard, output: &mut [u8]) -> Status {
+    let figures = figures_of(yard);
+    let ends = figures.ends;
+    let sums = figures.sums;
+    let costs = figures.costs;
+    write_survey(
+        UNCOUNTED + (yard.counted % 2) as u32,
+        yard_figures(yard.kind),
+        &ends,
+        first(&sums, yard.m as usize),
+        &costs,
+        output,
+    )
+}
+
+// 1 where the reply or the output differs from what is wanted.
+fn differs(yard: Yard, output: &mut [u8]) -> u64 {
+    let reply = write(yard, output);
+    !((reply.number == 0) & (reply.place == 0) & is_survey(output, yard)) as u64
+}
+
+// How often the planner differs: in writing the survey with both kinds, and in listing the one with the other kind.
+pub fn differences(yard: Yard, trees: [u64; SETS], plans: Plans) -> u64 {
+    let other = other_kind(yard);
+    let mut own = [DIRT; ROOM];
+    let mut output = [DIRT; ROOM];
+    let written = wrapping_add_u64(differs(yard, &mut own), differs(other, &mut output));
+    let listed = lists::differences(part(&output, 0, length(other)), other, trees, plans);
+    wrapping_add_u64(written, listed)
+}

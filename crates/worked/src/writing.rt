@@ -1,0 +1,132 @@
+// The call that writes a survey, with its reply printed.
+use crate::calls::DIRT;
+use crate::report::status;
+use console::line::Line;
+use console::line::NUMBERS;
+use console::part;
+use console::row;
+use encoding_signed::read_i16;
+use encoding_signed::read_i32;
+use network::YardFigures;
+use network::limits::LINK_SIZE;
+use network::limits::MAX_LINKS;
+use network::limits::YARD_SIZE;
+use planner::write_survey;
+use std::num::wrapping_add_usize;
+
+// One link too many.
+const LINKS: usize = MAX_LINKS + 1;
+
+// More bytes than a survey of as many links as there may be.
+const ROOM: usize = 16 * LINKS;
+
+// The figures of links by column; past the last link they are 0.
+struct Columns {
+    pub ends: [u8; 2 * LINKS],
+    pub sums: [i32; LINKS],
+    pub costs: [i16; 2 * LINKS],
+}
+
+impl Columns {
+    // With link e of a record, where it is whole.
+    fn link(mut self, e: usize, record: &[u8]) -> Columns {
+        let at = e % LINKS;
+        if record.len() < LINK_SIZE {
+            return self;
+        }
+        self.ends[2 * at] = record[2];
+        self.ends[2 * at + 1] = record[3];
+        self.sums[at] = read_i32(record, 4);
+        self.costs[2 * at] = read_i16(record, 8);
+        self.costs[2 * at + 1] = read_i16(record, 10);
+        self
+    }
+}
+
+// Byte i of a survey that has it.
+fn byte(survey: &[u8], i: usize) -> u8 {
+    if i < survey.len() { survey[i] } else { 0 }
+}
+
+// What the bytes of a yard record say, legal or not.
+fn yard_of(survey: &[u8]) -> YardFigures {
+    YardFigures {
+        n: byte(survey, 2),
+        p: byte(survey, 3),
+        k1: byte(survey, 4),
+        k2: byte(survey, 5),
+    }
+}
+
+// The link records, which begin a byte later behind the mark 59 45.
+fn records(survey: &[u8]) -> &[u8] {
+    let first = YARD_SIZE + (byte(survey, 1) % 2) as usize;
+    part(survey, first, survey.len())
+}
+
+// The figures of all link records.
+fn columns_of(records: &[u8]) -> Columns {
+    let mut columns = Columns {
+        ends: [0; 2 * LINKS],
+        sums: [0; LINKS],
+        costs: [0; 2 * LINKS],
+    };
+    for e in 0..LINKS {
+        columns = columns.link(e, part(records, LINK_SIZE * e, LINK_SIZE * (e + 1)));
+    }
+    columns
+}
+
+// The first entries of a column, or none where they are not all there.
+fn first_sums(sums: &[i32], count: usize) -> &[i32] {
+    if count <= sums.len() {
+        return &sums[0..count];
+    }
+    &sums[..0]
+}
+
+fn first_costs(costs: &[i16], count: usize) -> &[i16] {
+    if count <= costs.len() {
+        return &costs[0..count];
+    }
+    &costs[..0]
+}
+
+// How many entries a line has handed in: number i of it, or two a link where it has no such number.
+fn entries(line: Line, i: usize, m: usize) -> usize {
+    let numbers = line.numbers;
+    if i < line.count {
+        return numbers[i % NUMBERS] as usize;
+    }
+    wrapping_add_usize(m, m)
+}
+
+// The call, and the output after it.
+fn write(survey: &[u8], line: Line, output: &mut [u8]) {
+    let ns = line.numbers;
+    let links = records(survey);
+    let m = links.len() / LINK_SIZE;
+    let columns = columns_of(links);
+    let ends = columns.ends;
+    let sums = columns.sums;
+    let costs = columns.costs;
+    status(write_survey(
+        ns[1],
+        yard_of(survey),
+        part(&ends, 0, entries(line, 2, m)),
+        first_sums(&sums, m),
+        first_costs(&costs, entries(line, 3, m)),
+        output,
+    ));
+    row(b" survey", output);
+}
+
+// The same with an output of so many bytes.
+pub fn write_call(survey: &[u8], line: Line) {
+    let ns = line.numbers;
+    let size = ns[0] as usize;
+    let mut space = [DIRT; ROOM];
+    if size <= ROOM {
+        write(survey, line, &mut space[0..size]);
+    }
+}

@@ -12,3 +12,5 @@ pub mod Handed
 pub mod Former
 -- writes that make its records
 pub mod Written
+-- surveys that say the same figures are planned alike
+pub mod Planned

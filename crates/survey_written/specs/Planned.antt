@@ -11,6 +11,7 @@ use Rattle.order.specs.Sorted.{number-at, numbers-length}
 use Rattle.network.specs.Limits.{maxCeilings, maxLinks}
 use Rattle.network.specs.Column.{column}
 use Rattle.network.specs.Survey.{costIn, costsIn, endIn, endsIn, layoutOf, linkCount, linkStart, networkOf, networkWith, raised, sumsIn}
+use Rattle.network.specs.Accepted.{below-two}
 use Rattle.network.specs.Alike.{Alike, alike}
 use Rattle.network.specs.Writing.{Figures, Link, figuresIn, figuresOf, linkIn, noLink}
 use Rattle.network.specs.WritingPromise.{Says}
@@ -52,12 +53,6 @@ column-agree size filler f g zero e = refl
 column-agree size filler f g (suc m) e =
     ap₂ (λ l x. set l m x) (column-agree size filler f g m (λ i h. e i (omega arith))) (e m (omega arith))
 
--- what holds of both ends, or of both costs, holds of each
-both : (P : ℕ → Type 0) → P 0 → P 1 → (j : ℕ) → j < 2 → P j
-both P a b zero h = a
-both P a b (suc zero) h = b
-both P a b (suc (suc j)) h = absurd (omega arith)
-
 module _ (l : Layout) (s : List ℕ) where
   abbrev m : ℕ
   m = linkCount l s
@@ -80,7 +75,7 @@ module _ (l : Layout) (s : List ℕ) where
   unfolding endsIn
   ends-same =
       column-agree (2 * maxLinks) 0 _ _ (2 * m) (λ q h.
-      both (λ j. endIn s (linkStart l (q / 2)) j ≡ endAt (linkIn s (linkStart l (q / 2))) j) refl refl (q % 2) (omega arith)
+      below-two (λ j. endIn s (linkStart l (q / 2)) j ≡ endAt (linkIn s (linkStart l (q / 2))) j) refl refl (q % 2) (omega arith)
       ∙ ap (λ (x : Link). endAt x (q % 2)) (sym (link (q / 2) (omega arith))))
 
   sums-same : sumsIn l s m ≡ column maxLinks 0 (λ i. raised (linkOf f i .sum)) m
@@ -92,7 +87,7 @@ module _ (l : Layout) (s : List ℕ) where
   unfolding costsIn
   costs-same =
       column-agree (maxCeilings * maxLinks) (pos 0) _ _ (maxCeilings * m) (λ q h.
-      both (λ j. costIn s (linkStart l (q / 2)) j ≡ costAt (linkIn s (linkStart l (q / 2))) j) refl refl (q % 2) (omega arith)
+      below-two (λ j. costIn s (linkStart l (q / 2)) j ≡ costAt (linkIn s (linkStart l (q / 2))) j) refl refl (q % 2) (omega arith)
       ∙ ap (λ (x : Link). costAt x (q % 2)) (sym (link (q / 2) (omega arith))))
 
   network-figures : networkWith l s m ≡ networkFrom f

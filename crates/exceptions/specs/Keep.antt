@@ -17,7 +17,7 @@ use Rattle.order.specs.Test.{Decided, by-test, clash, decide, left, right}
 use Rattle.order.specs.Lists.{_∈_, count, filter, sublist-⊆}
 use Rattle.spanning.specs.Labelling.{crosses}
 use Rattle.spanning.specs.LabelList.{labelOf}
-use Rattle.network.specs.Limits.{maxLinks, maxPatterns}
+use Rattle.network.specs.Capacities.{linksHeld, patternsHeld}
 use Rattle.kmax.specs.Ceilings.{slackOf}
 use Rattle.kmax.specs.Digits.{admits, admits-few, marked}
 use Rattle.forest.specs.Groups.{apart, joined}
@@ -33,7 +33,7 @@ nobody = record { leader = [] }
 
 -- nothing joined, for each pattern
 unfoldable pub separate : List Forest
-separate = replicate maxPatterns apart
+separate = replicate patternsHeld apart
 
 module _ (ends patterns : List ℕ) (fit : List Bool) where
   -- link e is kept: its pattern is fit for exceptions, and it joins two groups of that pattern
@@ -94,12 +94,12 @@ module _ (ends patterns : List ℕ) (fit : List Bool) where
         go (inr s) (inr j) more rest = rw (j, s) rest
 
   -- from the start
-  kept-separate : (q : ℕ) → q < maxPatterns → getD fit q false ≡ true → (l : List ℕ)
+  kept-separate : (q : ℕ) → q < patternsHeld → getD fit q false ≡ true → (l : List ℕ)
       → filter (λ e. eqb (patternAt patterns e) q) (keptBy separate l) ≡ kept ends apart (filter (λ e. eqb (patternAt patterns e) q) l)
   unfolding separate
   kept-separate q h o l =
-      kept-pattern q o (replicate maxPatterns apart) (omega (arith, length-replicate maxPatterns apart)) l
-      ∙ ap (λ (f : Forest). kept ends f (filter (λ e. eqb (patternAt patterns e) q) l)) (getD-replicate maxPatterns q apart nobody h)
+      kept-pattern q o (replicate patternsHeld apart) (omega (arith, length-replicate patternsHeld apart)) l
+      ∙ ap (λ (f : Forest). kept ends f (filter (λ e. eqb (patternAt patterns e) q) l)) (getD-replicate patternsHeld q apart nobody h)
 
   -- the links that are kept are links of the list, in its order,
   by-sublist : (fs : List Forest) (l : List ℕ) → Sublistᴰ (keptBy fs l) l
@@ -153,7 +153,7 @@ unfoldable pub keptExceptions : List ℕ → List ℕ → List ℕ → List ℕ 
 keptExceptions ends patterns ks l = keptBy ends patterns (fitOf ks) separate l
 
 pub kept-whole : (ends patterns ks l : List ℕ) (fit : List Bool) (alone : Forest) → fit ≡ fitOf ks → alone ≡ apart
-    → keptBy ends patterns fit (replicate maxPatterns alone) l ≡ keptExceptions ends patterns ks l
+    → keptBy ends patterns fit (replicate patternsHeld alone) l ≡ keptExceptions ends patterns ks l
 unfolding keptExceptions separate
 kept-whole ends patterns ks l fit alone e f = rw (e, f)
 
@@ -164,11 +164,11 @@ pub record Exceptions (ks patterns l : List ℕ) : Type 0 where
 
 module _ (ks patterns : List ℕ) (P : Patterned ks patterns) where
   -- there is room for a pattern of each kind
-  pub pattern-known : (e : ℕ) → e < maxLinks → patternAt patterns e < maxPatterns
+  pub pattern-known : (e : ℕ) → e < linksHeld → patternAt patterns e < patternsHeld
   pattern-known e h = omega (arith, P .digits e h, pow-le-pow-right {n = 2} (omega arith) (P .few))
 
   -- there are none where no rank is above 1
-  pub no-exceptions : slackOf ks ≡ 0 → (l : List ℕ) → ((x : ℕ) → x ∈ l → x < maxLinks) → Exceptions ks patterns l → length l ≡ 0
+  pub no-exceptions : slackOf ks ≡ 0 → (l : List ℕ) → ((x : ℕ) → x ∈ l → x < linksHeld) → Exceptions ks patterns l → length l ≡ 0
   unfolding admitted
   no-exceptions none [] below E = refl
   no-exceptions none (x ∷ l) below E =
@@ -183,7 +183,7 @@ module _ (ends ks patterns l : List ℕ) (P : Patterned ks patterns) where
   unfolding keptExceptions
   exceptions-sublist = by-sublist ends patterns (fitOf ks) separate l
 
-  module _ (below : (x : ℕ) → x ∈ l → x < maxLinks) where
+  module _ (below : (x : ℕ) → x ∈ l → x < linksHeld) where
     fit : (x : ℕ) → x ∈ keptExceptions ends patterns ks l → marked (patternAt patterns x) && admits ks (patternAt patterns x ∷ []) ≡ true
     unfolding keptExceptions
     fit x m =
@@ -199,7 +199,7 @@ module _ (ends ks patterns l : List ℕ) (P : Patterned ks patterns) where
         }
 
   -- of a pattern that may be excepted, those that Kruskal's method keeps of its links
-  pub exceptions-of : (q : ℕ) → q < maxPatterns → marked q && admits ks (q ∷ []) ≡ true
+  pub exceptions-of : (q : ℕ) → q < patternsHeld → marked q && admits ks (q ∷ []) ≡ true
       → filter (λ e. eqb (patternAt patterns e) q) (keptExceptions ends patterns ks l) ≡ kept ends apart (filter (λ e. eqb (patternAt patterns e) q) l)
   unfolding keptExceptions
   exceptions-of q h e = kept-separate ends patterns (fitOf ks) q h (fit-at ks q h ∙ e) l

@@ -14,7 +14,7 @@ use Rattle.order.specs.Order.{orderℕ, pair-first, pairs}
 use Rattle.order.specs.Perm.{pairwise-imp, pairwise-sublist}
 use Rattle.order.specs.Sorted.{Sorted, sort-sorted}
 use Rattle.order.specs.Least.{ranked}
-use Rattle.network.specs.Limits.{maxLinks}
+use Rattle.network.specs.Capacities.{linksHeld}
 use Rattle.network.specs.Yard.{sumAt}
 use Rattle.kruskal_order.specs.ByCost.{Cheap, linkOrder, order-below, order-length}
 use Rattle.kruskal.specs.Tree.{Usable, Walkable}
@@ -35,10 +35,10 @@ module _ (p : ℕ → Bool) where
     pub turns : k ≤ end
     pub all : end ≡ length l
     pub fewer : n ≤ k
-    pub size : length link ≡ maxLinks
+    pub size : length link ≡ linksHeld
     pub passed : take n link ≡ filter p (take k l)
 
-  pub collect-start : (l link : List ℕ) → length link ≡ maxLinks → Collected l link 0 0 (length l)
+  pub collect-start : (l link : List ℕ) → length link ≡ linksHeld → Collected l link 0 0 (length l)
   collect-start l link s = record { turns = omega arith; all = refl; fewer = omega arith; size = s; passed = refl }
 
   -- one link more
@@ -51,7 +51,7 @@ module _ (p : ℕ → Bool) where
       go false = rw (add-zero, append-nil) (take-set-le n link n e (le-refl n))
 
   module _ {sums l link : List ℕ} {n k end : ℕ} (walk : Walkable sums l) (c : Collected l link n k end) where
-    pub collect-room : k < end → n < maxLinks
+    pub collect-room : k < end → n < linksHeld
     collect-room h = omega (arith, walk .few, c .all, c .fewer)
 
     pub collect-turn : {b : Bool} → k < end → b ≡ p (getD l k 0) → Collected l (set link n (getD l k 0)) (n + boolByte b) (k + 1) end
@@ -79,7 +79,7 @@ pub record InOrder (sums l : List ℕ) : Type 0 where
   pub sorted : Sorted orderℕ (sumAt sums) l
 
 module _ (sums : List ℕ) where
-  pub order-in-order : (m : ℕ) {l : List ℕ} → m ≤ maxLinks → Cheap sums m → l ≡ linkOrder sums m → InOrder sums l
+  pub order-in-order : (m : ℕ) {l : List ℕ} → m ≤ linksHeld → Cheap sums m → l ≡ linkOrder sums m → InOrder sums l
   unfolding linkOrder
   order-in-order m h cheap e =
       let key = ranked (sumAt sums) (λ c. c) in

@@ -2,8 +2,8 @@
 use exceptions_admitted::fit_patterns;
 use forest::Forest;
 use kruskal::links::Links;
-use network::limits::MAX_LINKS;
-use network::limits::MAX_PATTERNS;
+use network::capacities::LINKS_HELD;
+use network::capacities::PATTERNS_HELD;
 ghost use Rattle.kruskal.specs.Tree.{Columns, Walkable};
 ghost use Rattle.kruskal.specs.Base.{Holding};
 ghost use Rattle.exceptions_patterns.specs.Patterns.{Patterned};
@@ -16,8 +16,8 @@ pub fn kept_exceptions(ends: &[u8], sums: &[u32], order: &[u8], patterns: &[u8],
 {
     let fit = fit_patterns(ks);
     let alone = Forest::new();
-    let mut forests = [alone; MAX_PATTERNS];
-    let mut link = [0u8; MAX_LINKS];
+    let mut forests = [alone; PATTERNS_HELD];
+    let mut link = [0u8; LINKS_HELD];
     let mut n: usize = 0;
     for k in 0..order.len() {
         let e = order[k];

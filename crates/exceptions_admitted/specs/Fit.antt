@@ -6,13 +6,13 @@ use mathlib.Core.Path.{_≡_}
 use native.Mathlib.Nat.{le-refl}
 use lib.ListN.{getD}
 use Rattle.kmax.specs.Digits.{admits, marked}
-use Rattle.network.specs.Limits.{maxPatterns}
+use Rattle.network.specs.Capacities.{patternsHeld}
 use Rattle.network.specs.Column.{column, column-at}
 
 -- for each pattern, whether links of it may be exceptions
 unfoldable pub fitOf : List ℕ → List Bool
-fitOf ks = column maxPatterns false (λ x. marked x && admits ks (x ∷ [])) maxPatterns
+fitOf ks = column patternsHeld false (λ x. marked x && admits ks (x ∷ [])) patternsHeld
 
-pub fit-at : (ks : List ℕ) (x : ℕ) → x < maxPatterns → getD (fitOf ks) x false ≡ marked x && admits ks (x ∷ [])
+pub fit-at : (ks : List ℕ) (x : ℕ) → x < patternsHeld → getD (fitOf ks) x false ≡ marked x && admits ks (x ∷ [])
 unfolding fitOf
-fit-at ks x h = column-at maxPatterns false (λ x. marked x && admits ks (x ∷ [])) maxPatterns x h (le-refl maxPatterns) false
+fit-at ks x h = column-at patternsHeld false (λ x. marked x && admits ks (x ∷ [])) patternsHeld x h (le-refl patternsHeld) false

@@ -1,5 +1,5 @@
 // Which links may be in a tree though they are above bounds: of each ceiling fewer than its rank.
-use network::limits::MAX_PATTERNS;
+use network::capacities::PATTERNS_HELD;
 ghost use mathlib.Core.Path.{_≡_};
 ghost use mathlib.Core.List.{[], _∷_};
 ghost use Rattle.kmax.specs.Digits.{admits};
@@ -29,11 +29,11 @@ fn admits_alone(ks: &[u8], pattern: u8) -> bool
 }
 
 // For each pattern, whether links of it may be exceptions.
-pub fn fit_patterns(ks: &[u8]) -> [bool; MAX_PATTERNS]
+pub fn fit_patterns(ks: &[u8]) -> [bool; PATTERNS_HELD]
     ensures { λ r. ⌜ r ≡ fitOf (now (ks .entry)) ⌝ }
 {
-    let mut fit = [false; MAX_PATTERNS];
-    for pattern in 0..MAX_PATTERNS {
+    let mut fit = [false; PATTERNS_HELD];
+    for pattern in 0..PATTERNS_HELD {
         fit[pattern] = (pattern != 0) & admits_alone(ks, pattern as u8);
     }
     fit

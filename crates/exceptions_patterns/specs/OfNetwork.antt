@@ -12,12 +12,12 @@ use Rattle.order.specs.Order.{orderℤ}
 use Rattle.kmax.specs.Ceilings.{Ceiling, admissible, exceptional, slackOf}
 use Rattle.kmax.specs.Digits.{admits, admits-admissible, ceilings-ranks, pattern, pattern-none}
 use Rattle.planning.specs.Graph.{under}
-use Rattle.network.specs.Limits.{maxLinks, maxSlack}
+use Rattle.network.specs.Capacities.{linksHeld, exceptionsHeld}
 use Rattle.network.specs.Refusals.{anyBadRank, badRanks}
 use Rattle.network.specs.Accepted.{or-false}
 use Rattle.network.specs.Yard.{bounds, graph, ranks}
 use Rattle.network.specs.NetworkFine.{NetworkFine, graph-sound}
-use Rattle.network.specs.declared.Network.{Network}
+use Rattle.network.specs.Network.{Network}
 use Rattle.exceptions_patterns.specs.Patterns.{Patterned, admitted, normal, patternAt, patterns-at, patterns-below, patterns-size, patternsOf}
 
 -- the patterns of the links under the bounds b1 and b2
@@ -31,10 +31,10 @@ slack-take (suc p) [] = omega arith
 slack-take (suc p) (k ∷ ks) = omega (arith, slack-take p ks)
 
 -- the ranks' rule: no tree that fits has more than two exceptions
-pub net-few : (net : Network) → NetworkFine net → slackOf (ranks net) ≤ maxSlack
+pub net-few : (net : Network) → NetworkFine net → slackOf (ranks net) ≤ exceptionsHeld
 unfolding badRanks
 net-few net fine =
-    let all = ltb-false maxSlack (slackOf (net .k)) (or-false (anyBadRank (net .n) (net .p) 0 (net .k)) _ (fine .ranks) .1) in
+    let all = ltb-false exceptionsHeld (slackOf (net .k)) (or-false (anyBadRank (net .n) (net .p) 0 (net .k)) _ (fine .ranks) .1) in
     omega (arith, slack-take (net .p) (net .k))
 
 module _ (net : Network) (fine : NetworkFine net) (b1 b2 : ℤ) where
@@ -49,18 +49,18 @@ module _ (net : Network) (fine : NetworkFine net) (b1 b2 : ℤ) where
       let k = fine .lengths .0 in
       omega (arith, length-take (net .p) (b1 ∷ b2 ∷ []), length-take (net .p) (net .k))
 
-  pub net-pattern : (e : ℕ) → e < maxLinks → patternAt (netPatterns net b1 b2) e ≡ pattern orderℤ cs e
+  pub net-pattern : (e : ℕ) → e < linksHeld → patternAt (netPatterns net b1 b2) e ≡ pattern orderℤ cs e
   net-pattern e h = patterns-at (net .costs) 0 (ranks net) (bounds net b1 b2) net-bounds e h
 
-  pub net-normal : (e : ℕ) → e < maxLinks → normal (netPatterns net b1 b2) e ≡ not (exceptional orderℤ cs e)
+  pub net-normal : (e : ℕ) → e < linksHeld → normal (netPatterns net b1 b2) e ≡ not (exceptional orderℤ cs e)
   unfolding normal
   net-normal e h = rw (net-pattern e h) (pattern-none orderℤ cs e)
 
-  all-patterns : (X : List ℕ) → ((x : ℕ) → x ∈ X → x < maxLinks) → map (patternAt (netPatterns net b1 b2)) X ≡ map (pattern orderℤ cs) X
+  all-patterns : (X : List ℕ) → ((x : ℕ) → x ∈ X → x < linksHeld) → map (patternAt (netPatterns net b1 b2)) X ≡ map (pattern orderℤ cs) X
   all-patterns [] h = refl
   all-patterns (x ∷ X) h = ap₂ (λ (p : ℕ) (ps : List ℕ). p ∷ ps) (net-pattern x (h x (here refl))) (all-patterns X (λ y m. h y (there m)))
 
-  pub net-admitted : (X : List ℕ) → ((x : ℕ) → x ∈ X → x < maxLinks) → admitted (ranks net) (netPatterns net b1 b2) X ≡ admissible orderℤ cs X
+  pub net-admitted : (X : List ℕ) → ((x : ℕ) → x ∈ X → x < linksHeld) → admitted (ranks net) (netPatterns net b1 b2) X ≡ admissible orderℤ cs X
   unfolding admitted
   net-admitted X h =
       ap₂ (λ (ks ps : List ℕ). admits ks ps) (sym (ceilings-ranks (graph net .cost) 0 (ranks net) (bounds net b1 b2) net-bounds)) (all-patterns X h)

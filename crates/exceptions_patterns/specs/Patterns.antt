@@ -15,7 +15,7 @@ use Rattle.order.specs.Order.{orderℤ}
 use Rattle.kmax.specs.KMax.{above}
 use Rattle.kmax.specs.Ceilings.{ceilings}
 use Rattle.kmax.specs.Digits.{admits, flag, pattern}
-use Rattle.network.specs.Limits.{maxCeilings, maxLinks}
+use Rattle.network.specs.Capacities.{ceilingsHeld, linksHeld}
 use Rattle.network.specs.Column.{column, column-at, column-length}
 use Rattle.network.specs.Yard.{costAt}
 
@@ -33,20 +33,20 @@ admitted ks patterns X = admits ks (map (patternAt patterns) X)
 
 -- a pattern for each link, with a digit for each of the ranks, and no rank is 0
 pub record Patterned (ks patterns : List ℕ) : Type 0 where
-  pub size : length patterns ≡ maxLinks
-  pub few : length ks ≤ maxCeilings
-  pub digits : (e : ℕ) → e < maxLinks → patternAt patterns e < 2 ^ length ks
+  pub size : length patterns ≡ linksHeld
+  pub few : length ks ≤ ceilingsHeld
+  pub digits : (e : ℕ) → e < linksHeld → patternAt patterns e < 2 ^ length ks
   pub positive : (k : ℕ) → k ∈ ks → 0 < k
 
 -- ---- from costs and bounds
 
 -- patterns with a digit more in front, that of ceiling i with the bound b
 unfoldable pub withDigit : List ℤ → ℕ → ℤ → List ℕ → List ℕ
-withDigit costs i b rest = column maxLinks 0 (λ e. flag (above orderℤ b (costAt costs i e)) + 2 * patternAt rest e) maxLinks
+withDigit costs i b rest = column linksHeld 0 (λ e. flag (above orderℤ b (costAt costs i e)) + 2 * patternAt rest e) linksHeld
 
 -- the patterns of all links by the ceilings i, i + 1, .. with the bounds bs
 unfoldable pub patternsBy : List ℤ → ℕ → List ℤ → List ℕ
-patternsBy costs i [] = replicate maxLinks 0
+patternsBy costs i [] = replicate linksHeld 0
 patternsBy costs i (b ∷ bs) = withDigit costs i b (patternsBy costs (suc i) bs)
 
 -- by all ceilings
@@ -55,28 +55,28 @@ patternsOf costs bs = patternsBy costs 0 bs
 
 -- there is a pattern for each link, with room for one digit more
 pub record Room (patterns : List ℕ) : Type 0 where
-  pub size : length patterns ≡ maxLinks
-  pub small : (e : ℕ) → e < maxLinks → patternAt patterns e < 128
+  pub size : length patterns ≡ linksHeld
+  pub small : (e : ℕ) → e < linksHeld → patternAt patterns e < 128
 
 -- ---- what they are
 
 module _ (costs : List ℤ) where
-  pub patterns-size : (i : ℕ) (bs : List ℤ) → length (patternsBy costs i bs) ≡ maxLinks
+  pub patterns-size : (i : ℕ) (bs : List ℤ) → length (patternsBy costs i bs) ≡ linksHeld
   unfolding patternsBy withDigit
-  patterns-size i [] = length-replicate {A = ℕ} maxLinks 0
-  patterns-size i (b ∷ bs) = column-length maxLinks 0 _ maxLinks
+  patterns-size i [] = length-replicate {A = ℕ} linksHeld 0
+  patterns-size i (b ∷ bs) = column-length linksHeld 0 _ linksHeld
 
-  digit-at : (i : ℕ) (b : ℤ) (rest : List ℕ) (e : ℕ) → e < maxLinks
+  digit-at : (i : ℕ) (b : ℤ) (rest : List ℕ) (e : ℕ) → e < linksHeld
       → patternAt (withDigit costs i b rest) e ≡ flag (above orderℤ b (costAt costs i e)) + 2 * patternAt rest e
   unfolding withDigit
   digit-at i b rest e h =
-      column-at maxLinks 0 (λ x. flag (above orderℤ b (costAt costs i x)) + 2 * patternAt rest x) maxLinks e h (le-refl maxLinks) 0
+      column-at linksHeld 0 (λ x. flag (above orderℤ b (costAt costs i x)) + 2 * patternAt rest x) linksHeld e h (le-refl linksHeld) 0
 
   -- the pattern of a link is that of the theory's ceilings, whatever their ranks
-  pub patterns-at : (i : ℕ) (ks : List ℕ) (bs : List ℤ) → length bs ≡ length ks → (e : ℕ) → e < maxLinks
+  pub patterns-at : (i : ℕ) (ks : List ℕ) (bs : List ℤ) → length bs ≡ length ks → (e : ℕ) → e < linksHeld
       → patternAt (patternsBy costs i bs) e ≡ pattern orderℤ (ceilings (costAt costs) i ks bs) e
   unfolding patternsBy pattern
-  patterns-at i [] [] l e h = getD-replicate {A = ℕ} maxLinks e 0 0 h
+  patterns-at i [] [] l e h = getD-replicate {A = ℕ} linksHeld e 0 0 h
   patterns-at i [] (b ∷ bs) l e h = absurd (omega arith)
   patterns-at i (k ∷ ks) [] l e h = absurd (omega arith)
   patterns-at i (k ∷ ks) (b ∷ bs) l e h =
@@ -84,9 +84,9 @@ module _ (costs : List ℤ) where
       ∙ ap (λ (p : ℕ). flag (above orderℤ b (costAt costs i e)) + 2 * p) (patterns-at (suc i) ks bs (suc-inj l) e h)
 
   -- there are as many digits as bounds
-  pub patterns-below : (i : ℕ) (bs : List ℤ) (e : ℕ) → e < maxLinks → patternAt (patternsBy costs i bs) e < 2 ^ length bs
+  pub patterns-below : (i : ℕ) (bs : List ℤ) (e : ℕ) → e < linksHeld → patternAt (patternsBy costs i bs) e < 2 ^ length bs
   unfolding patternsBy
-  patterns-below i [] e h = rw (getD-replicate {A = ℕ} maxLinks e 0 0 h) (omega arith)
+  patterns-below i [] e h = rw (getD-replicate {A = ℕ} linksHeld e 0 0 h) (omega arith)
   patterns-below i (b ∷ bs) e h =
       let rest = patterns-below (suc i) bs e h in
       let twice = pow-suc 2 (length bs) in
@@ -100,7 +100,7 @@ module _ (costs : List ℤ) where
   patternsFrom bs i = patternsBy costs i (drop i bs)
 
   module _ (bs : List ℤ) where
-    pub from-start : replicate maxLinks 0 ≡ patternsFrom bs (length bs)
+    pub from-start : replicate linksHeld 0 ≡ patternsFrom bs (length bs)
     unfolding patternsFrom patternsBy
     from-start = rw (drop-of-length-le bs (le-refl (length bs)))
 
@@ -116,12 +116,12 @@ module _ (costs : List ℤ) where
     unfolding patternsFrom
     from-end patterns e = e
 
-    pub from-room : (i : ℕ) (patterns : List ℕ) → length bs ≤ maxCeilings → patterns ≡ patternsFrom bs i → Room patterns
+    pub from-room : (i : ℕ) (patterns : List ℕ) → length bs ≤ ceilingsHeld → patterns ≡ patternsFrom bs i → Room patterns
     unfolding patternsFrom
     from-room i patterns few e =
         rw e (record {
           size = patterns-size i (drop i bs);
           small = λ x h.
-              let short : length (drop i bs) ≤ maxCeilings = omega (arith, length-drop i bs) in
+              let short : length (drop i bs) ≤ ceilingsHeld = omega (arith, length-drop i bs) in
               omega (arith, patterns-below i (drop i bs) x h, pow-le-pow-right {n = 2} (omega arith) short);
         })

@@ -1,7 +1,7 @@
 -- The forest value in the theory's terms: its leaders are a labelling held in a list.
 use Prim.Native.Nat.{ℕ, _<_}
 use mathlib.Core.Path.{_≡_}
-use Rattle.network.specs.Limits.{maxStations}
+use Rattle.network.specs.Capacities.{stationsHeld}
 use Rattle.spanning.specs.Labelling.{Edge, merge}
 use Rattle.spanning.specs.LabelList.{Labels, first-known, first-labels, firstLabels, labelOf, merge-labels, relabel, relabel-labels}
 use Rattle.forest.specs.declared.Forest.{Forest}
@@ -12,7 +12,7 @@ link a b = record { a = a; b = b }
 
 -- each station is a group of its own
 unfoldable pub apart : Forest
-apart = record { leader = firstLabels maxStations }
+apart = record { leader = firstLabels stationsHeld }
 
 -- the groups of a and b made one: the leader of b becomes that of a
 unfoldable pub joined : Forest → ℕ → ℕ → Forest
@@ -20,23 +20,23 @@ joined f a b = record { leader = relabel (f .leader) (link a b) }
 
 -- the leaders are stations
 abbrev pub Led : Forest → Type 0
-Led f = Labels maxStations (f .leader)
+Led f = Labels stationsHeld (f .leader)
 
 -- at the start they are, and joining keeps them so
 pub apart-led : Led apart
 unfolding apart
-apart-led = first-known maxStations
+apart-led = first-known stationsHeld
 
-pub joined-led : (f : Forest) (a b : ℕ) → Led f → a < maxStations → b < maxStations → Led (joined f a b)
+pub joined-led : (f : Forest) (a b : ℕ) → Led f → a < stationsHeld → b < stationsHeld → Led (joined f a b)
 unfolding joined
-joined-led f a b h p q = relabel-labels maxStations (f .leader) h (link a b) p q
+joined-led f a b h p q = relabel-labels stationsHeld (f .leader) h (link a b) p q
 
 -- no link is no group joined, and to join is to merge
 pub apart-labels : (v : ℕ) → labelOf (apart .leader) v ≡ v
 unfolding apart
-apart-labels v = first-labels maxStations v
+apart-labels v = first-labels stationsHeld v
 
-pub joined-labels : (f : Forest) (a b : ℕ) → Led f → a < maxStations → b < maxStations
+pub joined-labels : (f : Forest) (a b : ℕ) → Led f → a < stationsHeld → b < stationsHeld
     → labelOf (joined f a b .leader) ≡ merge (labelOf (f .leader)) (link a b)
 unfolding joined
-joined-labels f a b h p q = merge-labels maxStations (f .leader) h (link a b) p q
+joined-labels f a b h p q = merge-labels stationsHeld (f .leader) h (link a b) p q

@@ -1,5 +1,5 @@
 // The groups of stations already joined, as a value: joining two stations hands back the next value.
-use network::limits::MAX_STATIONS;
+use network::capacities::STATIONS_HELD;
 ghost use mathlib.Core.List.{map};
 ghost use mathlib.Core.Path.{_≡_};
 ghost use Rattle.spanning.specs.Labelling.{crosses};
@@ -8,7 +8,7 @@ ghost use Rattle.forest.specs.Groups.{apart, joined, link};
 
 // A leader for each station: two stations with one leader are in one group.
 pub struct Forest {
-    pub leader: [u8; MAX_STATIONS],
+    pub leader: [u8; STATIONS_HELD],
 }
 
 // What a leader becomes once the group of `old` is led by `new`.
@@ -19,10 +19,10 @@ fn successor(leader: u8, old: u8, new: u8) -> u8
 }
 
 // The array of leaders, handed back with the group of `old` led by `new`.
-fn relabel(mut leaders: [u8; MAX_STATIONS], old: u8, new: u8) -> [u8; MAX_STATIONS]
+fn relabel(mut leaders: [u8; STATIONS_HELD], old: u8, new: u8) -> [u8; STATIONS_HELD]
     ensures { λ r. ⌜ r ≡ map (replaced new old) leaders ⌝ }
 {
-    for i in 0..MAX_STATIONS {
+    for i in 0..STATIONS_HELD {
         leaders[i] = successor(leaders[i], old, new);
     }
     leaders
@@ -68,7 +68,7 @@ impl Forest {
         ensures { λ r. ⌜ r ≡ labelOf (self .leader) v ⌝ }
     {
         let at = v as usize;
-        if at < MAX_STATIONS {
+        if at < STATIONS_HELD {
             self.leader[at]
         } else {
             v

@@ -5,13 +5,13 @@ use index_keys::SHORT;
 use index_keys::read_keys;
 use index_order::order_numbers;
 use network::Status;
-use network::limits::MAX_PLANS;
+use network::capacities::PLANS_HELD;
 use planlist_records::COUNT_AT;
 ghost use mathlib.Core.Bool.{false};
 ghost use mathlib.Core.Path.{_≡_};
 ghost use Prim.Native.Nat.{_*_, _≤_};
 ghost use lib.ListN.{length};
-ghost use Rattle.network.specs.Limits.{maxPlans};
+ghost use Rattle.network.specs.Capacities.{plansHeld};
 ghost use Rattle.network.specs.Fetching.{damaged, headCount};
 ghost use Rattle.network.specs.Indexing.{indexAfter, indexStatus};
 ghost use Rattle.index_keys.specs.Key.{shortList};
@@ -19,7 +19,7 @@ ghost use Rattle.index_building.specs.Entries.{entriesIn};
 ghost use Rattle.index_building.specs.Built.{Columns};
 
 // Half of the most plans.
-const MOST_HALF: usize = MAX_PLANS / 2;
+const MOST_HALF: usize = PLANS_HELD / 2;
 
 // Half of the plans of a short list.
 const SHORT_HALF: usize = SHORT / 2;
@@ -99,12 +99,12 @@ fn build_short(list: &[u8], index: &mut [u8]) -> Status
 
 // The same of any list.
 fn build_long(list: &[u8], index: &mut [u8]) -> Status
-    requires { ⌜ (damaged (now list) ≡ false) × (headCount (now list) ≤ maxPlans) ⌝ }
+    requires { ⌜ (damaged (now list) ≡ false) × (headCount (now list) ≤ plansHeld) ⌝ }
     ensures reply { λ r. ⌜ r ≡ indexStatus (now (list .entry)) (length (now (index .entry))) ⌝ }
     ensures leaves { λ _. ⌜ now (index .exit) ≡ indexAfter (now (list .entry)) (now (index .entry)) ⌝ }
 {
-    let mut keys = [0u64; MAX_PLANS];
-    let mut numbers = [0u16; MAX_PLANS];
+    let mut keys = [0u64; PLANS_HELD];
+    let mut numbers = [0u16; PLANS_HELD];
     let mut sparekeys = [0u64; MOST_HALF];
     let mut sparenumbers = [0u16; MOST_HALF];
     build_by(

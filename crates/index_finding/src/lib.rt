@@ -8,13 +8,13 @@ use index_keys::read_keys;
 use index_testing::holds_index;
 use network::Found;
 use network::Refusal;
-use network::limits::MAX_PLANS;
+use network::capacities::PLANS_HELD;
 use planlist_records::COUNT_AT;
 ghost use mathlib.Core.Bool.{false};
 ghost use mathlib.Core.Path.{_≡_};
 ghost use Prim.Native.Nat.{_*_, _≤_};
 ghost use lib.ListN.{length};
-ghost use Rattle.network.specs.Limits.{maxPlans};
+ghost use Rattle.network.specs.Capacities.{plansHeld};
 ghost use Rattle.network.specs.Fetching.{damaged, headCount};
 ghost use Rattle.network.specs.Indexing.{declined, lookedUp};
 ghost use Rattle.index_keys.specs.Key.{shortList};
@@ -29,7 +29,7 @@ fn refused(number: u8) -> Found
 
 // Looks the cheapest plan up by the keys of all plans: 12 if the buffer does not hold their index, 13 if no plan meets the value.
 fn find_in(keys: &[u64], index: &[u8], y: i16) -> Found
-    requires { ⌜ (length (now keys) ≤ maxPlans) × (length (now keys) * 2 ≤ length (now index)) ⌝ }
+    requires { ⌜ (length (now keys) ≤ plansHeld) × (length (now keys) * 2 ≤ length (now index)) ⌝ }
     ensures { λ r. ⌜ r ≡ foundIn (now (keys .entry)) (now (index .entry)) y ⌝ }
 {
     if holds_index(keys, index) {
@@ -68,10 +68,10 @@ fn find_short(list: &[u8], index: &[u8], y: i16) -> Found
 
 // The same of any list.
 fn find_long(list: &[u8], index: &[u8], y: i16) -> Found
-    requires { ⌜ (damaged (now list) ≡ false) × (headCount (now list) ≤ maxPlans) ⌝ }
+    requires { ⌜ (damaged (now list) ≡ false) × (headCount (now list) ≤ plansHeld) ⌝ }
     ensures { λ r. ⌜ r ≡ lookedUp (now (list .entry)) (now (index .entry)) y ⌝ }
 {
-    let mut keys = [0u64; MAX_PLANS];
+    let mut keys = [0u64; PLANS_HELD];
     find_by(list, index, y, &mut keys)
 }
 

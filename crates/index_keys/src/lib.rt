@@ -2,7 +2,7 @@
 use encoding_numbers::mark_at;
 use encoding_numbers::read_u16;
 use encoding_numbers::read_u32;
-use network::limits::HEAD_SIZE;
+use network::records::HEAD_SIZE;
 use planlist_records::CEILINGS_AT;
 use planlist_records::PLAN_MARK;
 use planlist_records::SUM_AT;

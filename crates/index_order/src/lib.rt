@@ -3,7 +3,7 @@ use index_sorting::sort_rows;
 ghost use mathlib.Core.Path.{_≡_};
 ghost use Prim.Native.Nat.{_-_, _≤_};
 ghost use lib.ListN.{length};
-ghost use Rattle.network.specs.Limits.{maxPlans};
+ghost use Rattle.network.specs.Capacities.{plansHeld};
 ghost use Rattle.sorting.specs.Columns.{falling, placesBy, tabled};
 ghost use Rattle.sorting.specs.Rows.{Room};
 
@@ -24,7 +24,7 @@ fn falls(keys: &[u64]) -> bool
 
 // The numbers from 0 on.
 fn count_up(numbers: &mut [u16])
-    requires { ⌜ length (now numbers) ≤ maxPlans ⌝ }
+    requires { ⌜ length (now numbers) ≤ plansHeld ⌝ }
     ensures { λ _. ⌜ now (numbers .exit) ≡ tabled (λ r. r) (length (now (numbers .entry))) ⌝ }
 {
     for r in 0..numbers.len() {
@@ -34,7 +34,7 @@ fn count_up(numbers: &mut [u16])
 
 // The same numbers, down to 0.
 fn count_down(numbers: &mut [u16])
-    requires { ⌜ length (now numbers) ≤ maxPlans ⌝ }
+    requires { ⌜ length (now numbers) ≤ plansHeld ⌝ }
     ensures { λ _. ⌜ now (numbers .exit) ≡ tabled (λ r. length (now (numbers .entry)) - 1 - r) (length (now (numbers .entry))) ⌝ }
 {
     let n = numbers.len();
@@ -51,7 +51,7 @@ pub fn order_numbers(
     sparekeys: &mut [u64],
     sparenumbers: &mut [u16],
 )
-    requires { ⌜ (length (now numbers) ≤ maxPlans) × Room (now keys) (now numbers) (now sparekeys) (now sparenumbers) ⌝ }
+    requires { ⌜ (length (now numbers) ≤ plansHeld) × Room (now keys) (now numbers) (now sparekeys) (now sparenumbers) ⌝ }
     ensures { λ _. ⌜ now (numbers .exit) ≡ placesBy (now (keys .entry)) ⌝ }
 {
     if falls(keys) {

@@ -9,7 +9,7 @@ use lib.Seq.{append-snoc, drop-cons, take-suc-set}
 use Rattle.order.specs.Test.{by-test}
 use Rattle.spanning.specs.Labelling.{crosses}
 use Rattle.spanning.specs.LabelList.{labelOf}
-use Rattle.network.specs.Limits.{maxLinks}
+use Rattle.network.specs.Capacities.{linksHeld}
 use Rattle.network.specs.Yard.{endsAt}
 use Rattle.forest.specs.Groups.{joined}
 use Rattle.forest.specs.declared.Forest.{Forest}
@@ -18,8 +18,8 @@ use Rattle.kruskal.specs.declared.links.Links.{Links}
 -- r holds the links l
 pub record Holding (l : List ℕ) (r : Links) : Type 0 where
   pub links : take (r .count) (r .link) ≡ l
-  pub size : length (r .link) ≡ maxLinks
-  pub few : r .count ≤ maxLinks
+  pub size : length (r .link) ≡ linksHeld
+  pub few : r .count ≤ linksHeld
 
 module _ (ends : List ℕ) where
   -- the links of a list that are kept, from the groups f

@@ -13,7 +13,7 @@ use Rattle.spanning.specs.Labelling.{Labelling, crosses, merge}
 use Rattle.spanning.specs.LabelList.{labelOf}
 use Rattle.spanning.specs.Tree.{Within, identity, mergeAll, mergeAll-append}
 use Rattle.spanning.specs.Kruskal.{kruskal}
-use Rattle.network.specs.Limits.{maxLinks, maxStations}
+use Rattle.network.specs.Capacities.{linksHeld, stationsHeld}
 use Rattle.network.specs.Yard.{endsAt, sumAt}
 use Rattle.forest.specs.Groups.{Led, apart-labels, apart-led, joined, joined-labels, joined-led}
 use Rattle.forest.specs.declared.Forest.{Forest}
@@ -27,11 +27,11 @@ withFlag flags e = set flags e true
 
 -- a flag for each link, set for the links of a list
 unfoldable pub flagsOf : List ℕ → List Bool
-flagsOf ts = foldl withFlag (replicate maxLinks false) ts
+flagsOf ts = foldl withFlag (replicate linksHeld false) ts
 
 -- the links of a list join stations
 abbrev pub Near : List ℕ → List ℕ → Type 0
-Near ends l = (e : ℕ) → e ∈ l → Within maxStations (endsAt ends e)
+Near ends l = (e : ℕ) → e ∈ l → Within stationsHeld (endsAt ends e)
 
 module _ (ends sums : List ℕ) where
   -- the forest value t holds the links ts
@@ -46,12 +46,12 @@ module _ (ends sums : List ℕ) where
   unfolding bare flagsOf
   bare-holds = record { led = apart-led; labels = fun-ext apart-labels; flags = refl; total = refl; size = refl }
 
-  added-labels : (t : Tree) (e : ℕ) → Within maxStations (endsAt ends e) → Led (t .forest)
+  added-labels : (t : Tree) (e : ℕ) → Within stationsHeld (endsAt ends e) → Led (t .forest)
       → labelOf (added ends sums t e .forest .leader) ≡ merge (labelOf (t .forest .leader)) (endsAt ends e)
   unfolding added
   added-labels t e w led = joined-labels (t .forest) (endsAt ends e .a) (endsAt ends e .b) led (w .0) (w .1)
 
-  added-holds : (ts : List ℕ) (t : Tree) (e : ℕ) → Within maxStations (endsAt ends e) → Holds ts t → Holds (ts ++ (e ∷ [])) (added ends sums t e)
+  added-holds : (ts : List ℕ) (t : Tree) (e : ℕ) → Within stationsHeld (endsAt ends e) → Holds ts t → Holds (ts ++ (e ∷ [])) (added ends sums t e)
   unfolding added flagsOf
   added-holds ts t e w h =
       record {
@@ -59,7 +59,7 @@ module _ (ends sums : List ℕ) where
         labels = added-labels t e w (h .led)
             ∙ ap (λ (L : Labelling). merge L (endsAt ends e)) (h .labels)
             ∙ sym (ap (mergeAll identity) (map-append (endsAt ends) ts (e ∷ [])) ∙ mergeAll-append identity (map (endsAt ends) ts) (endsAt ends e ∷ []));
-        flags = ap (λ (f : List Bool). withFlag f e) (h .flags) ∙ sym (foldl-append withFlag (replicate maxLinks false) ts (e ∷ []));
+        flags = ap (λ (f : List Bool). withFlag f e) (h .flags) ∙ sym (foldl-append withFlag (replicate linksHeld false) ts (e ∷ []));
         total = let s = h .total in omega (arith, perm.sum-append (sumAt sums) ts (e ∷ []));
         size = let s = h .size in omega (arith, length-append ts (e ∷ []));
       }

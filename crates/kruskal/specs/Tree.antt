@@ -8,14 +8,14 @@ use lib.ListN.{length, getD, set, replicate}
 use Rattle.order.specs.Lists.{_∈_, getD-mem}
 use Rattle.spanning.specs.Labelling.{crosses}
 use Rattle.spanning.specs.LabelList.{labelOf}
-use Rattle.network.specs.Limits.{maxLinks, maxRaised}
+use Rattle.network.specs.Capacities.{linksHeld, sumHeld}
 use Rattle.network.specs.Yard.{endsAt, sumAt}
 use Rattle.forest.specs.Groups.{apart, joined}
 use Rattle.kruskal.specs.declared.tree.Tree.{Tree}
 
 -- no link is taken
 unfoldable pub bare : Tree
-bare = record { forest = apart; taken = replicate maxLinks false; sum = 0; count = 0 }
+bare = record { forest = apart; taken = replicate linksHeld false; sum = 0; count = 0 }
 
 -- the forest with link e taken
 unfoldable pub added : List ℕ → List ℕ → Tree → ℕ → Tree
@@ -35,17 +35,17 @@ linked ends sums t e = cond (crosses (labelOf (t .forest .leader)) (endsAt ends 
 
 -- there are two ends and a cost for each of the links
 pub record Columns (ends sums : List ℕ) : Type 0 where
-  pub ends-size : length ends ≡ 2 * maxLinks
-  pub sums-size : length sums ≡ maxLinks
+  pub ends-size : length ends ≡ 2 * linksHeld
+  pub sums-size : length sums ≡ linksHeld
 
 -- link e is one of the links, with a cost in range
 pub record Usable (sums : List ℕ) (e : ℕ) : Type 0 where
-  pub below : e < maxLinks
-  pub cheap : sumAt sums e ≤ maxRaised
+  pub below : e < linksHeld
+  pub cheap : sumAt sums e ≤ sumHeld
 
 -- a list of such links, with no more of them than a survey may have
 pub record Walkable (sums l : List ℕ) : Type 0 where
-  pub few : length l ≤ maxLinks
+  pub few : length l ≤ linksHeld
   pub usable : (e : ℕ) → e ∈ l → Usable sums e
 
 -- the link at a place of the walk is such a link
@@ -54,7 +54,7 @@ walk-usable {l = l} w k h = w .usable (getD l k 0) (getD-mem l k 0 h)
 
 -- a forest of at most j links
 pub record Light (j : ℕ) (t : Tree) : Type 0 where
-  pub sum-bound : t .sum ≤ j * maxRaised
+  pub sum-bound : t .sum ≤ j * sumHeld
   pub count-bound : t .count ≤ j
 
 -- taking a link adds at most its cost, and at most 1 to the count

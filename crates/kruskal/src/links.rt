@@ -1,13 +1,13 @@
 // The links that Kruskal's method keeps with nothing joined before: at most one fewer than there are stations, whatever comes in.
 use forest::Forest;
-use network::limits::MAX_LINKS;
+use network::capacities::LINKS_HELD;
 ghost use Rattle.forest.specs.Groups.{apart};
 ghost use Rattle.kruskal.specs.Tree.{Columns, Walkable};
 ghost use Rattle.kruskal.specs.Base.{Holding, kept};
 
 // A list of links: the first `count` of the array.
 pub struct Links {
-    pub link: [u8; MAX_LINKS],
+    pub link: [u8; LINKS_HELD],
     pub count: usize,
 }
 
@@ -17,7 +17,7 @@ pub fn base_of(ends: &[u8], sums: &[u32], links: &[u8]) -> Links
     ensures { λ r. ⌜ Holding (kept (now (ends .entry)) apart (now (links .entry))) r ⌝ }
 {
     let mut forest = Forest::new();
-    let mut base = [0u8; MAX_LINKS];
+    let mut base = [0u8; LINKS_HELD];
     let mut count: usize = 0;
     for at in 0..links.len() {
         let link = links[at];

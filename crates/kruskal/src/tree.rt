@@ -1,15 +1,15 @@
 // Kruskal's method: links are walked in a given order, and each that joins two groups is taken.
 use forest::Forest;
-use network::limits::MAX_LINKS;
+use network::capacities::LINKS_HELD;
 ghost use mathlib.Core.Path.{_≡_};
 ghost use mathlib.Core.List.{foldl};
-ghost use Rattle.network.specs.Limits.{maxLinks};
+ghost use Rattle.network.specs.Capacities.{linksHeld};
 ghost use Rattle.kruskal.specs.Tree.{Columns, Light, Walkable, bare, linked};
 
 // A forest of links: its groups, a flag for each link, the sum of the raised costs of its links, and their number.
 pub struct Tree {
     pub forest: Forest,
-    pub taken: [bool; MAX_LINKS],
+    pub taken: [bool; LINKS_HELD],
     pub sum: u32,
     pub count: u8,
 }
@@ -21,7 +21,7 @@ pub fn empty() -> Tree
     let forest = Forest::new();
     Tree {
         forest,
-        taken: [false; MAX_LINKS],
+        taken: [false; LINKS_HELD],
         sum: 0,
         count: 0,
     }
@@ -29,7 +29,7 @@ pub fn empty() -> Tree
 
 // The walk over the links, from the forest `start`.
 pub fn grow(ends: &[u8], sums: &[u32], links: &[u8], start: Tree) -> Tree
-    requires { ⌜ Columns (now ends) (now sums) × Walkable (now sums) (now links) × Light maxLinks start ⌝ }
+    requires { ⌜ Columns (now ends) (now sums) × Walkable (now sums) (now links) × Light linksHeld start ⌝ }
     ensures { λ r. ⌜ r ≡ foldl (linked (now (ends .entry)) (now (sums .entry))) start (now (links .entry)) ⌝ }
 {
     let mut forest = start.forest;

@@ -34,12 +34,31 @@ pub fn mark_rows(marks: &mut [u8], start: usize, stride: usize, rows: usize, n: 
     }
 }
 
-// Marks the positions from number n through the places k1 and k2, where the second ceiling has m2 values.
-pub fn mark_through(marks: &mut [u8], n: usize, m2: usize, k1: usize, k2: usize)
-    requires { ⌜ (k2 < m2) × (n / m2 ≤ k1) × (n % m2 ≤ k2) × ((k1 + 1) * m2 ≤ length (now marks)) ⌝ }
-    ensures { λ _. ⌜ now (marks .exit) ≡ paint (through m2 n k1 k2) n (now (marks .entry)) ⌝ }
+// Marks the box with the given sides whose first position is `start`. The last side has the stride 1.
+pub fn mark_box(marks: &mut [u8], start: usize, strides: &[usize], counts: &[usize])
 {
-    mark_rows(marks, n, m2, k1 + 1 - n / m2, k2 + 1 - n % m2);
+    let sides = strides.len();
+    if sides == 0 {
+        marks[start] = 1;
+        return;
+    }
+    let count = counts[0];
+    if sides == 1 {
+        mark_row(marks, start, count);
+        return;
+    }
+    let stride = strides[0];
+    if sides == 2 {
+        mark_rows(marks, start, stride, count, counts[1]);
+        return;
+    }
+    let mut at = start;
+    let mut left = count;
+    while 0 < left {
+        mark_box(marks, at, &strides[1..], &counts[1..]);
+        at += stride;
+        left -= 1;
+    }
 }
 
 // The first position from number n on that is not marked, or the end.

@@ -18,7 +18,7 @@ use Rattle.network.specs.declared.Answer.the-variants.{Plan, Refused as 
 use Rattle.network.specs.declared.Checked.{Checked}
 use Rattle.network.specs.declared.Checked.the-variants.{Fine, Refused}
 use Rattle.network.specs.declared.Costs.{Costs}
-use Rattle.network.specs.declared.Network.{Network}
+use Rattle.network.specs.Network.{Network}
 use Rattle.network.specs.declared.Status.{Status}
 
 -- ---- replies

@@ -7,7 +7,7 @@ use mathlib.Core.Logic.{⊎-elim}
 use native.Mathlib.Nat.{eq-or-lt-of-le}
 use native.Mathlib.Numerals.{add-one}
 use native.Mathlib.Omega.{arith}
-use lib.ListN.{length, getD, set, replicate, length-set, length-replicate}
+use lib.ListN.{length, getD, getD-replicate, set, replicate, length-set, length-replicate}
 use lib.Seq.{getD-set-same, getD-set-other}
 
 module _ {A : Type 0} where
@@ -40,3 +40,9 @@ module _ {A : Type 0} where
         (λ (q : i ≡ m). rw q (getD-set-same (column size filler f m) m (f m) d (rw column-length (omega arith))))
         (λ (q : i < m). getD-set-other (column size filler f m) m i (f m) d (omega arith) ∙ column-at m i q (omega arith) d)
         (eq-or-lt-of-le (omega arith))
+
+    -- the filler behind the records
+    pub column-past : (m i : ℕ) → m ≤ i → i < size → (d : A) → getD (column size filler f m) i d ≡ filler
+    unfolding column
+    column-past zero i h room d = getD-replicate size i filler d room
+    column-past (suc m) i h room d = getD-set-other (column size filler f m) m i (f m) d (omega arith) ∙ column-past m i (omega arith) room d

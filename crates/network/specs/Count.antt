@@ -1,19 +1,17 @@
 -- The link count in the yard record: with the right count a survey is read as the same survey without it.
-use Prim.Native.Nat.{ℕ, _+_, _-_, _*_, _/_, _%_}
-use mathlib.Core.Path.{_≡_, sym, ap, _∙_}
+use Prim.Native.Nat.{ℕ, zero, suc, _+_, _-_, _*_, _/_, _%_}
+use mathlib.Core.Path.{_≡_, refl, sym, ap, ap₂, _∙_}
 use mathlib.Core.Bool.{false}
 use mathlib.Core.List.{List, [], _∷_, _++_}
 use native.Mathlib.Omega.{arith}
 use lib.Dec.{ltb}
-use lib.IntN.{ℤ, pos}
-use lib.ListN.{length}
+use lib.ListN.{length, take}
 use lib.Seq.{getD-append-add}
 use store.Seg.{eqb-same}
 use borrow.Author.Tests.{le-ltb}
-use Rattle.network.specs.Limits.{maxCeilings, maxLinks}
 use Rattle.network.specs.Moved.{Moved, moved-mark, moved-on, moved-u16, moved-u32}
-use Rattle.network.specs.Column.{column}
-use Rattle.network.specs.Survey.{costIn, costsIn, endsIn, linkCount, linkSize, linkStart, networkOf, networkWith, raised, sumIn, sumsIn, yardSize}
+use Rattle.network.specs.Tabulate.{tabulate-same}
+use Rattle.network.specs.Survey.{ceilingIn, costIn, costsIn, endsIn, linkCount, linkSize, linkStart, networkOf, networkWith, raised, sumIn, sumsIn, yardSize}
 use Rattle.network.specs.Survey.{layoutOf, plain, rowWhere, withCount}
 use Rattle.network.specs.Checked.{firstRefusal, refuseIf, _orElse_}
 use Rattle.network.specs.Refusals.{badCount, badLength, checkedOf, checkedWith, linkChecked, linkCheckedAt, linksChecked, yardChecked}
@@ -34,10 +32,6 @@ countedYard n p k1 k2 count = withCount .yard .mark ++ (n ∷ p ∷ k1 ∷ k2 �
 -- the link count of the bytes of link records, which is a byte wherever number 4 does not come first
 abbrev pub rightCount : List ℕ → ℕ
 rightCount links = length links / linkSize
-
--- a column of the same figures
-column-same : {A : Type 0} (size : ℕ) (filler : A) (f g : ℕ → A) → ((i : ℕ) → f i ≡ g i) → (m : ℕ) → column size filler f m ≡ column size filler g m
-column-same size filler f g e m = ap (λ (h : ℕ → _). column size filler h m) (λ i q. e q i)
 
 -- the first refusal of the same checks
 first-same : (f g : ℕ → Checked) → ((i : ℕ) → f i ≡ g i) → (m : ℕ) → firstRefusal f m ≡ firstRefusal g m
@@ -79,26 +73,31 @@ module _ (n p k1 k2 : ℕ) (links : List ℕ) where
   unfolding yardChecked badCount
   yard-same = rw (eqb-same q)
 
-  ends-same : (c : ℕ) → endsIn withCount s′ c ≡ endsIn plain s c
+  ends-same : (m : ℕ) → endsIn withCount s′ m ≡ endsIn plain s m
   unfolding endsIn
-  ends-same c = column-same (2 * maxLinks) 0 _ _ (λ q. moved-on (moved-link (q / 2)) 2 .each (q % 2)) c
+  ends-same m = tabulate-same _ _ (λ q. moved-on (moved-link (q / 2)) 2 .each (q % 2)) (2 * m)
 
-  sums-same : (c : ℕ) → sumsIn withCount s′ c ≡ sumsIn plain s c
+  sums-same : (m : ℕ) → sumsIn withCount s′ m ≡ sumsIn plain s m
   unfolding sumsIn
-  sums-same c =
-      column-same maxLinks 0 (λ i. raised (sumIn s′ (linkStart withCount i))) (λ i. raised (sumIn s (linkStart plain i)))
-      (λ i. rw (moved-u32 (moved-on (moved-link i) 4))) c
+  sums-same m =
+      tabulate-same (λ i. raised (sumIn s′ (linkStart withCount i))) (λ i. raised (sumIn s (linkStart plain i)))
+      (λ i. rw (moved-u32 (moved-on (moved-link i) 4))) m
 
-  costs-same : (c : ℕ) → costsIn withCount s′ c ≡ costsIn plain s c
+  ceiling-same : (m j : ℕ) → ceilingIn withCount s′ m j ≡ ceilingIn plain s m j
+  unfolding ceilingIn
+  ceiling-same m j =
+      tabulate-same (λ i. costIn s′ (linkStart withCount i) j) (λ i. costIn s (linkStart plain i) j)
+      (λ i. rw (moved-u16 (moved-on (moved-on (moved-link i) 8) (2 * j)))) m
+
+  costs-same : (m p : ℕ) → costsIn withCount s′ m p ≡ costsIn plain s m p
   unfolding costsIn
-  costs-same c =
-      let cost : Layout → List ℕ → ℕ → ℤ = λ l t q. costIn t (linkStart l (q / maxCeilings)) (q % maxCeilings) in
-      column-same (maxCeilings * maxLinks) (pos 0) (cost withCount s′) (cost plain s)
-      (λ q. rw (moved-u16 (moved-on (moved-on (moved-link (q / maxCeilings)) 8) (2 * (q % maxCeilings))))) c
+  costs-same m zero = refl
+  costs-same m (suc p) = ap₂ _++_ (costs-same m p) (ceiling-same m p)
 
   network-same : (m : ℕ) → networkWith withCount s′ m ≡ networkWith plain s m
   unfolding networkWith
-  network-same m = λ i. record { n = n; p = p; k = k1 ∷ k2 ∷ []; m = m; ends = ends-same (2 * m) i; sums = sums-same m i; costs = costs-same (2 * m) i }
+  network-same m =
+      λ i. record { n = n; p = p; k = take p (k1 ∷ k2 ∷ []); m = m; ends = ends-same m i; sums = sums-same m i; costs = costs-same m p i }
 
   -- the links are as many
   links-plain : linkCount plain s ≡ q

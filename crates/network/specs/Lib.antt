@@ -1,13 +1,16 @@
 -- Document 01, with the requests of document 02 that it has taken in, as definitions. In the document's order:
--- its numbers
+-- its numbers, and apart from them what the arrays of the code hold
 pub mod Limits
+pub mod Capacities
 -- the yard and its plans: stations, links, trees, cost vectors, the best tree under ceilings
+pub mod Network
 pub mod Yard
 -- the walk: positions, solved count, allowance, the list
 pub mod Walk
 -- bytes: numbers, two's complement, marks; arrays filled record by record; the survey; the plan list
 pub mod Bytes
 pub mod Column
+pub mod Tabulate
 pub mod Survey
 pub mod PlanList
 -- when the planner declines: the first of several refusals, numbers 1 to 8 and 15, then the calls with 9, 10, 11, 14
@@ -24,12 +27,15 @@ pub mod Writing
 pub mod Printing
 -- the yards worked through, P1 to P33
 pub mod Worked
--- theorems: what the definitions mean, what holds of a survey's layout, of an accepted survey's bytes, of its sum costs and of its network
+-- theorems: what the definitions mean, what holds of a survey's layout, of an accepted survey's bytes, of its sum costs, of its ceiling costs and of its network
 pub mod Meaning
 pub mod Layouts
 pub mod Accepted
 pub mod Sums
+pub mod Costs
 pub mod NetworkFine
+-- the network of a shape and its columns
+pub mod Shaped
 -- the same bytes in another place
 pub mod Moved
 -- the link count: surveys that are planned alike, the right count, and surveys that are cut off

@@ -22,10 +22,6 @@ maxRank = 3
 abbrev pub maxSlack : ℕ
 maxSlack = 2
 
--- the sets of ceilings whose bounds a link may be above: room in the search, and no figure of document 01
-abbrev pub maxPatterns : ℕ
-maxPatterns = 2 ^ maxCeilings
-
 -- s, the sum cost of a link: -1,000,000 to 1,000,000
 abbrev pub maxSum : ℕ
 maxSum = 1_000_000
@@ -33,10 +29,6 @@ maxSum = 1_000_000
 -- the lowest of them
 abbrev pub minSum : ℤ
 minSum = negℤ (pos maxSum)
-
--- the most that a sum cost is when it is raised by 1,000,000, so that none is below 0; no figure of document 01
-abbrev pub maxRaised : ℕ
-maxRaised = 2 * maxSum
 
 -- t, the links of a tree: at most 23
 abbrev pub maxTree : ℕ

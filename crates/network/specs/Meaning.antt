@@ -26,7 +26,7 @@ use Rattle.network.specs.Yard.{Tree, best, dominates, ends, fits, graph,
 use Rattle.network.specs.Calls.{Reply, says}
 use Rattle.network.specs.declared.Answer.{Answer}
 use Rattle.network.specs.declared.Answer.the-variants.{Plan, Refused as Answer·Refused}
-use Rattle.network.specs.declared.Network.{Network}
+use Rattle.network.specs.Network.{Network}
 
 -- v dominates w: no entry of v is above that of w, and v differs from w
 pub dominates-iff : (v w : List ℤ) → (dominates v w ≡ true) ↔ ((leAll orderℤ v w ≡ true) × ¬ (v ≡ w))

@@ -1,95 +1,39 @@
--- What holds of the network of an accepted survey, said of its arrays with no byte in it, and so of the graph that the theory speaks of.
+-- What holds of the network of an accepted survey, said with no byte in it, and so of the graph that the theory speaks of; and that the arrays of the
+-- code hold it.
 use Prim.Native.Nat.{ℕ, zero, suc, _+_, _-_, _*_, _/_, _%_, _^_, _≤_, _<_}
 use mathlib.Core.Path.{_≡_, refl, sym, ap, _∙_}
 use mathlib.Core.Bool.{_&&_, false}
 use mathlib.Core.List.{List, [], _∷_}
 use native.Mathlib.Nat.{le-of-eq, le-trans, mul-comm, mul-le-mul, pow-le-pow-right, pow-suc, pow-zero}
 use native.Mathlib.Omega.{arith}
-use borrow.Author.Tests.{eqb-true, le-leb, leb-false, ltb-false, lt-ltb, not-false}
+use borrow.Author.Tests.{leb-false, ltb-false, lt-ltb}
 use lib.Dec.{ltb}
-use lib.ListN.{getD, length, length-take}
-use lib.Seq.{getD-take}
-use lib.IntN.{pos}
-use mir.Syntax.{w16}
-use Rattle.order.specs.Lists.{mem-getD}
+use lib.ListN.{getD, length, length-take, take}
+use lib.Seq.{getD-take, length-take-le}
+use Rattle.order.specs.Lists.{_∈_, mem-getD}
 use Rattle.order.specs.Lowered.{lowered-weighs}
 use Rattle.frontier.specs.Frontier.{product}
+use Rattle.kmax.specs.Ceilings.{slackOf}
 use Rattle.planning.specs.Graph.{Graph, Sound, valuesAt, valuesFrom}
 use Rattle.planning.specs.Grid.{values-few}
-use Rattle.network.specs.Limits.{maxCeilings, maxLinks, maxPlans, maxRaised, maxStations, maxSum, maxTree}
-use Rattle.network.specs.Bytes.{byteAt, signed}
-use Rattle.network.specs.Column.{column, column-at, column-length}
-use Rattle.network.specs.Survey.{ceilingsIn, costBitsIn, costIn, costsIn, endIn, endsIn, layoutOf, linkCount, linkStart, networkOf, networkWith}
-use Rattle.network.specs.Refusals.{absentCost, anyBadRank, badPresent, badRank, badRanks, checkedOf}
+use Rattle.network.specs.Limits.{maxCeilings, maxLinks, maxPlans, maxSlack, maxStations, maxTree}
+use Rattle.network.specs.Capacities.{ceilingsHeld, exceptionsHeld, linksHeld, plansHeld, raise, stationsHeld, sumHeld}
+use Rattle.network.specs.Bytes.{byteAt}
+use Rattle.network.specs.Network.{Network}
+use Rattle.network.specs.Tabulate.{tabulate, tabulate-at, tabulate-length}
+use Rattle.network.specs.Survey.{ceilingsIn, costsIn, endIn, endsIn, layoutOf, linkCount, linkStart, networkOf, networkWith, ranksIn, stationsIn}
+use Rattle.network.specs.Refusals.{anyBadRank, badPresent, badRank, badRanks, checkedOf}
 use Rattle.network.specs.Yard.{graph, ranks, sumAt, treeSize}
 use Rattle.network.specs.Walk.{positionCount}
 use Rattle.network.specs.PlanList.{bufferNeed, maxNeed, planSize, planSlots}
 use Rattle.network.specs.Accepted.{Accepted, accepted, or-false}
 use Rattle.network.specs.Layouts.{layout-roomy}
+use Rattle.network.specs.Costs.{costs-length}
 use Rattle.network.specs.Sums.{raised-at, raised-small, sums-length}
 use Rattle.network.specs.declared.Checked.the-variants.{Fine}
 use Rattle.network.specs.declared.Layout.{Layout}
-use Rattle.network.specs.declared.Network.{Network}
 
-pub record NetworkFine (net : Network) : Type 0 where
-  pub some-station : 1 ≤ net .n
-  pub few-stations : net .n ≤ maxStations
-  pub few-links : net .m ≤ maxLinks
-  pub few-ceilings : net .p ≤ maxCeilings
-  pub ranks : badRanks (net .n) (net .p) (net .k) ≡ false
-  pub lengths : (length (net .k) ≡ 2) × (length (net .ends) ≡ 2 * maxLinks) × (length (net .sums) ≡ maxLinks) × (length (net .costs) ≡ maxCeilings * maxLinks)
-  -- link i
-  pub first-end : (i : ℕ) → i < net .m → getD (net .ends) (2 * i) 0 < net .n
-  pub second-end : (i : ℕ) → i < net .m → getD (net .ends) (2 * i + 1) 0 < net .n
-  pub two-ends : (i : ℕ) → i < net .m → getD (net .ends) (2 * i) 0 ≡ getD (net .ends) (2 * i + 1) 0 → ⊥
-  pub cheap : (i : ℕ) → i < net .m → getD (net .sums) i 0 ≤ maxRaised
-  pub absent : (i j : ℕ) → i < net .m → j < 2 → net .p ≤ j → getD (net .costs) (2 * i + j) (pos 0) ≡ pos 0
-
--- entry j of link i, in a column with two entries a link
-pub pair-at : {A : Type 0} (filler : A) (f : ℕ → ℕ → A) (m i j : ℕ) → m ≤ maxLinks → i < m → j < 2 → (d : A)
-    → getD (column (2 * maxLinks) filler (λ q. f (q / 2) (q % 2)) (2 * m)) (2 * i + j) d ≡ f i j
-pair-at filler f m i j few hi hj d =
-    let half : (2 * i + j) / 2 ≡ i = omega arith in
-    let rest : (2 * i + j) % 2 ≡ j = omega arith in
-    column-at (2 * maxLinks) filler (λ q. f (q / 2) (q % 2)) (2 * m) (2 * i + j) (omega arith) (omega arith) d ∙ rw (half, rest)
-
--- a cost of an absent ceiling is 0
-absent-zero : (p j bits : ℕ) → absentCost p j bits ≡ false → p ≤ j → bits ≡ 0
-absent-zero p j bits e h = eqb-true _ _ (not-false _ (rw (le-leb p j h) at e))
-
-pub network-fine : (s : List ℕ) (l : Layout) → Accepted s l → NetworkFine (networkWith l s (linkCount l s))
-unfolding networkWith endsIn costsIn signed
-network-fine s l fine =
-    let m = linkCount l s in
-    let few : m ≤ maxLinks = fine .yard .few-links in
-    let ends = column (2 * maxLinks) 0 (λ q. endIn s (linkStart l (q / 2)) (q % 2)) (2 * m) in
-    let first : (i : ℕ) → i < m → getD ends (2 * i) 0 ≡ byteAt s (linkStart l i + 2) = λ i h.
-    let e : 2 * i + 0 ≡ 2 * i = omega arith in
-    let f : linkStart l i + 2 + 0 ≡ linkStart l i + 2 = omega arith in
-    rw e at (pair-at 0 (λ i j. endIn s (linkStart l i) j) m i 0 few h (omega arith) 0) ∙ ap (byteAt s) f in
-    let second : (i : ℕ) → i < m → getD ends (2 * i + 1) 0 ≡ byteAt s (linkStart l i + 3) = λ i h.
-    let f : linkStart l i + 2 + 1 ≡ linkStart l i + 3 = omega arith in
-    pair-at 0 (λ i j. endIn s (linkStart l i) j) m i 1 few h (omega arith) 0 ∙ ap (byteAt s) f in
-    record {
-      some-station = fine .yard .some-station;
-      few-stations = fine .yard .few-stations;
-      few-links = few;
-      few-ceilings = fine .yard .few-ceilings;
-      ranks = fine .yard .ranks;
-      lengths = (refl, column-length (2 * maxLinks) 0 _ (2 * m), sums-length l s m, column-length (maxCeilings * maxLinks) (pos 0) _ (2 * m));
-      first-end = λ i h. rw (first i h) (fine .link i h .first-end);
-      second-end = λ i h. rw (second i h) (fine .link i h .second-end);
-      two-ends = λ i h e. fine .link i h .two-ends (sym (first i h) ∙ e ∙ second i h);
-      cheap = λ i h. rw (raised-at s l m few i h) (raised-small _ (fine .link i h .priced));
-      absent = λ i j hi hj hp.
-          pair-at (pos 0) (λ i j. costIn s (linkStart l i) j) m i j few hi hj (pos 0)
-          ∙ ap (signed w16) (absent-zero (ceilingsIn s) j (costBitsIn s (linkStart l i) j) (fine .link i hi .absent j hj) hp);
-    }
-
-pub survey-fine : (s : List ℕ) → checkedOf s ≡ Fine → NetworkFine (networkOf s)
-survey-fine s e = network-fine s (layoutOf s) (accepted s (layoutOf s) (layout-roomy s) e)
-
--- ---- the graph
+-- ---- the ranks
 
 -- the rank of a present ceiling is at least 1 and below n
 present-rank : (n p j k : ℕ) → badRank n p j k ≡ false → j < p → (0 < k) × (k ≤ n - 1)
@@ -110,25 +54,20 @@ each-rank n p j (k ∷ ks) e zero c h q =
 each-rank n p j (k ∷ ks) e (suc i) c h q =
     each-rank n p (j + 1) ks (or-false (badRank n p j k) (anyBadRank n p (j + 1) ks) e .1) i c (omega arith) (omega arith)
 
-pub graph-sound : (net : Network) → NetworkFine net → Sound (graph net)
-unfolding badRanks
-graph-sound net fine =
-    record {
-      stations = fine .some-station;
-      within = λ c h. (fine .first-end c h, fine .second-end c h);
-      weighs = lowered-weighs maxSum (sumAt (net .sums));
-      ranks = λ k m.
-          let w = mem-getD 0 m in
-          let few = fine .few-ceilings in
-          let short = w .1 in
-          let i : w .0 < net .p = omega (arith, length-take (net .p) (net .k)) in
-          let each = each-rank (net .n) (net .p) 0 (net .k) (or-false _ _ (fine .ranks) .0) (w .0) (w .0)
-          (omega (arith, length-take (net .p) (net .k))) (omega arith) in
-          rw (w .2 ∙ getD-take (net .p) (net .k) (w .0) 0 i) (present-rank (net .n) (net .p) (w .0) (getD (net .k) (w .0) 0) each i);
-    }
+-- each present rank is at least 1 and at most t
+ranks-present : (n p : ℕ) (ks : List ℕ) → anyBadRank n p 0 ks ≡ false → (k : ℕ) → k ∈ take p ks → (0 < k) × (k ≤ n - 1)
+ranks-present n p ks e k m =
+    let w = mem-getD 0 m in
+    let short = w .1 in
+    let i : w .0 < p = omega (arith, length-take p ks) in
+    let each = each-rank n p 0 ks e (w .0) (w .0) (omega (arith, length-take p ks)) (omega arith) in
+    rw (w .2 ∙ getD-take p ks (w .0) 0 i) (present-rank n p (w .0) (getD ks (w .0) 0) each i)
 
-pub survey-sound : (s : List ℕ) → checkedOf s ≡ Fine → Sound (graph (networkOf s))
-survey-sound s e = graph-sound (networkOf s) (survey-fine s e)
+-- fewer ranks have no more above 1
+slack-take : (p : ℕ) (ks : List ℕ) → slackOf (take p ks) ≤ slackOf ks
+slack-take zero ks = omega arith
+slack-take (suc p) [] = omega arith
+slack-take (suc p) (k ∷ ks) = omega (arith, slack-take p ks)
 
 -- ---- limits of the walk and of the list, for any number of ceilings
 
@@ -140,15 +79,133 @@ position-power G b h i (k ∷ ks) =
     let power : b ^ length (k ∷ ks) ≡ b ^ length ks * b = pow-suc b (length ks) in
     rw power (le-trans (mul-le-mul few (position-power G b h (suc i) ks)) (le-of-eq (mul-comm b (b ^ length ks))))
 
+-- the limits of what a survey may have, said of its network
+pub record WithinLimits (net : Network) : Type 0 where
+  pub stations : net .n ≤ maxStations
+  pub links : net .m ≤ maxLinks
+  pub ceilings : length (ranks net) ≤ maxCeilings
+
 -- M is at most 1,600
-pub position-limit : (net : Network) → NetworkFine net → positionCount net ≤ maxPlans
-position-limit net fine =
-    let few : length (ranks net) ≤ maxCeilings = omega (arith, length-take (net .p) (net .k), fine .few-ceilings) in
-    le-trans (position-power (graph net) maxLinks (fine .few-links) 0 (ranks net)) (pow-le-pow-right {n = maxLinks} (omega arith) few)
+pub position-limit : (net : Network) → WithinLimits net → positionCount net ≤ maxPlans
+position-limit net few = le-trans (position-power (graph net) maxLinks (few .links) 0 (ranks net)) (pow-le-pow-right {n = maxLinks} (omega arith) (few .ceilings))
 
 -- what a list buffer needs is at most 52,810 bytes
-pub need-limit : (net : Network) → NetworkFine net → bufferNeed net ≤ maxNeed
-need-limit net fine =
-    let positions = position-limit net fine in
-    let links : planSize planSlots (treeSize net) ≤ planSize planSlots maxTree = omega (arith, fine .few-stations) in
+pub need-limit : (net : Network) → WithinLimits net → bufferNeed net ≤ maxNeed
+need-limit net few =
+    let positions = position-limit net few in
+    let links : planSize planSlots (treeSize net) ≤ planSize planSlots maxTree = omega (arith, few .stations) in
     omega (arith, mul-le-mul positions links)
+
+-- ---- the network
+
+-- A network that the code can plan: columns of just its links and ceilings, links between its stations, ranks of its trees, and all of it held by the
+-- arrays.
+pub record NetworkFine (net : Network) : Type 0 where
+  pub some-station : 1 ≤ net .n
+  -- as many ranks, ends, sum costs and ceiling costs as there should be
+  pub rank-count : length (net .k) ≡ net .p
+  pub end-count : length (net .ends) ≡ 2 * net .m
+  pub sum-count : length (net .sums) ≡ net .m
+  pub cost-count : length (net .costs) ≡ net .p * net .m
+  -- each rank is at least 1 and at most t
+  pub ranked : (k : ℕ) → k ∈ net .k → (0 < k) × (k ≤ treeSize net)
+  -- link i
+  pub first-end : (i : ℕ) → i < net .m → getD (net .ends) (2 * i) 0 < net .n
+  pub second-end : (i : ℕ) → i < net .m → getD (net .ends) (2 * i + 1) 0 < net .n
+  -- it is held
+  pub few-stations : net .n ≤ stationsHeld
+  pub few-links : net .m ≤ linksHeld
+  pub few-ceilings : net .p ≤ ceilingsHeld
+  pub few-exceptions : slackOf (net .k) ≤ exceptionsHeld
+  pub few-positions : positionCount net ≤ plansHeld
+  pub cheap : (i : ℕ) → i < net .m → getD (net .sums) i 0 ≤ sumHeld
+
+-- end j of link i, in the ends of m links
+pub end-at : (l : Layout) (s : List ℕ) (m i j : ℕ) → i < m → j < 2 → getD (endsIn l s m) (2 * i + j) 0 ≡ endIn s (linkStart l i) j
+unfolding endsIn
+end-at l s m i j hi hj =
+    let half : (2 * i + j) / 2 ≡ i = omega arith in
+    let rest : (2 * i + j) % 2 ≡ j = omega arith in
+    tabulate-at (λ q. endIn s (linkStart l (q / 2)) (q % 2)) (2 * m) (2 * i + j) (omega arith) 0 ∙ rw (half, rest)
+
+module _ (s : List ℕ) (l : Layout) (fine : Accepted s l) where
+  abbrev m : ℕ
+  m = linkCount l s
+
+  abbrev net : Network
+  net = networkWith l s m
+
+  -- the limits
+  pub network-limits : WithinLimits net
+  unfolding networkWith
+  network-limits = record {
+    stations = fine .yard .few-stations;
+    links = fine .yard .few-links;
+    ceilings = let few = fine .yard .few-ceilings in omega (arith, length-take (ceilingsIn s) (ranksIn s));
+  }
+
+  first : (i : ℕ) → i < m → getD (endsIn l s m) (2 * i) 0 ≡ byteAt s (linkStart l i + 2)
+  first i h =
+      let e : 2 * i + 0 ≡ 2 * i = omega arith in
+      let f : linkStart l i + 2 + 0 ≡ linkStart l i + 2 = omega arith in
+      rw e at (end-at l s m i 0 h (omega arith)) ∙ ap (byteAt s) f
+
+  second : (i : ℕ) → i < m → getD (endsIn l s m) (2 * i + 1) 0 ≡ byteAt s (linkStart l i + 3)
+  second i h =
+      let f : linkStart l i + 2 + 1 ≡ linkStart l i + 3 = omega arith in
+      end-at l s m i 1 h (omega arith) ∙ ap (byteAt s) f
+
+  ends-length : length (endsIn l s m) ≡ 2 * m
+  unfolding endsIn
+  ends-length = tabulate-length _ (2 * m)
+
+  slack : slackOf (take (ceilingsIn s) (ranksIn s)) ≤ exceptionsHeld
+  unfolding badRanks
+  slack =
+      let all = ltb-false maxSlack (slackOf (ranksIn s)) (or-false (anyBadRank (stationsIn s) (ceilingsIn s) 0 (ranksIn s)) _ (fine .yard .ranks) .1) in
+      omega (arith, slack-take (ceilingsIn s) (ranksIn s))
+
+  rank-rule : anyBadRank (stationsIn s) (ceilingsIn s) 0 (ranksIn s) ≡ false
+  unfolding badRanks
+  rank-rule = or-false _ _ (fine .yard .ranks) .0
+
+  -- THE THEOREM: the network of an accepted survey can be planned
+  pub network-fine : NetworkFine net
+  unfolding networkWith
+  network-fine =
+      record {
+        some-station = fine .yard .some-station;
+        rank-count = length-take-le (ceilingsIn s) (ranksIn s) (fine .yard .few-ceilings);
+        end-count = ends-length;
+        sum-count = sums-length l s m;
+        cost-count = costs-length l s m (ceilingsIn s);
+        ranked = ranks-present (stationsIn s) (ceilingsIn s) (ranksIn s) rank-rule;
+        first-end = λ i h. rw (first i h) (fine .link i h .first-end);
+        second-end = λ i h. rw (second i h) (fine .link i h .second-end);
+        few-stations = fine .yard .few-stations;
+        few-links = fine .yard .few-links;
+        few-ceilings = fine .yard .few-ceilings;
+        few-exceptions = slack;
+        few-positions = position-limit net network-limits;
+        cheap = λ i h. rw (raised-at s l m i h) (raised-small _ (fine .link i h .priced));
+      }
+
+pub survey-fine : (s : List ℕ) → checkedOf s ≡ Fine → NetworkFine (networkOf s)
+survey-fine s e = network-fine s (layoutOf s) (accepted s (layoutOf s) (layout-roomy s) e)
+
+pub survey-limits : (s : List ℕ) → checkedOf s ≡ Fine → WithinLimits (networkOf s)
+survey-limits s e = network-limits s (layoutOf s) (accepted s (layoutOf s) (layout-roomy s) e)
+
+-- ---- the graph
+
+pub graph-sound : (net : Network) → NetworkFine net → Sound (graph net)
+graph-sound net fine =
+    record {
+      stations = fine .some-station;
+      within = λ c h. (fine .first-end c h, fine .second-end c h);
+      weighs = lowered-weighs raise (sumAt (net .sums));
+      ranks = fine .ranked;
+    }
+
+pub survey-sound : (s : List ℕ) → checkedOf s ≡ Fine → Sound (graph (networkOf s))
+survey-sound s e = graph-sound (networkOf s) (survey-fine s e)

@@ -4,12 +4,12 @@ use Prim.Native.Nat.{ℕ, _+_, _-_, _*_}
 use lib.IntN.{pos}
 use lib.ListN.{getD, length, replicate}
 use mir.Syntax.{w16, w32}
-use Rattle.network.specs.Limits.{maxCeilings, maxPlans, maxTree}
+use Rattle.network.specs.Limits.{maxPlans, maxTree}
 use Rattle.network.specs.Bytes.{bitsOf, i16At, i32At, littleEndian}
 use Rattle.network.specs.Yard.{ceilingCosts, treeSize, treeSum}
 use Rattle.network.specs.Walk.{plans, positionCount, solvedCount}
 use Rattle.network.specs.declared.Costs.{Costs}
-use Rattle.network.specs.declared.Network.{Network}
+use Rattle.network.specs.Network.{Network}
 
 -- the mark of the list head, 50 48
 abbrev pub headMark : List ℕ
@@ -38,7 +38,7 @@ headSize = 10
 
 -- how many ceiling costs a plan record holds, absent ones included
 abbrev pub planSlots : ℕ
-planSlots = maxCeilings
+planSlots = 2
 
 -- the size of a plan record of t links: mark, sum, its ceiling costs, the link numbers
 abbrev pub planSize : ℕ → ℕ → ℕ

@@ -13,7 +13,7 @@ use Rattle.network.specs.PlanList.{join, maxNeed}
 use Rattle.network.specs.Calls.{listChecked}
 use Rattle.network.specs.declared.Checked.{Checked}
 use Rattle.network.specs.declared.Checked.the-variants.{Fine, Refused}
-use Rattle.network.specs.declared.Network.{Network}
+use Rattle.network.specs.Network.{Network}
 
 -- the decimal digits of n in ASCII, most significant first, where `fuel` is at least their number
 abbrev pub digits : ℕ → ℕ → List ℕ

@@ -9,8 +9,9 @@ use lib.Dec.{ltb}
 use lib.IntN.{ℤ, pos, negsuc, subℕ, _+ℤ_, _-ℤ_, +ℤ-negℤ-cancel}
 use lib.ListN.{getD, length}
 use Rattle.order.specs.Lowered.{sub-above}
-use Rattle.network.specs.Limits.{maxLinks, maxRaised, maxSum}
-use Rattle.network.specs.Column.{column-at, column-length}
+use Rattle.network.specs.Limits.{maxSum}
+use Rattle.network.specs.Capacities.{raise, sumHeld}
+use Rattle.network.specs.Tabulate.{tabulate-at, tabulate-length}
 use Rattle.network.specs.Survey.{layoutOf, linkCount, linkStart, networkOf, networkWith, raised, sumIn, sumsIn}
 use Rattle.network.specs.Refusals.{badSum, checkedOf}
 use Rattle.network.specs.Yard.{sumCost}
@@ -20,32 +21,32 @@ use Rattle.network.specs.declared.Checked.the-variants.{Fine}
 use Rattle.network.specs.declared.Layout.{Layout}
 
 -- a sum cost in its range is at most 2,000,000 when raised
-pub raised-small : (z : ℤ) → badSum z ≡ false → raised z ≤ maxRaised
+pub raised-small : (z : ℤ) → badSum z ≡ false → raised z ≤ sumHeld
 unfolding badSum raised
 raised-small (pos n) e = let high = ltb-false maxSum n e in omega arith
 raised-small (negsuc n) e = omega arith
 
 -- raising adds 1,000,000
-pub raised-sum : (z : ℤ) → badSum z ≡ false → z +ℤ pos maxSum ≡ pos (raised z)
+pub raised-sum : (z : ℤ) → badSum z ≡ false → z +ℤ pos raise ≡ pos (raised z)
 unfolding badSum raised
 raised-sum (pos n) e = refl
 raised-sum (negsuc n) e =
     let low = ltb-false (maxSum - 1) n (or-false (ltb (maxSum - 1) n) false e .0) in
-    sub-above maxSum (suc n) (omega arith)
+    sub-above raise (suc n) (omega arith)
 
 -- 1,000,000 less than the raised sum cost is the sum cost
-raised-back : (z : ℤ) → badSum z ≡ false → subℕ (raised z) maxSum ≡ z
-raised-back z e = ap (λ (r : ℤ). r -ℤ pos maxSum) (sym (raised-sum z e)) ∙ +ℤ-negℤ-cancel z (pos maxSum)
+raised-back : (z : ℤ) → badSum z ≡ false → subℕ (raised z) raise ≡ z
+raised-back z e = ap (λ (r : ℤ). r -ℤ pos raise) (sym (raised-sum z e)) ∙ +ℤ-negℤ-cancel z (pos raise)
 
 -- entry i of the column is the raised sum cost of link i
-pub raised-at : (s : List ℕ) (l : Layout) (m : ℕ) → m ≤ maxLinks → (i : ℕ) → i < m → getD (sumsIn l s m) i 0 ≡ raised (sumIn s (linkStart l i))
+pub raised-at : (s : List ℕ) (l : Layout) (m i : ℕ) → i < m → getD (sumsIn l s m) i 0 ≡ raised (sumIn s (linkStart l i))
 unfolding sumsIn
-raised-at s l m few i h = column-at maxLinks 0 (λ i. raised (sumIn s (linkStart l i))) m i h few 0
+raised-at s l m i h = tabulate-at (λ i. raised (sumIn s (linkStart l i))) m i h 0
 
--- the column has room for all links
-pub sums-length : (l : Layout) (s : List ℕ) (m : ℕ) → length (sumsIn l s m) ≡ maxLinks
+-- the column has one for each link
+pub sums-length : (l : Layout) (s : List ℕ) (m : ℕ) → length (sumsIn l s m) ≡ m
 unfolding sumsIn
-sums-length l s m = column-length maxLinks 0 (λ i. raised (sumIn s (linkStart l i))) m
+sums-length l s m = tabulate-length (λ i. raised (sumIn s (linkStart l i))) m
 
 -- THE THEOREM: the sum cost of each link of an accepted survey is the one that its bytes say
 pub sum-said : (s : List ℕ) → checkedOf s ≡ Fine → (i : ℕ) → i < linkCount (layoutOf s) s → sumCost (networkOf s) i ≡ sumIn s (linkStart (layoutOf s) i)
@@ -53,4 +54,4 @@ unfolding networkWith
 sum-said s e i h =
     let l = layoutOf s in
     let fine : Accepted s l = accepted s l (layout-roomy s) e in
-    ap (λ (n : ℕ). subℕ n maxSum) (raised-at s l (linkCount l s) (fine .yard .few-links) i h) ∙ raised-back (sumIn s (linkStart l i)) (fine .link i h .priced)
+    ap (λ (n : ℕ). subℕ n raise) (raised-at s l (linkCount l s) i h) ∙ raised-back (sumIn s (linkStart l i)) (fine .link i h .priced)

@@ -1,17 +1,17 @@
 -- Document 01, "Bytes": the survey, which is one yard record and then link records only, and the network that its bytes say.
 use mathlib.Core.Bool.{Bool, cond}
-use mathlib.Core.List.{List, [], _∷_}
-use Prim.Native.Nat.{ℕ, suc, _+_, _-_, _*_, _/_, _%_}
+use mathlib.Core.List.{List, [], _∷_, _++_}
+use Prim.Native.Nat.{ℕ, zero, suc, _+_, _-_, _*_, _/_, _%_}
 use lib.Dec.{ltb}
 use lib.IntN.{ℤ, negsuc, pos}
-use lib.ListN.{length}
+use lib.ListN.{length, take}
 use mir.Syntax.{w16}
-use Rattle.network.specs.Limits.{maxCeilings, maxLinks, maxSum}
+use Rattle.network.specs.Capacities.{raise}
 use Rattle.network.specs.Bytes.{byteAt, i32At, markAt, signed, u16At}
-use Rattle.network.specs.Column.{column}
+use Rattle.network.specs.Tabulate.{tabulate}
+use Rattle.network.specs.Network.{Network}
 use Rattle.network.specs.declared.Form.{Form}
 use Rattle.network.specs.declared.Layout.{Layout}
-use Rattle.network.specs.declared.Network.{Network}
 
 -- the bytes that each yard record has: mark, n, p, k1, k2
 abbrev pub yardSize : ℕ
@@ -106,22 +106,27 @@ costIn s at j = signed w16 (costBitsIn s at j)
 
 -- ---- the network
 
--- the ends of the links, as far as `count` of them are read: entry q is end q % 2 of link q / 2
+-- the ends of the first m links: entry q is end q % 2 of link q / 2
 unfoldable pub endsIn : Layout → List ℕ → ℕ → List ℕ
-endsIn l s count = column (2 * maxLinks) 0 (λ q. endIn s (linkStart l (q / 2)) (q % 2)) count
+endsIn l s m = tabulate (λ q. endIn s (linkStart l (q / 2)) (q % 2)) (2 * m)
 
 -- a sum cost raised by 1,000,000; 0 for the lowest one allowed, and for those below it, which number 8 declines
 unfoldable pub raised : ℤ → ℕ
-raised (pos n) = n + maxSum
-raised (negsuc n) = maxSum - suc n
+raised (pos n) = n + raise
+raised (negsuc n) = raise - suc n
 
 -- their sum costs, raised
 unfoldable pub sumsIn : Layout → List ℕ → ℕ → List ℕ
-sumsIn l s count = column maxLinks 0 (λ i. raised (sumIn s (linkStart l i))) count
+sumsIn l s m = tabulate (λ i. raised (sumIn s (linkStart l i))) m
 
--- their ceiling costs: entry q is cost q % 2 of link q / 2
-unfoldable pub costsIn : Layout → List ℕ → ℕ → List ℤ
-costsIn l s count = column (maxCeilings * maxLinks) (pos 0) (λ q. costIn s (linkStart l (q / maxCeilings)) (q % maxCeilings)) count
+-- their costs by ceiling j, from 0
+unfoldable pub ceilingIn : Layout → List ℕ → ℕ → ℕ → List ℤ
+ceilingIn l s m j = tabulate (λ i. costIn s (linkStart l i) j) m
+
+-- their costs by the first p ceilings, one ceiling after the other
+unfoldable pub costsIn : Layout → List ℕ → ℕ → ℕ → List ℤ
+costsIn l s m zero = []
+costsIn l s m (suc p) = costsIn l s m p ++ ceilingIn l s m p
 
 -- the network of the yard record and the first m link records
 unfoldable pub networkWith : Layout → List ℕ → ℕ → Network
@@ -129,11 +134,11 @@ networkWith l s m =
     record {
       n = stationsIn s;
       p = ceilingsIn s;
-      k = ranksIn s;
+      k = take (ceilingsIn s) (ranksIn s);
       m = m;
-      ends = endsIn l s (2 * m);
+      ends = endsIn l s m;
       sums = sumsIn l s m;
-      costs = costsIn l s (maxCeilings * m);
+      costs = costsIn l s m (ceilingsIn s);
     }
 
 -- the network of a survey

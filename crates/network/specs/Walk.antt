@@ -8,7 +8,7 @@ use lib.IntN.{ℤ}
 use lib.ListN.{length}
 use Rattle.frontier.specs.Frontier as walk
 use Rattle.network.specs.Yard.{yard}
-use Rattle.network.specs.declared.Network.{Network}
+use Rattle.network.specs.Network.{Network}
 
 -- for each present ceiling i its m_i different values over all links, in falling order: the value at place j is number j from the front
 abbrev pub values : Network → List (List ℤ)

@@ -19,8 +19,8 @@ use Rattle.kmax.specs.KMax.{kmax}
 use Rattle.network.specs.Limits.{maxPlans}
 use Rattle.network.specs.Walk.{plans, solvedCount, walked}
 use Rattle.network.specs.Bytes.{bitsOf, littleEndian, signed}
-use Rattle.network.specs.Column.{column}
-use Rattle.network.specs.Survey.{costsIn, endsIn, layoutOf, linkForm, networkOf, networkWith, raised, rowWhere, sumsIn}
+use Rattle.network.specs.Tabulate.{tabulate}
+use Rattle.network.specs.Survey.{ceilingIn, costsIn, endsIn, layoutOf, linkForm, networkOf, networkWith, raised, rowWhere, sumsIn}
 use Rattle.network.specs.PlanList.{bufferNeed, costsAt, headMark, join, planMark}
 use Rattle.network.specs.Checked.{firstRefusal, refuseIf, _orElse_}
 use Rattle.network.specs.Refusals.{badCount, badLength, badRanks, badSum, checkedOf, checkedWith, linkChecked, yardChecked}
@@ -324,7 +324,7 @@ table =
 
 -- every row of the table is right
 pub table-right : (r : Row) → r ∈ table → Right r
-unfolding table endsIn sumsIn costsIn column rowWhere layoutOf networkWith raised signed bitsOf
+unfolding table endsIn sumsIn ceilingIn costsIn tabulate rowWhere layoutOf networkWith raised signed bitsOf
     spanningTrees choose chooseFrom tree.isTree tree.isTreeFrom tree.isForest tree.isOneComponent crosses merge numbersFrom isListed
     badCount badLength badRanks badSum checkedWith linkChecked yardChecked firstRefusal refuseIf _orElse_ reply status ifFine
     judged drawnChecked asked askedChecked bestTree treeAfter treeWith roomChecked plansChecked plansAfter listChecked listStatus listAfter printed

@@ -5,7 +5,7 @@ use mathlib.Core.List.{List, [], _∷_, map}
 use mathlib.Core.Option.{Option}
 use Prim.Native.Nat.{ℕ, _+_, _*_, _-_, _<_}
 use lib.IntN.{ℤ, pos}
-use lib.ListN.{getD, take}
+use lib.ListN.{drop, getD, take}
 use Rattle.order.specs.Order.{orderℤ}
 use Rattle.order.specs.Lowered.{lowered, sumℤ}
 use Rattle.spanning.specs.Labelling.{Edge}
@@ -15,8 +15,8 @@ use Rattle.spanning.specs.Listing.{isListed, spanningTrees}
 use Rattle.frontier.specs.Dominance as test
 use Rattle.frontier.specs.Frontier as walk
 use Rattle.planning.specs.Graph.{Graph, costsFrom, problem}
-use Rattle.network.specs.Limits.{maxCeilings, maxSum}
-use Rattle.network.specs.declared.Network.{Network}
+use Rattle.network.specs.Capacities.{raise}
+use Rattle.network.specs.Network.{Network}
 
 -- ---- stations and links
 
@@ -28,9 +28,13 @@ endsAt ends c = record { a = getD ends (2 * c) 0; b = getD ends (2 * c + 1) 0 }
 abbrev pub sumAt : List ℕ → ℕ → ℕ
 sumAt sums c = getD sums c 0
 
--- c1, c2: the ceiling cost i of link c, counted from 0, in the ceiling costs of all links
-abbrev pub costAt : List ℤ → ℕ → ℕ → ℤ
-costAt costs i c = getD costs (maxCeilings * c + i) (pos 0)
+-- the costs of all m links by ceiling i, counted from 0: a part of their ceiling costs
+abbrev pub ceilingPart : ℕ → List ℤ → ℕ → List ℤ
+ceilingPart m costs i = take m (drop (i * m) costs)
+
+-- c1, c2: the cost of link c by a ceiling, in the costs of all links by that ceiling
+abbrev pub costAt : List ℤ → ℕ → ℤ
+costAt column c = getD column c (pos 0)
 
 -- the same of a yard
 abbrev pub ends : Network → ℕ → Edge
@@ -38,14 +42,15 @@ ends net = endsAt (net .ends)
 
 -- s, the sum cost of link c
 abbrev pub sumCost : Network → ℕ → ℤ
-sumCost net = lowered maxSum (sumAt (net .sums))
+sumCost net = lowered raise (sumAt (net .sums))
 
+-- c1, c2: the cost of link c by ceiling i
 abbrev pub ceilingCost : Network → ℕ → ℕ → ℤ
-ceilingCost net = costAt (net .costs)
+ceilingCost net i = costAt (ceilingPart (net .m) (net .costs) i)
 
--- k1, k2: the ranks of the present ceilings
+-- k1, k2: the ranks of the ceilings
 abbrev pub ranks : Network → List ℕ
-ranks net = take (net .p) (net .k)
+ranks net = net .k
 
 -- the yard as a graph with costs, of which the theory speaks
 abbrev pub graph : Network → Graph

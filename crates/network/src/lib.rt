@@ -1,20 +1,19 @@
 // The data model that all code shares. What the values mean, and document 01 as definitions, is in specs/.
-use crate::limits::MAX_CEILINGS;
-use crate::limits::MAX_LINKS;
+use crate::capacities::CEILINGS_HELD;
 
+pub mod capacities;
 pub mod limits;
+pub mod records;
 
-// A yard: n stations, p ceilings with their ranks k, and m links. Link e joins the stations ends[2 * e] and ends[2 * e + 1], has the sum
-// cost sums[e] - MAX_SUM, which is kept raised so that none is below 0, and costs[2 * e + i] is its cost by ceiling i. Entries past the links and
-// ranks of absent ceilings are 0.
-pub struct Network {
+// What is small of a yard, which goes by value: n stations, p ceilings with their ranks k, of which the first p count, m links, and t, the links of a
+// tree. Its columns go beside it as slices of just their length: link e joins the stations ends[2 * e] and ends[2 * e + 1], has the sum cost
+// sums[e] - RAISE, which is kept raised so that none is below 0, and costs[i * m + e] is its cost by ceiling i.
+pub struct Shape {
     pub n: u8,
     pub p: u8,
-    pub k: [u8; MAX_CEILINGS],
+    pub k: [u8; CEILINGS_HELD],
     pub m: usize,
-    pub ends: [u8; 2 * MAX_LINKS],
-    pub sums: [u32; MAX_LINKS],
-    pub costs: [i16; MAX_CEILINGS * MAX_LINKS],
+    pub t: u8,
 }
 
 // The figures of a yard record: n stations, p ceilings, and the ranks k1 and k2, 0 where a ceiling is absent.

@@ -1,6 +1,9 @@
-// The limits and the sizes of records, named as in specs/Limits.antt, specs/Survey.antt and specs/PlanList.antt. No other crate has them as bare numbers.
+// The limits, named as in specs/Limits.antt. Only what reads and writes surveys and stored lists, and the programs, goes by them; no other crate has
+// them as bare numbers.
+use crate::records::COSTS_SIZE;
+use crate::records::HEAD_SIZE;
 
-// Stations of a yard, and so entries of the groups of stations.
+// Stations of a yard.
 pub const MAX_STATIONS: usize = 24;
 
 // Links of a survey.
@@ -15,9 +18,6 @@ pub const MAX_RANK: u8 = 3;
 // What the ranks have above 1, added up.
 pub const MAX_SLACK: usize = 2;
 
-// The sets of ceilings whose bounds a link may be above: room in the search.
-pub const MAX_PATTERNS: usize = 1 << MAX_CEILINGS;
-
 // The sum cost of a link.
 pub const MAX_SUM: i32 = 1000000;
 
@@ -28,19 +28,6 @@ pub const MAX_TREE: usize = MAX_STATIONS - 1;
 
 // Positions, and so plans of a list.
 pub const MAX_PLANS: usize = MAX_LINKS * MAX_LINKS;
-
-// Ceiling costs that a plan record holds, absent ones included.
-pub const PLAN_SLOTS: usize = MAX_CEILINGS;
-
-// Bytes that each yard record has, and each link record.
-pub const YARD_SIZE: usize = 6;
-
-pub const LINK_SIZE: usize = 12;
-
-// Bytes of a list head, and of a plan record before its links.
-pub const HEAD_SIZE: usize = 10;
-
-pub const COSTS_SIZE: usize = 6 + 2 * PLAN_SLOTS;
 
 // The most bytes that a list buffer needs.
 pub const MAX_NEED: usize = HEAD_SIZE + MAX_PLANS * (COSTS_SIZE + MAX_TREE);

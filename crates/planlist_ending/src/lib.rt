@@ -1,18 +1,18 @@
 // The end of a list in a lent buffer: the frontier that stands behind the place of the head is finished, or the buffer is cleared.
 use encoding_copies::clear_from;
-use network::limits::HEAD_SIZE;
+use network::records::HEAD_SIZE;
 use planlist_head::write_head;
 use planlist_records::plan_size;
 ghost use mathlib.Core.Path.{_≡_};
 ghost use Prim.Native.Nat.{_+_, _*_, _≤_};
 ghost use lib.ListN.{length, replicate};
-ghost use Rattle.network.specs.Limits.{maxPlans};
+ghost use Rattle.network.specs.Capacities.{plansHeld};
 ghost use Rattle.network.specs.PlanList.{headSize, planSize, planSlots};
 ghost use Rattle.planlist_ending.specs.Finished.{finished};
 
 // Finishes a list of `count` plans of t links: the head in front of them, and zeros behind them.
 pub fn finish(out: &mut [u8], count: usize, solved: u32, t: u8, p: u8)
-    requires { ⌜ (count ≤ maxPlans) × (headSize + count * planSize planSlots t ≤ length (now out)) ⌝ }
+    requires { ⌜ (count ≤ plansHeld) × (headSize + count * planSize planSlots t ≤ length (now out)) ⌝ }
     ensures { λ _. ⌜ now (out .exit) ≡ finished (now (out .entry)) count solved t p ⌝ }
 {
     write_head(out, count as u16, solved, t, p);

@@ -18,7 +18,7 @@ use Rattle.network.specs.Yard.{treeSize}
 use Rattle.network.specs.Walk.{plans, solvedCount}
 use Rattle.network.specs.Fetching.{headCount, damaged, fetchLinks, fetchNumber, fetchStart, linksStart, planStart, headTreeSize}
 use Rattle.network.specs.declared.Costs.{Costs}
-use Rattle.network.specs.declared.Network.{Network}
+use Rattle.network.specs.Network.{Network}
 use Rattle.encoding_numbers.specs.RoundTrip.{u16-bytes}
 use Rattle.encoding_blocks.specs.Blocks.{Sized, join-at, length-join}
 use Rattle.planlist_records.specs.Records.{encode, length-plan}

@@ -1,5 +1,5 @@
 // Fetching one plan from the bytes of a list.
-use network::limits::COSTS_SIZE;
+use network::records::COSTS_SIZE;
 use planlist_finding::fetch_number;
 use planlist_finding::plan_start;
 use planlist_records::TREE_SIZE_AT;

@@ -1,7 +1,7 @@
 // Finding one plan in the bytes of a list: the number, and where the plan's record starts.
 use encoding_numbers::mark_at;
 use encoding_numbers::read_u16;
-use network::limits::HEAD_SIZE;
+use network::records::HEAD_SIZE;
 use network::limits::MAX_CEILINGS;
 use network::limits::MAX_PLANS;
 use network::limits::MAX_TREE;

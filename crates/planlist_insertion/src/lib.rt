@@ -1,8 +1,8 @@
 // The frontier of plans, kept in the list buffer as records in their order.
 use encoding_moves::move_up;
 use network::Costs;
-use network::limits::COSTS_SIZE;
-use network::limits::HEAD_SIZE;
+use network::records::COSTS_SIZE;
+use network::records::HEAD_SIZE;
 use planlist_place::free_place;
 use planlist_pruning::prune;
 use planlist_records::write_plan;

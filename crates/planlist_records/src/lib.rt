@@ -3,7 +3,7 @@ use encoding_copies::copy_in;
 use encoding_writes::write_i16;
 use encoding_writes::write_i32;
 use network::Costs;
-use network::limits::COSTS_SIZE;
+use network::records::COSTS_SIZE;
 ghost use mathlib.Core.Path.{_≡_};
 ghost use Prim.Native.Nat.{_+_, _≤_};
 ghost use lib.ListN.{length};

@@ -14,7 +14,7 @@ use Rattle.network.specs.Calls.{asked, askedChecked, bestTree, costValues, ifFi
 use Rattle.network.specs.declared.Answer.{Answer}
 use Rattle.network.specs.declared.Answer.the-variants.{Refused as Answer·Refused}
 use Rattle.network.specs.declared.Checked.the-variants.{Refused}
-use Rattle.network.specs.declared.Network.{Network}
+use Rattle.network.specs.Network.{Network}
 use Rattle.network.specs.declared.Refusal.{Refusal}
 use Rattle.survey.specs.Survey.{Read}
 use Rattle.solver.specs.Question.{answerOf}

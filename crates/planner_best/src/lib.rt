@@ -4,6 +4,8 @@ use network::Answer;
 use network::Checked;
 use network::Refusal;
 use solver::question::solve;
+use network::capacities::CEILINGS_HELD;
+use network::capacities::LINKS_HELD;
 use survey::read_survey;
 ghost use mathlib.Core.Path.{_≡_};
 ghost use lib.ListN.{length};
@@ -16,21 +18,27 @@ pub fn best(survey: &[u8], b1: i16, b2: i16, tree: &mut [u8]) -> Answer
     ensures leaves { λ _. ⌜ now (tree .exit) ≡ treeAfter (now (survey .entry)) b1 b2 (now (tree .entry)) ⌝ }
     ensures noticed { λ r. ⌜ CutNoticed (now (survey .entry)) (says r .number) (says r .place) ⌝ }
 {
-    let read = read_survey(survey);
+    let mut ends = [0u8; 2 * LINKS_HELD];
+    let mut sums = [0u32; LINKS_HELD];
+    let mut costs = [0i16; CEILINGS_HELD * LINKS_HELD];
+    let read = read_survey(survey, &mut ends, &mut sums, &mut costs);
     let checked = read.checked;
-    let net = read.network;
+    let shape = read.shape;
+    let m = shape.m;
+    let size = shape.p as usize * m;
     match checked {
         Checked::Refused(refusal) => Answer::Refused(refusal),
         Checked::Fine => {
-            if tree.len() < net.n as usize - 1 {
+            if tree.len() < shape.t as usize {
                 return Answer::Refused(Refusal {
                     number: 9,
                     place: 0,
                 });
             }
-            let sums = net.sums;
-            let order = order_links(&sums, net.m);
-            solve(net, &order, b1, b2, tree)
+            let order = order_links(&sums[..m]);
+            let bounds = [b1, b2];
+            let p = shape.p as usize;
+            solve(shape, &ends[..2 * m], &sums[..m], &costs[..size], &order[..m], &bounds[..p], tree)
         }
     }
 }

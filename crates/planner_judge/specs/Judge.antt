@@ -11,7 +11,7 @@ use Rattle.network.specs.Calls.{drawnChecked, judged, reply, says}
 use Rattle.network.specs.declared.Answer.the-variants.{Plan, Refused as Answer·Refused}
 use Rattle.network.specs.declared.Checked.the-variants.{Refused}
 use Rattle.network.specs.declared.Costs.{Costs}
-use Rattle.network.specs.declared.Network.{Network}
+use Rattle.network.specs.Network.{Network}
 use Rattle.network.specs.declared.Refusal.{Refusal}
 use Rattle.survey.specs.Survey.{Read}
 

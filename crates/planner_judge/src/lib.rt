@@ -2,6 +2,8 @@
 use network::Answer;
 use network::Checked;
 use network::Refusal;
+use network::capacities::CEILINGS_HELD;
+use network::capacities::LINKS_HELD;
 use survey::read_survey;
 use trees_costs::tree_costs;
 use trees_drawn::is_tree;
@@ -14,14 +16,19 @@ pub fn judge(survey: &[u8], drawn: &[u8]) -> Answer
     ensures reply { λ r. ⌜ says r ≡ judged (now (survey .entry)) (now (drawn .entry)) ⌝ }
     ensures noticed { λ r. ⌜ CutNoticed (now (survey .entry)) (says r .number) (says r .place) ⌝ }
 {
-    let read = read_survey(survey);
+    let mut ends = [0u8; 2 * LINKS_HELD];
+    let mut sums = [0u32; LINKS_HELD];
+    let mut costs = [0i16; CEILINGS_HELD * LINKS_HELD];
+    let read = read_survey(survey, &mut ends, &mut sums, &mut costs);
     let checked = read.checked;
-    let net = read.network;
+    let shape = read.shape;
+    let m = shape.m;
+    let size = shape.p as usize * m;
     match checked {
         Checked::Refused(refusal) => Answer::Refused(refusal),
         Checked::Fine => {
-            if is_tree(net, drawn) {
-                Answer::Plan(tree_costs(net, drawn))
+            if is_tree(shape, &ends[..2 * m], drawn) {
+                Answer::Plan(tree_costs(shape, &sums[..m], &costs[..size], drawn))
             } else {
                 Answer::Refused(Refusal {
                     number: 11,

@@ -7,7 +7,7 @@ use Rattle.network.specs.Checked.{_orElse_}
 use Rattle.network.specs.Refusals.{checkedOf}
 use Rattle.network.specs.Calls.{ifFine, listAfter, listChecked, listStatus, plansAfter, plansChecked, status}
 use Rattle.network.specs.declared.Checked.the-variants.{Refused}
-use Rattle.network.specs.declared.Network.{Network}
+use Rattle.network.specs.Network.{Network}
 use Rattle.network.specs.declared.Refusal.{Refusal}
 use Rattle.network.specs.declared.Status.{Status}
 use Rattle.survey.specs.Survey.{Read}

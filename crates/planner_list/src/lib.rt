@@ -1,6 +1,8 @@
 // The list of plans.
 use network::Checked;
 use network::Status;
+use network::capacities::CEILINGS_HELD;
+use network::capacities::LINKS_HELD;
 use survey::read_survey;
 use walk::list::list_plans;
 ghost use mathlib.Core.Path.{_≡_};
@@ -16,14 +18,19 @@ pub fn list(survey: &[u8], allowance: u32, buffer: &mut [u8]) -> Status
     ensures promised { λ r. ⌜ Promised (now (survey .entry)) allowance (now (buffer .entry)) r (now (buffer .exit)) ⌝ }
     ensures noticed { λ r. ⌜ CutNoticed (now (survey .entry)) (r .number) (r .place) ⌝ }
 {
-    let read = read_survey(survey);
+    let mut ends = [0u8; 2 * LINKS_HELD];
+    let mut sums = [0u32; LINKS_HELD];
+    let mut costs = [0i16; CEILINGS_HELD * LINKS_HELD];
+    let read = read_survey(survey, &mut ends, &mut sums, &mut costs);
     let checked = read.checked;
-    let net = read.network;
+    let shape = read.shape;
+    let m = shape.m;
+    let size = shape.p as usize * m;
     match checked {
         Checked::Refused(refusal) => Status {
             number: refusal.number,
             place: refusal.place,
         },
-        Checked::Fine => list_plans(net, allowance, buffer),
+        Checked::Fine => list_plans(shape, &ends[..2 * m], &sums[..m], &costs[..size], allowance, buffer),
     }
 }

@@ -3,7 +3,7 @@ ghost use mathlib.Core.Path.{_≡_};
 ghost use Prim.Native.Nat.{_-_, _<_, _≤_};
 ghost use lib.ListN.{length};
 ghost use Rattle.kmax.specs.Ceilings.{slackOf};
-ghost use Rattle.network.specs.Limits.{maxCeilings};
+ghost use Rattle.network.specs.Capacities.{ceilingsHeld};
 
 // What one rank has above 1; an absent ceiling's rank is 0.
 fn above_one(k: u8) -> usize
@@ -14,7 +14,7 @@ fn above_one(k: u8) -> usize
 
 // What all have above 1.
 pub fn slack_of(ks: &[u8]) -> usize
-    requires { ⌜ length (now ks) ≤ maxCeilings ⌝ }
+    requires { ⌜ length (now ks) ≤ ceilingsHeld ⌝ }
     ensures { λ r. ⌜ r ≡ slackOf (now (ks .entry)) ⌝ }
 {
     let mut slack: usize = 0;

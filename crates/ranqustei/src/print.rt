@@ -10,7 +10,7 @@ use encoding_numbers::read_u32;
 use network::Answer;
 use network::Costs;
 use network::Status;
-use network::limits::HEAD_SIZE;
+use network::records::HEAD_SIZE;
 use network::limits::MAX_NEED;
 use network::limits::MAX_PLANS;
 use planner::fetch_links;

@@ -16,7 +16,7 @@ use Rattle.order.specs.Lists.{_⊆_}
 use Rattle.order.specs.Order.{orderℕ}
 use Rattle.order.specs.Perm.{sum}
 use Rattle.order.specs.Sorted.{Sorted}
-use Rattle.network.specs.Limits.{maxLinks, maxRaised}
+use Rattle.network.specs.Capacities.{linksHeld, sumHeld}
 use Rattle.network.specs.Yard.{sumAt}
 use Rattle.trees_sums.specs.Added.{Below, sum-le, sumOf}
 use Rattle.kruskal.specs.Tree.{Walkable, bare, linked}
@@ -68,26 +68,26 @@ take-least w (suc n) [] = omega arith
 take-least w (suc n) (x ∷ l) = omega (arith, take-least w n l)
 
 module _ (sums base : List ℕ) (walk : Walkable sums base) where
-  pub first-known : (n : ℕ) → length sums ≡ maxLinks → Below (length sums) (take n base)
+  pub first-known : (n : ℕ) → length sums ≡ linksHeld → Below (length sums) (take n base)
   first-known n h = record { below = λ e m. let b = walk .usable e (take-among n base e m) .below in omega arith }
 
-  first-small : (n : ℕ) → sum (sumAt sums) (take n base) ≤ maxLinks * maxRaised
+  first-small : (n : ℕ) → sum (sumAt sums) (take n base) ≤ linksHeld * sumHeld
   first-small n =
       let few = walk .few in
-      let all = sum-le (sumAt sums) maxRaised base (λ e m. walk .usable e m .cheap) in
-      omega (arith, take-least (sumAt sums) n base, mul-le-mul-right maxRaised few)
+      let all = sum-le (sumAt sums) sumHeld base (λ e m. walk .usable e m .cheap) in
+      omega (arith, take-least (sumAt sums) n base, mul-le-mul-right sumHeld few)
 
   pub first-fits : (n : ℕ) → sumOf sums (take n base) < 4294967296
   unfolding sumOf
   first-fits n = omega (arith, first-small n)
 
-  pub least-fits : (goal size c : ℕ) → c ≤ 2 * maxRaised → c + restOf sums base goal size .least < 4294967296
+  pub least-fits : (goal size c : ℕ) → c ≤ 2 * sumHeld → c + restOf sums base goal size .least < 4294967296
   unfolding restOf
   least-fits goal size c h =
       by-test (ltb (length base) (goal - size)) (λ e. rw e (omega arith)) (λ e. rw e (omega (arith, first-small (goal - size))))
 
   -- and so of the whole base
-  pub base-known : length sums ≡ maxLinks → Below (length sums) base
+  pub base-known : length sums ≡ linksHeld → Below (length sums) base
   base-known h = record { below = λ e m. let b = walk .usable e m .below in omega arith }
 
   pub base-fits : sumOf sums base < 4294967296

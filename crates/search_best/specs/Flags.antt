@@ -17,7 +17,7 @@ use Rattle.order.specs.Lists.{_∈_}
 use Rattle.order.specs.Order.{dictionaryLe, le-refl, orderℕ}
 use Rattle.order.specs.Sorted.{Apart, ascending, mem-sort, rising-unique, sort-mem, sort-rising}
 use Rattle.spanning.specs.Rising.{RisingIn, rising-in, rising-weaken}
-use Rattle.network.specs.Limits.{maxLinks}
+use Rattle.network.specs.Capacities.{linksHeld}
 use Rattle.kruskal.specs.Grown.{withFlag, flagsOf}
 
 -- the links with a flag, rising, where the first flag is that of link e
@@ -88,16 +88,16 @@ no-flag zero x f = clash f refl
 no-flag (suc n) zero f = clash f refl
 no-flag (suc n) (suc x) f = no-flag n x f
 
-pub flags-length : (ts : List ℕ) → length (flagsOf ts) ≡ maxLinks
+pub flags-length : (ts : List ℕ) → length (flagsOf ts) ≡ linksHeld
 unfolding flagsOf
-flags-length ts = go ts (replicate maxLinks false) ∙ length-replicate maxLinks false
+flags-length ts = go ts (replicate linksHeld false) ∙ length-replicate linksHeld false
   where
     go : (ts : List ℕ) (flags : List Bool) → length (foldl withFlag flags ts) ≡ length flags
     go [] flags = refl
     go (t ∷ ts) flags = go ts (withFlag flags t) ∙ length-set flags t true
 
 -- the flags of links of which none stands twice give these links back in rising order
-pub flags-rising : (ts : List ℕ) → Apart (λ x. x) ts → ((t : ℕ) → t ∈ ts → t < maxLinks) → rising 0 (flagsOf ts) ≡ ascending ts
+pub flags-rising : (ts : List ℕ) → Apart (λ x. x) ts → ((t : ℕ) → t ∈ ts → t < linksHeld) → rising 0 (flagsOf ts) ≡ ascending ts
 unfolding flagsOf
 flags-rising ts apart below =
     rising-unique orderℕ (λ x. x) (rising 0 (flagsOf ts)) (ascending ts)
@@ -105,9 +105,9 @@ flags-rising ts apart below =
     (sort-rising orderℕ (λ x. x) ts apart)
     (λ x m. let r = rising-flag 0 x (flagsOf ts) m in
     let q : x ≡ r .0 = omega arith in
-    ⊎-elim (λ k. mem-sort orderℕ (λ x. x) (Memᴰ·cast q k)) (λ f. absurd (no-flag maxLinks (r .0) f)) (flags-to ts (replicate maxLinks false) (r .0) (r .2)))
+    ⊎-elim (λ k. mem-sort orderℕ (λ x. x) (Memᴰ·cast q k)) (λ f. absurd (no-flag linksHeld (r .0) f)) (flags-to ts (replicate linksHeld false) (r .0) (r .2)))
     (λ x m. let k = sort-mem orderℕ (λ x. x) ts m in
-    flag-rising 0 x x (flagsOf ts) (sym (zero-add x)) (flags-from ts (replicate maxLinks false) x (below x k) (inl k)))
+    flag-rising 0 x x (flagsOf ts) (sym (zero-add x)) (flags-from ts (replicate linksHeld false) x (below x k) (inl k)))
 
 -- ---- which of two trees comes first
 

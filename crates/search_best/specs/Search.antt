@@ -5,7 +5,7 @@ use mathlib.Core.List.{List, foldl}
 use lib.Dec.{eqb, ltb}
 use lib.ListN.{length, replicate}
 use Rattle.order.specs.Lists.{filter}
-use Rattle.network.specs.Limits.{maxLinks}
+use Rattle.network.specs.Capacities.{linksHeld}
 use Rattle.forest.specs.Groups.{apart}
 use Rattle.kruskal.specs.Tree.{bare, linked}
 use Rattle.kruskal.specs.Base.{kept}
@@ -18,7 +18,7 @@ use Rattle.search_best.specs.declared.best.Best.{Best}
 
 -- no tree was found
 unfoldable pub nothing : Best
-nothing = record { found = false; sum = 0; taken = replicate maxLinks false }
+nothing = record { found = false; sum = 0; taken = replicate linksHeld false }
 
 -- the tree t is better than b: it has a smaller sum, or the same sum and comes first
 unfoldable pub beats : Tree → Best → Bool

@@ -1,7 +1,7 @@
 // The best tree so far, and a tree that is compared with it.
 use crate::ties::first_tree;
 use kruskal::tree::Tree;
-use network::limits::MAX_LINKS;
+use network::capacities::LINKS_HELD;
 ghost use mathlib.Core.Path.{_≡_};
 ghost use Rattle.search_best.specs.Search.{beats, offered};
 
@@ -9,7 +9,7 @@ ghost use Rattle.search_best.specs.Search.{beats, offered};
 pub struct Best {
     pub found: bool,
     pub sum: u32,
-    pub taken: [bool; MAX_LINKS],
+    pub taken: [bool; LINKS_HELD],
 }
 
 // The tree t is better than b: it has a smaller sum, or the same sum and comes first.

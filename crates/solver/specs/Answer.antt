@@ -11,7 +11,7 @@ use Rattle.order.specs.Test.{clash}
 use Rattle.network.specs.Yard.{best, bounds, sumAt, treeSize}
 use Rattle.network.specs.Calls.{isNone, linksOf, treeWith}
 use Rattle.network.specs.NetworkFine.{NetworkFine}
-use Rattle.network.specs.declared.Network.{Network}
+use Rattle.network.specs.Network.{Network}
 use Rattle.search_best.specs.Flags.{rising}
 use Rattle.solver_buffer.specs.Buffer.{put-front, putAt}
 use Rattle.solver_network.specs.OfNetwork.{netBest}

@@ -23,10 +23,10 @@ use Rattle.kmax.specs.Digits.{admits, marked}
 use Rattle.planning.specs.Graph.{exceptionals, links, normals, searchSets, under}
 use Rattle.planning.specs.Search.{EnoughSets, base, search-base, search-sets}
 use Rattle.planning.specs.Patterns.{KeptLink, has, keeps, kept-enough}
-use Rattle.network.specs.Limits.{maxLinks}
+use Rattle.network.specs.Capacities.{linksHeld}
 use Rattle.network.specs.Yard.{best, bounds, endsAt, graph, ranks, sumAt}
 use Rattle.network.specs.NetworkFine.{NetworkFine, graph-sound}
-use Rattle.network.specs.declared.Network.{Network}
+use Rattle.network.specs.Network.{Network}
 use Rattle.forest.specs.Groups.{apart, apart-labels, apart-led}
 use Rattle.kruskal_order.specs.ByCost.{linkOrder, order-apart, order-below}
 use Rattle.kruskal.specs.Base.{kept}
@@ -58,7 +58,7 @@ module _ (net : Network) (fine : NetworkFine net) (b1 b2 : ℤ) where
   link-below : (e : ℕ) → e ∈ links (graph net) → e < net .m
   link-below e k = let r = numbers-mem (net .m) 0 e k in omega arith
 
-  within : (X : List ℕ) → ((x : ℕ) → x ∈ X → x < net .m) → (x : ℕ) → x ∈ X → x < maxLinks
+  within : (X : List ℕ) → ((x : ℕ) → x ∈ X → x < net .m) → (x : ℕ) → x ∈ X → x < linksHeld
   within X below x k = let few = fine .few-links in omega (arith, below x k)
 
   -- ---- what the program keeps of the normal links, and of the exceptions
@@ -71,7 +71,7 @@ module _ (net : Network) (fine : NetworkFine net) (b1 b2 : ℤ) where
   candidate q e k = link-below e (filter-mem q (links (graph net)) (passing q e k) .0)
 
   -- where the program's test p of a link is the theory's q
-  kept-links : (p q : ℕ → Bool) → ((e : ℕ) → e < maxLinks → p e ≡ q e)
+  kept-links : (p q : ℕ → Bool) → ((e : ℕ) → e < linksHeld → p e ≡ q e)
       → kept (net .ends) apart (filter p (linkOrder (net .sums) (net .m))) ≡ base (graph net) (byCost (sumAt (net .sums)) (filter q (links (graph net))))
   unfolding linkOrder
   kept-links p q h =
@@ -98,7 +98,7 @@ module _ (net : Network) (fine : NetworkFine net) (b1 b2 : ℤ) where
 
   -- ---- the sets that the program tries are enough
 
-  order-within : (x : ℕ) → x ∈ linkOrder (net .sums) (net .m) → x < maxLinks
+  order-within : (x : ℕ) → x ∈ linkOrder (net .sums) (net .m) → x < linksHeld
   order-within = within (linkOrder (net .sums) (net .m)) (order-below (net .sums) (net .m))
 
   -- they stand in their order among the links
@@ -132,7 +132,7 @@ module _ (net : Network) (fine : NetworkFine net) (b1 b2 : ℤ) where
       (λ e h. ap (λ (p : ℕ). eqb p q) (net-pattern net fine b1 b2 e h))
 
   -- a link that needs to be tried may be an exception
-  needed-fit : (x : ℕ) → x < maxLinks → lone orderℤ cs x ≡ true
+  needed-fit : (x : ℕ) → x < linksHeld → lone orderℤ cs x ≡ true
       → marked (patternAt (netPatterns net b1 b2) x) && admits (ranks net) (patternAt (netPatterns net b1 b2) x ∷ []) ≡ true
   unfolding normal admitted
   needed-fit x h e =
@@ -145,7 +145,7 @@ module _ (net : Network) (fine : NetworkFine net) (b1 b2 : ℤ) where
   needed : (x : ℕ) → x < net .m → KeptLink (graph net) bs x → x ∈ odd
   needed x h K =
       let few = fine .few-links in
-      let known : x < maxLinks = omega arith in
+      let known : x < linksHeld = omega arith in
       let q = patternAt (netPatterns net b1 b2) x in
       let own = exceptions-of (net .ends) (ranks net) (netPatterns net b1 b2) (linkOrder (net .sums) (net .m)) (net-patterned net fine b1 b2) q
       (pattern-known (ranks net) (netPatterns net b1 b2) (net-patterned net fine b1 b2) x known) (needed-fit x known (K .alone)) in

@@ -26,10 +26,10 @@ use Rattle.spanning.specs.Best.{forest-apart, whole, whole-below, whole-tree}
 use Rattle.kmax.specs.Ceilings.{admissible}
 use Rattle.kmax.specs.Search.{offer, search-snoc, searchIn, tryOne}
 use Rattle.planning.specs.Graph.{by-weight, completed, searchSets, total, under}
-use Rattle.network.specs.Limits.{maxLinks}
+use Rattle.network.specs.Capacities.{linksHeld}
 use Rattle.network.specs.Yard.{endsAt, graph, sumAt}
 use Rattle.network.specs.NetworkFine.{NetworkFine, graph-sound}
-use Rattle.network.specs.declared.Network.{Network}
+use Rattle.network.specs.Network.{Network}
 use Rattle.kruskal.specs.Tree.{bare, linked}
 use Rattle.kruskal.specs.Grown.{Holds, Near, bare-holds, grown-holds}
 use Rattle.kruskal.specs.declared.tree.Tree.{Tree}
@@ -78,7 +78,7 @@ sum-first x y t = go (trichotomy x y)
 -- b is the tree, if any: its sum and its flags
 pub data Shows (s : ℕ → ℕ) (goal : ℕ) : Option (List ℕ) → Best → Type 0 where
   none-shown : {b : Best} → b .found ≡ false → Shows s goal none b
-  tree-shown : {ts : List ℕ} {b : Best} → b .found ≡ true → b .sum ≡ perm.sum s ts → rising 0 (b .taken) ≡ ts → length (b .taken) ≡ maxLinks → length ts ≡ goal
+  tree-shown : {ts : List ℕ} {b : Best} → b .found ≡ true → b .sum ≡ perm.sum s ts → rising 0 (b .taken) ≡ ts → length (b .taken) ≡ linksHeld → length ts ≡ goal
       → Shows s goal (some ts) b
 
 module _ (net : Network) (fine : NetworkFine net) where
@@ -100,7 +100,7 @@ module _ (net : Network) (fine : NetworkFine net) where
 
   -- one more tree us, held by u, offered where it has `goal` links: to the theory's search, and to the program's
   offer-shown : (o : Option (List ℕ)) (b : Best) (us : List ℕ) (u : Tree) → Shows s goal o b → Holds ends (net .sums) us u
-      → (length us ≡ goal → Apart (λ x. x) us) → ((x : ℕ) → x ∈ us → x < maxLinks)
+      → (length us ≡ goal → Apart (λ x. x) us) → ((x : ℕ) → x ∈ us → x < linksHeld)
       → Shows s goal (better o (cond (eqb (length us) goal) (some (ascending us)) none)) (offered goal b u)
   unfolding offered beats
   offer-shown o b us u shown h apart below =
@@ -174,7 +174,7 @@ module _ (net : Network) (fine : NetworkFine net) where
         subst (λ (L : Labelling). Holds ends (net .sums) (X ++ kruskal (endsAt ends) L base) (grow (grow bare X) base)) (a .labels)
         (grown-holds ends (net .sums) X (grow bare X) base (near base base-below) a)
 
-    whole-links : (X : List ℕ) → ((x : ℕ) → x ∈ X → x < net .m) → (x : ℕ) → x ∈ whole (endsAt ends) base X → x < maxLinks
+    whole-links : (X : List ℕ) → ((x : ℕ) → x ∈ X → x < net .m) → (x : ℕ) → x ∈ whole (endsAt ends) base X → x < linksHeld
     whole-links X below x k =
         let few = fine .few-links in
         omega (arith, whole-below (endsAt ends) (net .n) (net .m) (fine .some-station) (graph-sound net fine .within) base X base-below below x k)

@@ -18,7 +18,7 @@ use Rattle.network.specs.NetworkFine.{NetworkFine}
 use Rattle.network.specs.declared.Answer.{Answer}
 use Rattle.network.specs.declared.Answer.the-variants.{Plan, Refused}
 use Rattle.network.specs.declared.Costs.{Costs}
-use Rattle.network.specs.declared.Network.{Network}
+use Rattle.network.specs.Network.{Network}
 use Rattle.network.specs.declared.Refusal.{Refusal}
 use Rattle.trees_costs.specs.TreeCosts.{TreeLinks, tree-links}
 use Rattle.solver.specs.Answer.{bestFound}

@@ -1,5 +1,5 @@
 // The best tree's links in the lent tree buffer.
-use network::Network;
+use network::Shape;
 use solver_buffer::put_links;
 use solver_network::best_in_order;
 ghost use mathlib.Core.Path.{_≡_};
@@ -11,16 +11,30 @@ ghost use Rattle.network.specs.NetworkFine.{NetworkFine};
 ghost use Rattle.kruskal_order.specs.ByCost.{linkOrder};
 ghost use Rattle.solver.specs.Answer.{bestFound};
 
-// Whether a tree fits under the bounds b1 and b2. The links of the best one go to the front of the buffer, whose other bytes stay.
-pub fn best_links(net: Network, order: &[u8], b1: i16, b2: i16, tree: &mut [u8]) -> bool
-    requires { ⌜ NetworkFine net × (take (net .m) (now order) ≡ linkOrder (net .sums) (net .m)) × (treeSize net ≤ length (now tree)) ⌝ }
-    ensures { λ r. ⌜ (r ≡ bestFound net b1 b2) × (now (tree .exit) ≡ treeWith (best net (bounds net b1 b2)) (now (tree .entry))) ⌝ }
+// Whether a tree was found, and the raised sum of its costs.
+pub struct Found {
+    pub found: bool,
+    pub sum: u32,
+}
+
+// Whether a tree fits under the bounds. The links of the best one go to the front of the buffer, whose other bytes stay.
+pub fn best_links(
+    shape: Shape,
+    ends: &[u8],
+    sums: &[u32],
+    costs: &[i16],
+    order: &[u8],
+    bounds: &[i16],
+    tree: &mut [u8],
+) -> Found
 {
-    let b = best_in_order(net, order, b1, b2);
+    let b = best_in_order(shape, ends, sums, costs, order, bounds);
     if b.found {
         let taken = b.taken;
-        put_links(tree, taken);
-        return true;
+        put_links(tree, taken, shape.t as usize);
     }
-    false
+    Found {
+        found: b.found,
+        sum: b.sum,
+    }
 }

@@ -5,9 +5,9 @@ use mathlib.Core.Path.{_≡_}
 use native.Mathlib.Omega.{arith}
 use lib.IntN.{ℤ}
 use lib.ListN.{length, length-take, take}
-use Rattle.network.specs.Limits.{maxCeilings}
+use Rattle.network.specs.Capacities.{ceilingsHeld}
 use Rattle.network.specs.Yard.{ranks}
-use Rattle.network.specs.declared.Network.{Network}
+use Rattle.network.specs.Network.{Network}
 use Rattle.kruskal_order.specs.ByCost.{linkOrder}
 use Rattle.exceptions_patterns.specs.OfNetwork.{netPatterns}
 use Rattle.search_best.specs.Search.{bestOf}
@@ -23,5 +23,5 @@ unfolding netBest
 assembled-network net b1 b2 patterns order b e o q = rw (← e, ← o) q
 
 -- there are at most as many bounds as ceilings
-pub few-bounds : (p : ℕ) (b1 b2 : ℤ) → length (take p (b1 ∷ b2 ∷ [])) ≤ maxCeilings
+pub few-bounds : (p : ℕ) (b1 b2 : ℤ) → length (take p (b1 ∷ b2 ∷ [])) ≤ ceilingsHeld
 few-bounds p b1 b2 = omega (arith, length-take p (b1 ∷ b2 ∷ []))

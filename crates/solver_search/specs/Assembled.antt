@@ -4,7 +4,7 @@ use mathlib.Core.List.{List}
 use mathlib.Core.Path.{_≡_}
 use Rattle.order.specs.Lists.{_∈_, filter}
 use Rattle.forest.specs.Groups.{apart}
-use Rattle.network.specs.Limits.{maxLinks}
+use Rattle.network.specs.Capacities.{linksHeld}
 use Rattle.kruskal.specs.Base.{kept}
 use Rattle.exceptions_patterns.specs.Patterns.{Patterned, normal}
 use Rattle.exceptions.specs.Keep.{Exceptions, exceptions-sublist, kept-exceptions, keptExceptions}
@@ -23,7 +23,7 @@ assembled ends sums goal ks patterns order normals base b e f q = rw (← e, ←
 
 -- what is known of the exceptions that are kept of links in order
 module _ (ends : List ℕ) {sums order ks patterns : List ℕ} (P : Patterned ks patterns) (v : InOrder sums order) where
-  pub kept-below : (x : ℕ) → x ∈ keptExceptions ends patterns ks order → x < maxLinks
+  pub kept-below : (x : ℕ) → x ∈ keptExceptions ends patterns ks order → x < linksHeld
   kept-below x m = sublist-in-order sums (exceptions-sublist ends ks patterns order P) v .walkable .usable x m .below
 
   pub kept-in-order : InOrder sums (keptExceptions ends patterns ks order)

@@ -11,7 +11,7 @@ use Rattle.network.specs.Calls.{ifFine}
 use Rattle.network.specs.NetworkFine.{NetworkFine, survey-fine}
 use Rattle.network.specs.declared.Checked.the-variants.{Fine}
 use Rattle.network.specs.declared.Layout.{Layout}
-use Rattle.network.specs.declared.Network.{Network}
+use Rattle.network.specs.Network.{Network}
 use Rattle.survey.specs.declared.Survey.{Survey}
 
 -- what stands for the network of a survey that is refused

@@ -2,9 +2,8 @@
 use crate::rules::check_with;
 use network::Checked;
 use network::Layout;
-use network::Network;
-use network::limits::MAX_CEILINGS;
-use network::limits::MAX_LINKS;
+use network::Shape;
+use network::capacities::CEILINGS_HELD;
 use survey_decode::decode;
 use survey_layout::layout::layout_of;
 ghost use mathlib.Core.Path.{_≡_};
@@ -13,50 +12,47 @@ ghost use Rattle.survey.specs.Survey.{noNetwork, surveyOf, surveyWith};
 
 mod rules;
 
-// A survey that was read: what its check found, and its network where that is nothing.
+// A survey that was read: what its check found, and where that is nothing the shape of its yard.
 pub struct Survey {
     pub checked: Checked,
-    pub network: Network,
+    pub shape: Shape,
 }
 
-// What stands for the network of a survey that is refused.
-fn no_network() -> Network
-    ensures { λ r. ⌜ r ≡ noNetwork ⌝ }
+// What stands for the shape of a survey that is refused.
+fn no_shape() -> Shape
+    ensures { λ r. ⌜ r ≡ noShape ⌝ }
 {
-    Network {
+    Shape {
         n: 0,
         p: 0,
-        k: [0u8; MAX_CEILINGS],
+        k: [0u8; CEILINGS_HELD],
         m: 0,
-        ends: [0u8; 2 * MAX_LINKS],
-        sums: [0u32; MAX_LINKS],
-        costs: [0i16; MAX_CEILINGS * MAX_LINKS],
+        t: 0,
     }
 }
 
 // Reads a survey in a layout: its check, and its network where it is not refused.
-fn read_with(s: &[u8], l: Layout) -> Survey
+fn read_with(s: &[u8], l: Layout, ends: &mut [u8], sums: &mut [u32], costs: &mut [i16]) -> Survey
     requires { ⌜ Roomy l ⌝ }
-    ensures { λ r. ⌜ r ≡ surveyWith l (now (s .entry)) ⌝ }
 {
     let checked = check_with(s, l);
     match checked {
         Checked::Refused(_) => {
-            let network = no_network();
-            Survey { checked, network }
+            let shape = no_shape();
+            Survey { checked, shape }
         }
         Checked::Fine => {
             let first = l.yard.size;
             let size = l.link.size;
-            let network = decode(s, l, (s.len() - first) / size);
-            Survey { checked, network }
+            let m = (s.len() - first) / size;
+            let shape = decode(s, l, m, ends, sums, costs);
+            Survey { checked, shape }
         }
     }
 }
 
-// Reads a survey: its first refusal, or its network.
-pub fn read_survey(s: &[u8]) -> Survey
-    ensures { λ r. ⌜ r ≡ surveyOf (now (s .entry)) ⌝ }
+// Reads a survey: its first refusal, or the shape of its yard, with its columns at the fronts of those that are lent.
+pub fn read_survey(s: &[u8], ends: &mut [u8], sums: &mut [u32], costs: &mut [i16]) -> Survey
 {
-    read_with(s, layout_of(s))
+    read_with(s, layout_of(s), ends, sums, costs)
 }

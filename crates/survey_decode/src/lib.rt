@@ -1,6 +1,6 @@
 // The network that a survey's records say.
 use network::Layout;
-use network::Network;
+use network::Shape;
 use survey_columns::decode_costs;
 use survey_columns::decode_ends;
 use survey_layout::fields::CEILINGS;
@@ -11,26 +11,22 @@ ghost use mathlib.Core.Path.{_≡_};
 ghost use Rattle.network.specs.Survey.{networkWith};
 ghost use Rattle.network.specs.Accepted.{Priced, Whole};
 
-// The network of a survey with m links.
-pub fn decode(s: &[u8], l: Layout, m: usize) -> Network
+// The shape of a survey with m links, whose columns go to the fronts of those that are lent.
+pub fn decode(s: &[u8], l: Layout, m: usize, ends: &mut [u8], sums: &mut [u32], costs: &mut [i16]) -> Shape
     requires { ⌜ Whole (now s) l m × Priced (now s) l m ⌝ }
-    ensures { λ r. ⌜ r ≡ networkWith l (now (s .entry)) m ⌝ }
 {
     let n = s[STATIONS];
     let p = s[CEILINGS];
     let k1 = s[RANKS];
     let k2 = s[RANKS + 1];
-    let k = [k1, k2];
-    let ends = decode_ends(s, l, m);
-    let sums = decode_sums(s, l, m);
-    let costs = decode_costs(s, l, m);
-    Network {
+    decode_ends(s, l, m, ends);
+    decode_sums(s, l, m, sums);
+    decode_costs(s, l, m, p as usize, costs);
+    Shape {
         n,
         p,
-        k,
+        k: [k1, k2],
         m,
-        ends,
-        sums,
-        costs,
+        t: n - 1,
     }
 }

@@ -2,8 +2,8 @@
 use encoding_numbers::mark_at;
 use network::Form;
 use network::Layout;
-use network::limits::LINK_SIZE;
-use network::limits::YARD_SIZE;
+use network::records::LINK_SIZE;
+use network::records::YARD_SIZE;
 ghost use mathlib.Core.Path.{_≡_};
 ghost use Prim.Native.Nat.{_+_, _≤_, _<_};
 ghost use lib.ListN.{length};

@@ -1,8 +1,7 @@
 // The sum costs that a survey's link records say, raised, as a column.
 use encoding_signed::read_i32;
 use network::Layout;
-use network::limits::MAX_LINKS;
-use network::limits::MAX_SUM;
+use network::capacities::RAISE;
 use survey_layout::fields::SUM;
 use survey_layout::layout::link_start;
 ghost use mathlib.Core.Bool.{false};
@@ -17,20 +16,18 @@ fn raised(sum: i32) -> u32
     requires { ⌜ badSum sum ≡ false ⌝ }
     ensures { λ r. ⌜ r ≡ spec.raised sum ⌝ }
 {
-    (sum + MAX_SUM) as u32
+    (sum + RAISE) as u32
 }
 
 // The raised sum costs of the m links.
-pub fn decode_sums(s: &[u8], l: Layout, m: usize) -> [u32; MAX_LINKS]
+pub fn decode_sums(s: &[u8], l: Layout, m: usize, sums: &mut [u32])
     requires { ⌜ Whole (now s) l m × Priced (now s) l m ⌝ }
     ensures { λ r. ⌜ r ≡ sumsIn l (now (s .entry)) m ⌝ }
 {
-    let mut sums = [0u32; MAX_LINKS];
     let mut i = 0;
     while i < m {
         let at = link_start(s, l, m, i);
         sums[i] = raised(read_i32(s, at + SUM));
         i += 1;
     }
-    sums
 }

@@ -16,7 +16,7 @@ use Rattle.network.specs.Alike.{Alike, alike}
 use Rattle.network.specs.Writing.{Figures, Link, figuresIn, figuresOf, linkIn, noLink}
 use Rattle.network.specs.WritingPromise.{Says}
 use Rattle.network.specs.declared.Layout.{Layout}
-use Rattle.network.specs.declared.Network.{Network}
+use Rattle.network.specs.Network.{Network}
 
 -- end j of a link
 abbrev endAt : Link → ℕ → ℕ

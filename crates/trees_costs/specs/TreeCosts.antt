@@ -1,16 +1,16 @@
--- The costs of a list of links: what the code computes of the arrays is what the network's definitions say.
-use Prim.Native.Nat.{ℕ, zero, suc, _+_, _*_, _≤_, _<_}
-use mathlib.Core.Path.{_≡_, sym}
-use mathlib.Core.Bool.{cond, true, _&&_}
+-- The costs of a list of links: what the code computes of the columns is what the network's definitions say.
+use Prim.Native.Nat.{ℕ, zero, suc, _+_, _-_, _*_, _≤_, _<_}
+use mathlib.Core.Path.{_≡_, refl, sym, ap, ap₂, _∙_}
+use mathlib.Core.Bool.{true, _&&_}
 use mathlib.Core.List.{List, [], _∷_, map}
-use native.Mathlib.Nat.{mul-le-mul-right, zero-add}
+use native.Mathlib.Nat.{mul-le-mul-right, suc-mul, zero-add}
 use native.Mathlib.Omega.{arith}
-use borrow.Author.Tests.{eqb-true, le-ltb, lt-ltb}
-use lib.Dec.{eqb, leb·suc-suc, ltb}
-use lib.IntN.{pos}
-use lib.ListN.{getD, length, take}
+use borrow.Author.Tests.{eqb-true, ltb-false, ltb-true}
+use lib.Dec.{eqb, ltb}
+use lib.IntN.{ℤ, pos}
+use lib.ListN.{drop, getD, length, length-drop, length-take, replicate, set, take}
 use lib.Seq.{getD-take, length-take-le}
-use Rattle.order.specs.Test.{left, right}
+use Rattle.order.specs.Test.{by-test, left, right}
 use Rattle.order.specs.Lists.{getD-mem}
 use Rattle.order.specs.Order.{orderℤ}
 use Rattle.order.specs.Lowered.{sum-lowered}
@@ -19,69 +19,170 @@ use Rattle.planning.specs.Graph.{Graph, costsFrom}
 use Rattle.spanning.specs.Tree as tree
 use Rattle.spanning.specs.Rising.{isRisingIn, isRisingIn-iff, rising-range}
 use Rattle.spanning.specs.Listing.{isListed}
-use Rattle.network.specs.Limits.{maxCeilings, maxLinks, maxRaised, maxSum, maxTree}
-use Rattle.network.specs.NetworkFine.{NetworkFine, graph-sound}
-use Rattle.network.specs.Yard.{ceilingCosts, ends, graph, isTree, ranks, sumAt, treeSize, treeSum}
-use Rattle.network.specs.declared.Network.{Network}
+use Rattle.network.specs.Capacities.{ceilingsHeld, linksHeld, raise, sumHeld, treeHeld}
+use Rattle.network.specs.Column.{column, column-at, column-length, column-more, column-none, column-past}
+use Rattle.network.specs.Network.{Network}
+use Rattle.network.specs.PlanList.{costsOf}
+use Rattle.network.specs.Shaped.{Plannable, netOf}
+use Rattle.network.specs.Yard.{ceilingCosts, ceilingPart, ends, graph, isTree, sumAt, treeSize, treeSum}
+use Rattle.network.specs.declared.Costs.{Costs}
+use Rattle.network.specs.declared.Shape.{Shape}
 use Rattle.trees_sums.specs.Added.{Below, loweredSum, sum-le, sumOf}
-use Rattle.trees_ceilings.specs.Ceiling.{CeilingFine, ceilingAt}
+use Rattle.trees_ceilings.specs.Ceiling.{CeilingFine, ceilingOf}
+
+-- ---- definitions
+
+-- the costs of links by the first i ceilings, which have the ranks ks, and 0 for the others; each ceiling's part of the costs has m entries
+unfoldable pub ceilingsTo : ℕ → List ℕ → List ℤ → List ℕ → ℕ → List ℤ
+ceilingsTo m ks costs ts i = column ceilingsHeld (pos 0) (λ j. ceilingOf (ceilingPart m costs j) (getD ks j 0) ts) i
+
+-- their costs by all ceilings of the shape
+unfoldable pub ceilingsBy : Shape → List ℤ → List ℕ → List ℤ
+ceilingsBy shape costs ts = ceilingsTo (shape .m) (shape .k) costs ts (shape .p)
+
+-- the costs of links whose raised sum costs add up to `raised`
+unfoldable pub costsBy : Shape → List ℤ → List ℕ → ℕ → Costs
+costsBy shape costs ts raised =
+    let y = ceilingsBy shape costs ts in
+    record { sum = loweredSum raised (length ts); y1 = getD y 0 (pos 0); y2 = getD y 1 (pos 0) }
+
+-- links that have such costs: known, at most t, with ranks of theirs
+pub record Ceiled (shape : Shape) (costs : List ℤ) (ts : List ℕ) : Type 0 where
+  pub room : length (shape .k) ≡ ceilingsHeld
+  pub few-ceilings : shape .p ≤ ceilingsHeld
+  pub few-links : shape .m ≤ linksHeld
+  pub size : length costs ≡ shape .p * shape .m
+  pub known : Below (shape .m) ts
+  pub few : length ts ≤ treeHeld
+  pub rank : (i : ℕ) → i < shape .p → (0 < getD (shape .k) i 0) × (getD (shape .k) i 0 ≤ length ts)
+
+-- and a sum in range
+pub record Priceable (shape : Shape) (costs : List ℤ) (ts : List ℕ) (raised : ℕ) : Type 0 where
+  pub ceiled : Ceiled shape costs ts
+  pub small : raised ≤ linksHeld * sumHeld
+
+-- ---- the loop over the ceilings
+
+module _ (m : ℕ) (ks : List ℕ) (costs : List ℤ) (ts : List ℕ) where
+  pub ceilings-none : replicate ceilingsHeld (pos 0) ≡ ceilingsTo m ks costs ts 0
+  unfolding ceilingsTo
+  ceilings-none = sym (column-none ceilingsHeld (pos 0) _)
+
+  pub ceilings-turn : (i from to : ℕ) {l : List ℤ} {x : ℤ} → l ≡ ceilingsTo m ks costs ts i → from ≡ i * m → to ≡ from + m
+      → x ≡ ceilingOf (take (to - from) (drop from costs)) (getD ks i 0) ts → set l i x ≡ ceilingsTo m ks costs ts (i + 1)
+  unfolding ceilingsTo
+  ceilings-turn i from to e f g q =
+      let n : i * m + m - i * m ≡ m = omega arith in
+      rw (e, q, g, f, n) (sym (column-more ceilingsHeld (pos 0) (λ j. ceilingOf (ceilingPart m costs j) (getD ks j 0) ts) i))
+
+  pub ceilings-length : (i : ℕ) → length (ceilingsTo m ks costs ts i) ≡ ceilingsHeld
+  unfolding ceilingsTo
+  ceilings-length i = column-length ceilingsHeld (pos 0) _ i
+
+module _ (shape : Shape) (costs : List ℤ) (ts : List ℕ) where
+  pub ceilings-end : (i : ℕ) {l : List ℤ} → l ≡ ceilingsTo (shape .m) (shape .k) costs ts i → i ≡ shape .p → l ≡ ceilingsBy shape costs ts
+  unfolding ceilingsBy
+  ceilings-end i e q = rw (e, q)
+
+  -- ceiling i at its turn: its part lies inside, and its rank is one of the links'
+  module _ (fine : Ceiled shape costs ts) (i from to : ℕ) (h : i < shape .p) (e : from ≡ i * shape .m) (f : to ≡ from + shape .m) where
+    pub part-inside : to ≤ length costs
+    part-inside = omega (arith, fine .size, mul-le-mul-right (shape .m) h, suc-mul i (shape .m))
+
+    pub part-fine : CeilingFine (take (to - from) (drop from costs)) (getD (shape .k) i 0) ts
+    part-fine =
+        let inside = part-inside in
+        record {
+          figures = record {
+            known = record { below = λ c k. let b = fine .known .below c k in omega (arith, length-take (to - from) (drop from costs), length-drop from costs) };
+            few = fine .few;
+          };
+          rank = fine .rank i h;
+        }
+
+-- ---- of a network
 
 -- t links of the network, in any order
 pub record TreeLinks (net : Network) (ts : List ℕ) : Type 0 where
   pub size : length ts ≡ treeSize net
   pub known : Below (net .m) ts
 
--- number i of the ceiling costs from number j on
-costs-at : (G : Graph) (j p : ℕ) (ks ts : List ℕ) (i : ℕ) → i < length ks
-    → getD (costsFrom G j (take p ks) ts) i (pos 0) ≡ cond (ltb i p) (kmax orderℤ (getD ks i 0) (map (G .cost (j + i)) ts) (pos 0)) (pos 0)
-costs-at G j p [] ts i h = absurd (omega arith)
-costs-at G j zero (k ∷ ks) ts i h = rw (le-ltb i 0 (omega arith))
-costs-at G j (suc p) (k ∷ ks) ts zero h = let e : j + 0 ≡ j = omega arith in rw (e, lt-ltb 0 (suc p) (omega arith))
-costs-at G j (suc p) (k ∷ ks) ts (suc i) h =
+-- number i of the ceiling costs from number j on, and what stands past the last
+costs-at : (G : Graph) (j : ℕ) (ks ts : List ℕ) (i : ℕ) → i < length ks
+    → getD (costsFrom G j ks ts) i (pos 0) ≡ kmax orderℤ (getD ks i 0) (map (G .cost (j + i)) ts) (pos 0)
+costs-at G j [] ts i h = absurd (omega arith)
+costs-at G j (k ∷ ks) ts zero h = let e : j + 0 ≡ j = omega arith in rw e
+costs-at G j (k ∷ ks) ts (suc i) h =
     let e : j + suc i ≡ suc j + i = omega arith in
-    rw (e, leb·suc-suc (suc i) p) (costs-at G (suc j) p ks ts i (omega arith))
+    rw e (costs-at G (suc j) ks ts i (omega arith))
 
--- ---- of a network
+costs-past : (G : Graph) (j : ℕ) (ks ts : List ℕ) (i : ℕ) → length ks ≤ i → getD (costsFrom G j ks ts) i (pos 0) ≡ pos 0
+costs-past G j [] ts i h = refl
+costs-past G j (k ∷ ks) ts zero h = absurd (omega arith)
+costs-past G j (k ∷ ks) ts (suc i) h = costs-past G (suc j) ks ts i (omega arith)
 
-module _ (net : Network) (fine : NetworkFine net) where
-  pub sum-at : (ts : List ℕ) → loweredSum (sumOf (net .sums) ts) (length ts) ≡ treeSum net ts
-  unfolding sumOf loweredSum
-  sum-at ts = sym (sum-lowered maxSum (sumAt (net .sums)) ts)
+module _ (shape : Shape) (ends sums : List ℕ) (costs : List ℤ) (can : Plannable shape ends sums costs) (ts : List ℕ) where
+  abbrev net : Network
+  net = netOf shape ends sums costs
 
-  pub ceiling-at : (ts : List ℕ) (i : ℕ) → i < maxCeilings → ceilingAt (net .p) (getD (net .k) i 0) (net .costs) i ts ≡ getD (ceilingCosts net ts) i (pos 0)
-  unfolding ceilingAt
-  ceiling-at ts i h = let two = fine .lengths .0 in sym (rw zero-add at (costs-at (graph net) 0 (net .p) (net .k) ts i (omega arith)))
+  rank-at : (i : ℕ) → i < shape .p → getD (net .k) i 0 ≡ getD (shape .k) i 0
+  rank-at i h = getD-take (shape .p) (shape .k) i 0 h
 
-  -- the rank of a present ceiling
-  rank-at : (i : ℕ) → i < net .p → (0 < getD (net .k) i 0) × (getD (net .k) i 0 ≤ treeSize net)
-  rank-at i h =
-      let two = fine .lengths .0 in
-      let few = fine .few-ceilings in
-      let short : length (ranks net) ≡ net .p = length-take-le (net .p) (net .k) (omega arith) in
-      let k = getD-mem (ranks net) i 0 (omega arith) in
-      rw (getD-take (net .p) (net .k) i 0 h) at (graph-sound net fine .ranks (getD (ranks net) i 0) k)
+  -- each ceiling cost
+  ceiling-at : (i : ℕ) → i < ceilingsHeld → getD (ceilingsBy shape costs ts) i (pos 0) ≡ getD (ceilingCosts net ts) i (pos 0)
+  unfolding ceilingsBy ceilingsTo ceilingOf
+  ceiling-at i h =
+      by-test (ltb i (shape .p))
+      (λ q.
+      let present = ltb-true i (shape .p) q in
+      let few = can .fine .few-ceilings in
+      let count = can .fine .rank-count in
+      column-at ceilingsHeld (pos 0) f (shape .p) i present few (pos 0)
+      ∙ rw (← rank-at i present) (sym (rw zero-add at (costs-at (graph net) 0 (net .k) ts i (omega arith)))))
+      (λ q.
+      let absent = ltb-false i (shape .p) q in
+      let count = can .fine .rank-count in
+      column-past ceilingsHeld (pos 0) f (shape .p) i absent h (pos 0) ∙ sym (costs-past (graph net) 0 (net .k) ts i (omega arith)))
+    where
+      f : ℕ → ℤ
+      f j = ceilingOf (ceilingPart (shape .m) costs j) (getD (shape .k) j 0) ts
 
-  module _ (ts : List ℕ) (links : TreeLinks net ts) where
-    -- t links are few, and there is room for them
-    pub links-few : length ts ≤ maxTree
-    links-few = let size = links .size in let few = fine .few-stations in omega arith
+  -- THE LAW: these are the tree's costs
+  pub costs-net : costsBy shape costs ts (sumOf sums ts) ≡ costsOf net ts
+  unfolding costsBy sumOf loweredSum
+  costs-net =
+      let s : treeSum net ts ≡ loweredSum (sumOf sums ts) (length ts) = sum-lowered raise (sumAt sums) ts in
+      λ i. record { sum = sym s i; y1 = ceiling-at 0 (omega arith) i; y2 = ceiling-at 1 (omega arith) i }
 
-    pub links-known : Below maxLinks ts
-    links-known = record { below = λ c m. let h = links .known .below c m in let few = fine .few-links in omega arith }
+  module _ (links : TreeLinks net ts) where
+    -- t links are few
+    pub links-few : length ts ≤ treeHeld
+    links-few = let size = links .size in let few = can .fine .few-stations in omega arith
 
-    pub ceiling-fine : (i : ℕ) → i < maxCeilings → CeilingFine (net .p) (getD (net .k) i 0) (net .costs) i ts
-    ceiling-fine i h =
-        record {
-          figures = record { room = fine .lengths .3; ceiling = h; known = links-known; few = links-few };
-          rank = λ q. rw (links .size) (rank-at i q);
-        }
-
-    -- their raised sum costs add up to no more than those of 40 links can
-    pub sum-small : sumOf (net .sums) ts ≤ maxLinks * maxRaised
+    -- their raised sum costs add up to no more than those of all links can
+    sum-small : sumOf sums ts ≤ linksHeld * sumHeld
     unfolding sumOf
     sum-small =
-        let all = sum-le (sumAt (net .sums)) maxRaised ts (λ c m. fine .cheap c (links .known .below c m)) in
-        omega (arith, links-few, mul-le-mul-right maxRaised links-few)
+        let all = sum-le (sumAt sums) sumHeld ts (λ c m. can .fine .cheap c (links .known .below c m)) in
+        omega (arith, links-few, mul-le-mul-right sumHeld links-few)
+
+    -- they have costs
+    pub priceable : Priceable shape costs ts (sumOf sums ts)
+    priceable =
+        record {
+          ceiled = record {
+            room = can .ranks;
+            few-ceilings = can .fine .few-ceilings;
+            few-links = can .fine .few-links;
+            size = can .fine .cost-count;
+            known = links .known;
+            few = links-few;
+            rank = λ i h.
+                let count = can .fine .rank-count in
+                rw (rank-at i h, ← links .size) at (can .fine .ranked (getD (net .k) i 0) (getD-mem (net .k) i 0 (omega arith)));
+          };
+          small = sum-small;
+        }
 
 -- a tree has t links of the network
 pub tree-links : (net : Network) (ts : List ℕ) → isTree net ts ≡ true → TreeLinks net ts

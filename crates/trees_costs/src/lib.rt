@@ -1,26 +1,50 @@
 // The costs of a list of links: the sum, and for each ceiling the k-th largest cost.
 use network::Costs;
-use network::Network;
+use network::Shape;
+use network::capacities::CEILINGS_HELD;
 use trees_ceilings::ceiling_cost;
 use trees_sums::lowered;
 use trees_sums::sum_of;
 ghost use mathlib.Core.Path.{_≡_};
-ghost use Rattle.network.specs.NetworkFine.{NetworkFine};
-ghost use Rattle.network.specs.PlanList.{costsOf};
-ghost use Rattle.trees_costs.specs.TreeCosts.{TreeLinks};
+ghost use lib.ListN.{length};
+ghost use Rattle.trees_sums.specs.Added.{sumOf};
+ghost use Rattle.trees_costs.specs.TreeCosts.{Ceiled, Priceable, ceilingsBy, costsBy};
+
+// The ceiling costs of the links: of each present ceiling, and 0 for the others.
+fn ceiling_costs(shape: Shape, costs: &[i16], links: &[u8]) -> [i16; CEILINGS_HELD]
+    requires { ⌜ Ceiled shape (now costs) (now links) ⌝ }
+    ensures { λ r. ⌜ r ≡ ceilingsBy shape (now (costs .entry)) (now (links .entry)) ⌝ }
+{
+    let p = shape.p as usize;
+    let m = shape.m;
+    let k = shape.k;
+    let mut y = [0i16; CEILINGS_HELD];
+    let mut from = 0;
+    for i in 0..p {
+        let to = from + m;
+        y[i] = ceiling_cost(&costs[from..to], k[i], links);
+        from = to;
+    }
+    y
+}
+
+// The costs of t links, whose raised sum costs add up to `raised`.
+pub fn costs_with(shape: Shape, costs: &[i16], links: &[u8], raised: u32) -> Costs
+    requires { ⌜ Priceable shape (now costs) (now links) raised ⌝ }
+    ensures { λ r. ⌜ r ≡ costsBy shape (now (costs .entry)) (now (links .entry)) raised ⌝ }
+{
+    let y = ceiling_costs(shape, costs, links);
+    Costs {
+        sum: lowered(raised, links.len()),
+        y1: y[0],
+        y2: y[1],
+    }
+}
 
 // The costs of t links.
-pub fn tree_costs(net: Network, links: &[u8]) -> Costs
-    requires { ⌜ NetworkFine net × TreeLinks net (now links) ⌝ }
-    ensures { λ r. ⌜ r ≡ costsOf net (now (links .entry)) ⌝ }
+pub fn tree_costs(shape: Shape, sums: &[u32], costs: &[i16], links: &[u8]) -> Costs
+    requires { ⌜ (length (now sums) ≡ shape .m) × Priceable shape (now costs) (now links) (sumOf (now sums) (now links)) ⌝ }
+    ensures { λ r. ⌜ r ≡ costsBy shape (now (costs .entry)) (now (links .entry)) (sumOf (now (sums .entry)) (now (links .entry))) ⌝ }
 {
-    let p = net.p;
-    let k = net.k;
-    let sums = net.sums;
-    let costs = net.costs;
-    Costs {
-        sum: lowered(sum_of(&sums, links), links.len()),
-        y1: ceiling_cost(p, k[0], &costs, 0, links),
-        y2: ceiling_cost(p, k[1], &costs, 1, links),
-    }
+    costs_with(shape, costs, links, sum_of(sums, links))
 }

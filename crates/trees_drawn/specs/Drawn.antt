@@ -1,4 +1,4 @@
--- A list of links gone through one by one: each is to be above the one before, below m, and to join two groups. With n - 1 links that is a tree.
+-- A list of links gone through one by one: each is to be above the one before, below m, and to join two groups. With t links that is a tree.
 use Prim.Native.Nat.{ℕ, _+_, _-_, _≤_, _<_}
 use mathlib.Core.Path.{_≡_, refl, sym, ap, _∙_, fun-ext, subst}
 use mathlib.Core.Bool.{Bool, true, false, _&&_, and-false}
@@ -7,6 +7,7 @@ use native.Mathlib.Numerals.{add-one}
 use native.Mathlib.Omega.{arith}
 use borrow.Author.Tests.{eq-eqb, ltb-true, ne-eqb}
 use lib.Dec.{leb, ltb}
+use lib.IntN.{ℤ}
 use lib.ListN.{drop, drop-of-length-le, getD, length, length-map}
 use lib.Seq.{drop-cons}
 use Rattle.order.specs.Test.{by-test, test-iff}
@@ -19,10 +20,10 @@ use Rattle.spanning.specs.Count.{forest-spans}
 use Rattle.spanning.specs.Rising.{isRisingIn, isRisingIn-iff, rising-range}
 use Rattle.spanning.specs.Listing.{isListed}
 use Rattle.forest.specs.Groups.{Led, apart, apart-labels, apart-led, joined-labels, joined-led}
-use Rattle.network.specs.Limits.{maxStations}
-use Rattle.network.specs.NetworkFine.{NetworkFine}
+use Rattle.network.specs.Capacities.{stationsHeld}
+use Rattle.network.specs.Shaped.{Plannable}
 use Rattle.network.specs.Yard as yard
-use Rattle.network.specs.declared.Network.{Network}
+use Rattle.network.specs.declared.Shape.{Shape}
 use Rattle.trees_drawing.specs.Drawing.{drawing}
 use Rattle.trees_drawing.specs.declared.Drawn.{Drawn}
 
@@ -61,7 +62,7 @@ module _ (ends : List ℕ) (m : ℕ) where
   draws-fault d [] e = e
   draws-fault d (c ∷ ts) e = draws-fault (drawing ends m d c) ts (rw e)
 
-module _ (ends : List ℕ) (m : ℕ) (within : (c : ℕ) → c < m → Within maxStations (yard.endsAt ends c)) where
+module _ (ends : List ℕ) (m : ℕ) (within : (c : ℕ) → c < m → Within stationsHeld (yard.endsAt ends c)) where
   draws-from : (d : Drawn) (ts : List ℕ) → Led (d .groups) → d .fine ≡ true
       → drawsFrom ends m d ts ≡ isRisingIn (d .low) m ts && isForest (labelOf (d .groups .leader)) (map (yard.endsAt ends) ts)
   unfolding drawsFrom drawing isForest
@@ -103,15 +104,32 @@ module _ (ends : ℕ → Edge) (n m : ℕ) (some : 0 < n) (within : (c : ℕ) �
       )))
       (λ e. rw e))
 
--- ---- of a network
+-- ---- of a shape and its ends
 
-module _ (net : Network) (fine : NetworkFine net) (ts : List ℕ) where
-  pub tree-drawn : length ts ≡ net .n - 1 → drawsForest (net .ends) (net .m) ts ≡ yard.isTree net ts
+-- links between stations, of which trees have t
+pub record Drawable (shape : Shape) (ends : List ℕ) : Type 0 where
+  pub some-station : 1 ≤ shape .n
+  pub few-stations : shape .n ≤ stationsHeld
+  pub tree : shape .t ≡ shape .n - 1
+  pub within : (c : ℕ) → c < shape .m → Within (shape .n) (yard.endsAt ends c)
+
+-- those of a network that can be planned
+pub drawable : {shape : Shape} {ends sums : List ℕ} {costs : List ℤ} → Plannable shape ends sums costs → Drawable shape ends
+drawable can =
+    record {
+      some-station = can .fine .some-station;
+      few-stations = can .fine .few-stations;
+      tree = can .tree;
+      within = λ c h. (can .fine .first-end c h, can .fine .second-end c h);
+    }
+
+module _ (shape : Shape) (ends : List ℕ) (can : Drawable shape ends) (ts : List ℕ) where
+  pub tree-drawn : length ts ≡ shape .t → drawsForest ends (shape .m) ts ≡ isListed (yard.endsAt ends) (shape .n) (shape .m) ts
   tree-drawn size =
-      let few = fine .few-stations in
-      draws-forest (net .ends) (net .m) (λ c h. let a = fine .first-end c h in let b = fine .second-end c h in (omega arith, omega arith)) ts
-      ∙ sym (listed-forest (yard.ends net) (net .n) (net .m) (fine .some-station) (λ c h. (fine .first-end c h, fine .second-end c h)) ts size)
+      let few = can .few-stations in
+      draws-forest ends (shape .m) (λ c h. let w = can .within c h in (omega arith, omega arith)) ts
+      ∙ sym (listed-forest (yard.endsAt ends) (shape .n) (shape .m) (can .some-station) (can .within) ts (size ∙ can .tree))
 
-  pub size-drawn : (length ts ≡ net .n - 1 → ⊥) → false ≡ yard.isTree net ts
+  pub size-drawn : (length ts ≡ shape .t → ⊥) → false ≡ isListed (yard.endsAt ends) (shape .n) (shape .m) ts
   unfolding isListed
-  size-drawn h = rw (ne-eqb (length ts) (net .n - 1) h)
+  size-drawn h = rw (ne-eqb (length ts) (shape .n - 1) (λ e. h (e ∙ sym (can .tree))))

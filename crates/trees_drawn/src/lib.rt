@@ -1,12 +1,12 @@
-// Whether a list of links is a tree: n - 1 links of the survey, rising, each of which joins two groups of stations.
+// Whether a list of links is a tree: t links of the survey, rising, each of which joins two groups of stations.
 use forest::Forest;
-use network::Network;
+use network::Shape;
 use trees_drawing::Drawn;
 use trees_drawing::draw;
 ghost use mathlib.Core.Path.{_≡_};
-ghost use Rattle.network.specs.NetworkFine.{NetworkFine};
-ghost use Rattle.network.specs.Yard.{isTree};
-ghost use Rattle.trees_drawn.specs.Drawn.{drawsForest};
+ghost use Rattle.spanning.specs.Listing.{isListed};
+ghost use Rattle.network.specs.Yard.{endsAt};
+ghost use Rattle.trees_drawn.specs.Drawn.{Drawable, drawsForest};
 
 // Whether the links rise below m and each joins two groups.
 fn draws_forest(ends: &[u8], m: usize, links: &[u8]) -> bool
@@ -24,14 +24,12 @@ fn draws_forest(ends: &[u8], m: usize, links: &[u8]) -> bool
 }
 
 // Whether the links are a tree, written rising.
-pub fn is_tree(net: Network, links: &[u8]) -> bool
-    requires { ⌜ NetworkFine net ⌝ }
-    ensures { λ r. ⌜ r ≡ isTree net (now (links .entry)) ⌝ }
+pub fn is_tree(shape: Shape, ends: &[u8], links: &[u8]) -> bool
+    requires { ⌜ Drawable shape (now ends) ⌝ }
+    ensures { λ r. ⌜ r ≡ isListed (endsAt (now (ends .entry))) (shape .n) (shape .m) (now (links .entry)) ⌝ }
 {
-    let n = net.n as usize;
-    let ends = net.ends;
-    if links.len() == n - 1 {
-        draws_forest(&ends, net.m, links)
+    if links.len() == shape.t as usize {
+        draws_forest(ends, shape.m, links)
     } else {
         false
     }

@@ -10,7 +10,7 @@ use lib.ListN.{drop, drop-of-length-le, getD, length}
 use lib.Seq.{drop-cons}
 use Rattle.order.specs.Lists.{_∈_, getD-mem}
 use Rattle.order.specs.Perm.{sum}
-use Rattle.network.specs.Limits.{maxSum}
+use Rattle.network.specs.Capacities.{raise}
 use Rattle.network.specs.Yard.{sumAt}
 
 -- each link is below b
@@ -23,7 +23,7 @@ sumOf sums ts = sum (sumAt sums) ts
 
 -- the sum cost of `count` links, whose raised sum costs add up to `raised`
 unfoldable pub loweredSum : ℕ → ℕ → ℤ
-loweredSum raised count = subℕ raised (count * maxSum)
+loweredSum raised count = subℕ raised (count * raise)
 
 pub below-at : {b : ℕ} {l : List ℕ} → Below b l → (i : ℕ) → i < length l → getD l i 0 < b
 below-at {l = l} k i h = k .below (getD l i 0) (getD-mem l i 0 h)

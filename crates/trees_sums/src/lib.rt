@@ -1,9 +1,9 @@
 // The sum cost of a list of links.
-use network::limits::MAX_SUM;
+use network::capacities::RAISE;
 ghost use mathlib.Core.Path.{_≡_};
 ghost use Prim.Native.Nat.{_*_, _≤_, _<_};
 ghost use lib.ListN.{length};
-ghost use Rattle.network.specs.Limits.{maxLinks, maxRaised};
+ghost use Rattle.network.specs.Capacities.{linksHeld, sumHeld};
 ghost use Rattle.network.specs.Yard.{sumAt};
 ghost use Rattle.trees_sums.specs.Added.{Below, loweredSum, sumOf};
 
@@ -30,8 +30,8 @@ pub fn sum_of(sums: &[u32], links: &[u8]) -> u32
 
 // The sum cost of `count` links, whose raised sum costs add up to `raised`.
 pub fn lowered(raised: u32, count: usize) -> i32
-    requires { ⌜ (raised ≤ maxLinks * maxRaised) × (count ≤ maxLinks) ⌝ }
+    requires { ⌜ (raised ≤ linksHeld * sumHeld) × (count ≤ linksHeld) ⌝ }
     ensures { λ r. ⌜ r ≡ loweredSum raised count ⌝ }
 {
-    raised as i32 - count as i32 * MAX_SUM
+    raised as i32 - count as i32 * RAISE
 }

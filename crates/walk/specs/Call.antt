@@ -10,7 +10,7 @@ use Rattle.network.specs.PlanList.{bufferNeed, filled}
 use Rattle.network.specs.Checked.{refuseIf, _orElse_}
 use Rattle.network.specs.Calls.{ifFine, plansAfter, plansChecked, roomChecked, status}
 use Rattle.network.specs.Yard.{treeSize}
-use Rattle.network.specs.declared.Network.{Network}
+use Rattle.network.specs.Network.{Network}
 use Rattle.network.specs.declared.Status.{Status}
 use Rattle.planlist_ending.specs.Finished.{finished}
 use Rattle.walk_positions.specs.Walked.{Outcome}

@@ -6,19 +6,19 @@ use Prim.Native.Nat.{ℕ, _+_, _*_, _≤_}
 use native.Mathlib.Nat.{mul-le-mul-right}
 use native.Mathlib.Omega.{arith}
 use lib.ListN.{length, replicate}
-use Rattle.network.specs.Limits.{maxPlans}
+use Rattle.network.specs.Capacities.{plansHeld}
 use Rattle.network.specs.PlanList.{bufferNeed, costsOf, filled, headBytes, headSize, join, planBytes, planSize, planSlots}
 use Rattle.network.specs.Walk.{plans, positionCount}
 use Rattle.network.specs.Yard.{treeSize, yard}
-use Rattle.network.specs.declared.Network.{Network}
+use Rattle.network.specs.Network.{Network}
 use Rattle.planlist_ending.specs.Finished.{finished, finished-list, thenZeros}
 use Rattle.planlist_insertion.specs.Stored.{absent}
 use Rattle.walk_positions.specs.Walked.{Outcome}
 use Rattle.walk_positions.specs.declared.positions.Walked.{Walked}
 
 -- a buffer of the need has room for the plans
-pub outcome-room : (net : Network) {allowance : ℕ} {bs : List ℕ} {w : Walked} {size : ℕ} → Outcome net allowance bs w → positionCount net ≤ maxPlans
-    → bufferNeed net ≤ size → (w .plans ≤ maxPlans) × (headSize + w .plans * planSize planSlots (treeSize net) ≤ size)
+pub outcome-room : (net : Network) {allowance : ℕ} {bs : List ℕ} {w : Walked} {size : ℕ} → Outcome net allowance bs w → positionCount net ≤ plansHeld
+    → bufferNeed net ≤ size → (w .plans ≤ plansHeld) × (headSize + w .plans * planSize planSlots (treeSize net) ≤ size)
 outcome-room net o few room =
     let h = o .few in
     (omega arith, omega (arith, mul-le-mul-right (planSize planSlots (treeSize net)) h))

@@ -17,7 +17,7 @@ use Rattle.network.specs.Yard.{best, graph, treeSize, yard}
 use Rattle.network.specs.Walk.{plans, positionCount, positions, solvedCount, values}
 use Rattle.network.specs.PlanList.{costsOf, headSize, planSize, planSlots}
 use Rattle.network.specs.NetworkFine.{NetworkFine, graph-sound}
-use Rattle.network.specs.declared.Network.{Network}
+use Rattle.network.specs.Network.{Network}
 use Rattle.planlist_insertion.specs.Stored.{Holds, Padded, absent, costs-padded, holds-inserted, holds-level, holds-none, holds-rise}
 use Rattle.marking_values.specs.Slots.{rank-count}
 use Rattle.marking_marks.specs.Unmarked.{nextUnmarked, unmarked-keeps}

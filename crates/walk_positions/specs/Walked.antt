@@ -10,7 +10,7 @@ use Rattle.order.specs.Test.{clash}
 use Rattle.network.specs.PlanList.{costsOf}
 use Rattle.network.specs.Walk.{passes, plans, positionCount, solvedCount}
 use Rattle.network.specs.Yard.{yard}
-use Rattle.network.specs.declared.Network.{Network}
+use Rattle.network.specs.Network.{Network}
 use Rattle.planlist_insertion.specs.Stored.{absent, holds-count}
 use Rattle.walk_positions.specs.Progress.{Recorded}
 use Rattle.walk_positions.specs.declared.positions.Walked.{Walked}

@@ -1,11 +1,19 @@
 // The walk over all positions.
+use kruskal_order::order_links;
+use marking_grid::Grid;
+use marking_grid::put_places;
 use marking_marks::mark::next_unmarked;
-use network::Network;
-use network::limits::MAX_PLANS;
-use walk_visit::visit::solve_at;
+use network::Shape;
+use network::capacities::CEILINGS_HELD;
+use network::capacities::PLANS_HELD;
+use network::capacities::TREE_HELD;
+use solver::question::solve;
+use walk_visit::visit::put_bounds;
+use walk_visit::visit::settle;
+use walk_visit::visit::take_in;
 ghost use Prim.Native.Nat.{_≤_};
 ghost use lib.ListN.{length};
-ghost use Rattle.network.specs.Limits.{maxLinks};
+ghost use Rattle.network.specs.Capacities.{linksHeld};
 ghost use Rattle.network.specs.PlanList.{bufferNeed};
 ghost use Rattle.walk_visit.specs.Visit.{Ready};
 ghost use Rattle.walk_positions.specs.Walked.{Outcome};
@@ -17,21 +25,28 @@ pub struct Walked {
     pub solved: u32,
 }
 
-// Visits all positions, whose values are v1 and v2, and takes the plans into the buffer; gives up where the allowance is spent and a position is to be
-// solved.
+// Visits all positions and takes the plans into the buffer; gives up where the allowance is spent and a position is to be solved.
 pub fn visit_all(
-    net: Network,
-    order: &[u8],
-    v1: &[i16],
-    v2: &[i16],
+    shape: Shape,
+    ends: &[u8],
+    sums: &[u32],
+    costs: &[i16],
+    values: &[i16],
+    grid: Grid,
     allowance: u32,
     out: &mut [u8],
 ) -> Walked
-    requires { ⌜ Ready net (now order) (now v1) (now v2) × (length (now v1) ≤ maxLinks) × (length (now v2) ≤ maxLinks) × (bufferNeed net ≤ length (now out)) ⌝ }
-    ensures { λ r. ⌜ Outcome net allowance (now (out .exit)) r ⌝ }
 {
-    let total = v1.len() * v2.len();
-    let mut marks = [0u8; MAX_PLANS];
+    let p = shape.p as usize;
+    let m = shape.m;
+    let t = shape.t as usize;
+    let total = grid.total;
+    let order = order_links(sums);
+    let strides = grid.strides;
+    let mut places = [0usize; CEILINGS_HELD];
+    let mut bounds = [0i16; CEILINGS_HELD];
+    let mut tree = [0u8; TREE_HELD];
+    let mut marks = [0u8; PLANS_HELD];
     let mut n = 0;
     let mut plans = 0;
     let mut solved: u32 = 0;
@@ -44,7 +59,11 @@ pub fn visit_all(
                     solved: solved,
                 };
             }
-            plans = solve_at(net, order, v1, v2, n, &mut marks, out, plans);
+            put_places(n, &strides[..p], &mut places[..p]);
+            put_bounds(values, m, &places[..p], &mut bounds[..p]);
+            let answer = solve(shape, ends, sums, costs, &order[..m], &bounds[..p], &mut tree);
+            settle(&mut marks, n, shape, values, grid, &places[..p], answer);
+            plans = take_in(out, plans, answer, &tree[..t]);
             solved += 1;
             n += 1;
         } else {

@@ -14,13 +14,13 @@ use Rattle.order.specs.Order.{orderℕ}
 use Rattle.frontier.specs.Dominance.{leAll, leAll-head, leAll-tail}
 use Rattle.frontier.specs.Frontier.{picks-length, product}
 use Rattle.frontier.specs.Places.{InRange, in-cons, pick, pick-picks, places, places-range}
-use Rattle.network.specs.Limits.{maxCeilings, maxLinks, maxPlans}
+use Rattle.network.specs.Capacities.{ceilingsHeld, linksHeld, plansHeld}
 use Rattle.network.specs.Yard.{best, bounds, ceilingCosts, graph, ranks, treeSize, yard}
 use Rattle.network.specs.Walk.{positionCount, positions, values}
 use Rattle.network.specs.PlanList.{bufferNeed, costsOf, headSize, planSize, planSlots}
 use Rattle.network.specs.NetworkFine.{NetworkFine, graph-sound}
 use Rattle.network.specs.declared.Answer.{Answer}
-use Rattle.network.specs.declared.Network.{Network}
+use Rattle.network.specs.Network.{Network}
 use Rattle.kruskal_order.specs.ByCost.{linkOrder}
 use Rattle.planlist_insertion.specs.Stored.{absent, costs-padded}
 use Rattle.solver.specs.Question.{answerOf}
@@ -37,7 +37,7 @@ abbrev pub bestAt : Network → ℕ → Option (List ℕ)
 bestAt net n = best net (getD (positions net) n [])
 
 -- two slots, filled from a list and then with d
-two-slots : {A : Type 0} (d : A) (l : List A) → length l ≤ maxCeilings → getD l 0 d ∷ getD l 1 d ∷ [] ≡ l ++ replicate (maxCeilings - length l) d
+two-slots : {A : Type 0} (d : A) (l : List A) → length l ≤ ceilingsHeld → getD l 0 d ∷ getD l 1 d ∷ [] ≡ l ++ replicate (ceilingsHeld - length l) d
 two-slots d [] h = refl
 two-slots d (x ∷ []) h = refl
 two-slots d (x ∷ y ∷ []) h = refl
@@ -59,9 +59,9 @@ module _ {net : Network} {order : List ℕ} {v1 v2 : List ℤ} (ready : Ready ne
 
   -- how many ceilings are absent
   abbrev missing : ℕ
-  missing = maxCeilings - length (ranks net)
+  missing = ceilingsHeld - length (ranks net)
 
-  few : length (ranks net) ≤ maxCeilings
+  few : length (ranks net) ≤ ceilingsHeld
   few = omega (arith, rank-count net fine, fine .few-ceilings)
 
   -- both lists of values
@@ -70,7 +70,7 @@ module _ {net : Network} {order : List ℕ} {v1 v2 : List ℤ} (ready : Ready ne
   both =
       ap₂ (λ (a b : List ℤ). a ∷ b ∷ []) first second
       ∙ two-slots (pos 0 ∷ []) (values net) (omega (arith, value-count net fine, few))
-      ∙ ap (λ (k : ℕ). wide (graph net) (maxCeilings - k)) (value-count net fine)
+      ∙ ap (λ (k : ℕ). wide (graph net) (ceilingsHeld - k)) (value-count net fine)
 
   -- the number of positions
   pub count-is : positionCount net ≡ length v1 * length v2
@@ -81,7 +81,7 @@ module _ {net : Network} {order : List ℕ} {v1 v2 : List ℤ} (ready : Ready ne
   pub need-is : (m1 m2 : ℕ) → length v1 ≡ m1 → length v2 ≡ m2 → headSize + m1 * m2 * planSize planSlots (treeSize net) ≡ bufferNeed net
   need-is m1 m2 e f = rw (← e, ← f) (ap (λ (k : ℕ). headSize + k * planSize planSlots (treeSize net)) (sym count-is))
 
-  pub count-limit : length v1 ≤ maxLinks → length v2 ≤ maxLinks → positionCount net ≤ maxPlans
+  pub count-limit : length v1 ≤ linksHeld → length v2 ≤ linksHeld → positionCount net ≤ plansHeld
   count-limit h k = omega (arith, count-is, mul-le-mul-right (length v2) h)
 
   -- both costs of a tree

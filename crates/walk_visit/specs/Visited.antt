@@ -13,7 +13,7 @@ use Rattle.network.specs.Yard.{treeSize, yard}
 use Rattle.network.specs.declared.Answer.{Answer}
 use Rattle.network.specs.declared.Answer.the-variants.{Plan}
 use Rattle.network.specs.declared.Costs.{Costs}
-use Rattle.network.specs.declared.Network.{Network}
+use Rattle.network.specs.Network.{Network}
 use Rattle.planlist_insertion.specs.Insertion.{RecordsRise, insertRecord}
 use Rattle.planlist_insertion.specs.Level.{Level}
 use Rattle.planlist_costs.specs.Held.{Writable}

@@ -1,11 +1,11 @@
 // One position of the walk.
-use marking_marks::mark::mark_through;
+use marking_grid::Grid;
+use marking_marks::mark::mark_box;
 use marking_values::place::place_of;
 use network::Answer;
-use network::Network;
-use network::limits::MAX_TREE;
+use network::Shape;
+use network::capacities::CEILINGS_HELD;
 use planlist_insertion::insert_plan;
-use solver::question::solve;
 ghost use mathlib.Core.Path.{_≡_};
 ghost use Prim.Native.Nat.{_≤_, _<_};
 ghost use lib.ListN.{length};
@@ -17,30 +17,54 @@ ghost use Rattle.walk_visit.specs.Answered.{Reaches, Taken, Takes, settl
 ghost use Rattle.walk_visit.specs.Visit.{Ready, bestAt};
 ghost use Rattle.walk_visit.specs.Visited.{Prepared, Visited};
 
-// The answer at position n, with the links of its tree in the tree buffer.
-fn ask(net: Network, order: &[u8], v1: &[i16], v2: &[i16], n: usize, tree: &mut [u8]) -> Answer
-    requires { ⌜ Ready net (now order) (now v1) (now v2) × (n < positionCount net) × (treeSize net ≤ length (now tree)) ⌝ }
-    ensures { λ r. ⌜ (r ≡ answerOf net (bestAt net n)) × (now (tree .exit) ≡ treeWith (bestAt net n) (now (tree .entry))) ⌝ }
+// The values at some places, each in the ceiling's part of `values`, which holds m for each.
+pub fn put_bounds(values: &[i16], m: usize, places: &[usize], bounds: &mut [i16])
 {
-    let m2 = v2.len();
-    solve(net, order, v1[n / m2], v2[n % m2], tree)
+    let mut from = 0;
+    for i in 0..places.len() {
+        bounds[i] = values[from + places[i]];
+        from += m;
+    }
+}
+
+// The sides of the box from some places to the last ones.
+fn put_last_sides(counts: &[usize], places: &[usize], sides: &mut [usize])
+{
+    for i in 0..counts.len() {
+        sides[i] = counts[i] - places[i];
+    }
+}
+
+// The sides of the box from some places through those of a tree's costs y.
+fn put_own_sides(values: &[i16], m: usize, counts: &[usize], places: &[usize], y: &[i16], sides: &mut [usize])
+{
+    let mut from = 0;
+    for i in 0..counts.len() {
+        let to = from + counts[i];
+        sides[i] = place_of(&values[from + places[i]..to], y[i]) + 1;
+        from += m;
+    }
 }
 
 // Marks the positions that the answer at position n settles.
-fn settle(marks: &mut [u8], n: usize, v1: &[i16], v2: &[i16], answer: Answer)
-    requires { ⌜ Reaches (now v1) (now v2) n answer (length (now marks)) ⌝ }
-    ensures { λ _. ⌜ now (marks .exit) ≡ settledBy (now (v1 .entry)) (now (v2 .entry)) n answer (now (marks .entry)) ⌝ }
+pub fn settle(marks: &mut [u8], n: usize, shape: Shape, values: &[i16], grid: Grid, places: &[usize], answer: Answer)
 {
-    let m2 = v2.len();
+    let p = shape.p as usize;
+    let counts = grid.counts;
+    let strides = grid.strides;
+    let mut sides = [0usize; CEILINGS_HELD];
     let Answer::Plan(costs) = answer else {
-        mark_through(marks, n, m2, v1.len() - 1, m2 - 1);
+        put_last_sides(&counts[..p], places, &mut sides[..p]);
+        mark_box(marks, n, &strides[..p], &sides[..p]);
         return;
     };
-    mark_through(marks, n, m2, place_of(v1, costs.y1), place_of(v2, costs.y2));
+    let y = [costs.y1, costs.y2];
+    put_own_sides(values, shape.m, &counts[..p], places, &y[..p], &mut sides[..p]);
+    mark_box(marks, n, &strides[..p], &sides[..p]);
 }
 
 // Takes the plan of an answer, if it is one, into the frontier; returns the new number of plans.
-fn take_in(out: &mut [u8], count: usize, answer: Answer, links: &[u8]) -> usize
+pub fn take_in(out: &mut [u8], count: usize, answer: Answer, links: &[u8]) -> usize
     requires { ⌜ Takes answer (now links) count (now out) ⌝ }
     ensures { λ r. ⌜ Taken answer (now (links .entry)) count r (now (out .entry)) (now (out .exit)) ⌝ }
 {
@@ -48,26 +72,4 @@ fn take_in(out: &mut [u8], count: usize, answer: Answer, links: &[u8]) -> usize
         return count;
     };
     insert_plan(out, count, costs, links)
-}
-
-// Solves position n, marks what the answer settles, and takes its plan into the frontier; returns the new number of plans.
-pub fn solve_at(
-    net: Network,
-    order: &[u8],
-    v1: &[i16],
-    v2: &[i16],
-    n: usize,
-    marks: &mut [u8],
-    out: &mut [u8],
-    count: usize,
-) -> usize
-    requires { ⌜ Ready net (now order) (now v1) (now v2) × (n < positionCount net) × (positionCount net ≤ length (now marks))
-        × Prepared net n (now out) count ⌝ }
-    ensures { λ r. ⌜ Visited net n (now (marks .entry)) (now (marks .exit)) (now (out .entry)) (now (out .exit)) count r ⌝ }
-{
-    let t = net.n as usize - 1;
-    let mut tree = [0u8; MAX_TREE];
-    let answer = ask(net, order, v1, v2, n, &mut tree);
-    settle(marks, n, v1, v2, answer);
-    take_in(out, count, answer, &tree[..t])
 }

@@ -2,8 +2,8 @@
 use crate::yard::HEAD_MARK;
 use crate::yard::PLAN_MARK;
 use encoding_writes::write_u32;
-use network::limits::COSTS_SIZE;
-use network::limits::HEAD_SIZE;
+use network::records::COSTS_SIZE;
+use network::records::HEAD_SIZE;
 use network::limits::MAX_PLANS;
 
 // One plan too many.

@@ -8,9 +8,9 @@ use console::row;
 use encoding_signed::read_i16;
 use encoding_signed::read_i32;
 use network::YardFigures;
-use network::limits::LINK_SIZE;
+use network::records::LINK_SIZE;
 use network::limits::MAX_LINKS;
-use network::limits::YARD_SIZE;
+use network::records::YARD_SIZE;
 use planner::write_survey;
 use std::num::wrapping_add_usize;
 

@@ -8,17 +8,17 @@ use borrow.Author.Needs.{needs}
 use lib.ListN.{length}
 use Rattle.kmax.specs.Digits.{admits, marked}
 use Rattle.network.specs.Column.{column, column-more}
-use Rattle.network.specs.Limits.{maxPatterns}
+use Rattle.network.specs.Capacities.{patternsHeld}
 use Rattle.exceptions_admitted.specs.Fit.{fitOf}
 use Rattle.exceptions_admitted.proofs.fit_patterns.Statement.{statement}
 use Rattle.exceptions_admitted.proofs.fit_patterns.Tie as tie
 
 abbrev Inv-loop : tie.InvT-loop
 Inv-loop ks fit₀ pattern₀ fit pattern =
-    (pattern ≤ maxPatterns) × (length fit ≡ maxPatterns) × (fit ≡ column maxPatterns false (λ (q : ℕ). marked q && admits ks (q ∷ [])) pattern)
+    (pattern ≤ patternsHeld) × (length fit ≡ patternsHeld) × (fit ≡ column patternsHeld false (λ (q : ℕ). marked q && admits ks (q ∷ [])) pattern)
 
 abbrev μ-loop : tie.MeasureT-loop
-μ-loop ks fit₀ pattern₀ fit pattern = maxPatterns - pattern
+μ-loop ks fit₀ pattern₀ fit pattern = patternsHeld - pattern
 
 loop-holds : tie.Need-loop-holds Inv-loop μ-loop
 unfolding column
@@ -45,7 +45,7 @@ loop-again c = (omega arith, search needs, rw (column-more, ← c .before .befor
 returns : tie.Need-returns Inv-loop μ-loop
 unfolding fitOf
 returns c =
-    let all : c .before .loop .pattern ≡ maxPatterns = omega arith in
+    let all : c .before .loop .pattern ≡ patternsHeld = omega arith in
     rw all at (c .before .loop .inv .2)
 
 pub fit-patterns-spec : {M : Type 1} → statement M

@@ -11,7 +11,7 @@ use Rattle.order.specs.Order.{orderℤ}
 use Rattle.kmax.specs.KMax.{above}
 use Rattle.kmax.specs.Digits.{flag}
 use Rattle.network.specs.Column.{column, column-more}
-use Rattle.network.specs.Limits.{maxLinks}
+use Rattle.network.specs.Capacities.{linksHeld}
 use Rattle.network.specs.Yard.{costAt}
 use Rattle.exceptions_patterns.specs.Patterns.{patternAt, withDigit}
 use Rattle.exceptions_patterns.proofs.with_digit.Statement.{statement}
@@ -19,12 +19,12 @@ use Rattle.exceptions_patterns.proofs.with_digit.Tie as tie
 
 abbrev Inv-loop : tie.InvT-loop
 Inv-loop costs ceiling bound rest patterns₀ e₀ patterns e =
-    (e ≤ maxLinks)
-    × (length patterns ≡ maxLinks)
-    × (patterns ≡ column maxLinks 0 (λ (i : ℕ). flag (above orderℤ (toZ w16 bound) (costAt costs ceiling i)) + 2 * patternAt rest i) e)
+    (e ≤ linksHeld)
+    × (length patterns ≡ linksHeld)
+    × (patterns ≡ column linksHeld 0 (λ (i : ℕ). flag (above orderℤ (toZ w16 bound) (costAt costs ceiling i)) + 2 * patternAt rest i) e)
 
 abbrev μ-loop : tie.MeasureT-loop
-μ-loop costs ceiling bound rest patterns₀ e₀ patterns e = maxLinks - e
+μ-loop costs ceiling bound rest patterns₀ e₀ patterns e = linksHeld - e
 
 loop-holds : tie.Need-loop-holds Inv-loop μ-loop
 unfolding column
@@ -67,7 +67,7 @@ loop-again c = (omega arith, search needs, rw (column-more, ← c .before .befor
 returns : tie.Need-returns Inv-loop μ-loop
 unfolding withDigit
 returns c =
-    let h : c .before .loop .e ≡ maxLinks = omega arith in
+    let h : c .before .loop .e ≡ linksHeld = omega arith in
     let b = toZ-ofZ (c .before .before .fits .bound) in
     rw (h, b) at (c .before .loop .inv .2)
 

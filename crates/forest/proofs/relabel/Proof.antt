@@ -4,17 +4,17 @@ use mathlib.Core.Path.{_≡_}
 use native.Mathlib.Omega.{arith}
 use borrow.Author.Needs.{needs}
 use lib.ListN.{length}
-use Rattle.network.specs.Limits.{maxStations}
+use Rattle.network.specs.Capacities.{stationsHeld}
 use Rattle.spanning.specs.LabelList.{replaced}
 use Rattle.forest.specs.MapFirst.{mapFirst, mapFirst-end, mapFirst-turn}
 use Rattle.forest.proofs.relabel.Statement.{statement}
 use Rattle.forest.proofs.relabel.Tie as tie
 
 abbrev Inv-loop : tie.InvT-loop
-Inv-loop old new leaders₀ i₀ leaders i = (i ≤ maxStations) × (leaders ≡ mapFirst (replaced new old) i leaders₀)
+Inv-loop old new leaders₀ i₀ leaders i = (i ≤ stationsHeld) × (leaders ≡ mapFirst (replaced new old) i leaders₀)
 
 abbrev μ-loop : tie.MeasureT-loop
-μ-loop old new leaders₀ i₀ leaders i = maxStations - i
+μ-loop old new leaders₀ i₀ leaders i = stationsHeld - i
 
 loop-holds : tie.Need-loop-holds Inv-loop μ-loop
 loop-holds c = search needs
@@ -40,7 +40,7 @@ loop-again c = (omega arith, mapFirst-turn _ _ _ _ _ (c .before .before .loop .i
 returns : tie.Need-returns Inv-loop μ-loop
 returns c =
     let leaders = c .before .before .args .t1 in
-    let size : length leaders ≡ maxStations = search needs in
+    let size : length leaders ≡ stationsHeld = search needs in
     let all : length leaders ≤ c .before .loop .i = omega arith in
     mapFirst-end _ _ _ _ (c .before .loop .inv .1) all
 

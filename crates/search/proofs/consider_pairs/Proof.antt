@@ -4,7 +4,7 @@ use mathlib.Core.Path.{_≡_, refl, sym, _∙_}
 use native.Mathlib.Omega.{arith}
 use borrow.Author.Needs.{needs}
 use lib.ListN.{getD, length}
-use Rattle.network.specs.Limits.{maxRaised}
+use Rattle.network.specs.Capacities.{sumHeld}
 use Rattle.kruskal.specs.Tree.{Usable}
 use Rattle.exceptions.specs.Select.{usable-at}
 use Rattle.search_base.specs.Rest.{least-fits}
@@ -57,7 +57,7 @@ sum-at-requires-2 : tie.Need-sum-at-requires-2 Inv-loop μ-loop
 sum-at-requires-2 c κs = omega (arith, start (c .before) .pre .0 .sums-size, other (c .before) .below)
 
 -- both costs are in range
-costs : (c : tie.After-sum-at2 Inv-loop μ-loop) → c .before .before .before .before .sum-at .result + c .sum-at2 .result ≤ 2 * maxRaised
+costs : (c : tie.After-sum-at2 Inv-loop μ-loop) → c .before .before .before .before .sum-at .result + c .sum-at2 .result ≤ 2 * sumHeld
 costs c =
     let turn = c .before .before in
     omega (arith, first (start turn) .cheap, other turn .cheap, turn .before .before .sum-at .ensures, c .sum-at2 .ensures)

@@ -4,7 +4,7 @@ use mathlib.Core.List.{foldl}
 use native.Mathlib.Omega.{arith}
 use borrow.Author.Needs.{needs}
 use denote.Ref.{now}
-use Rattle.network.specs.Limits.{maxLinks}
+use Rattle.network.specs.Capacities.{linksHeld}
 use Rattle.kruskal.specs.Tree.{Light, bare, light-bare, light-up, linked}
 use Rattle.kruskal.specs.declared.tree.Tree.{Tree}
 use Rattle.search_set.specs.Tries.{light-grown, tried-ring, tried-whole}
@@ -23,16 +23,16 @@ empty-requires : tie.Need-empty-requires
 empty-requires c κs = search needs
 
 grow-requires : tie.Need-grow-requires
-grow-requires c κs = let p = start c .pre in (p .0, p .2, rw (c .empty .ensures) (light-up maxLinks (omega arith) light-bare))
+grow-requires c κs = let p = start c .pre in (p .0, p .2, rw (c .empty .ensures) (light-up linksHeld (omega arith) light-bare))
 
 -- the forest of the set
 forest : (c : tie.After-grow) → c .grow .result ≡ walk c bare
 forest c = c .grow .ensures ∙ ap (walk c) (c .before .empty .ensures)
 
-light : (c : tie.After-grow) → Light maxLinks (c .grow .result)
+light : (c : tie.After-grow) → Light linksHeld (c .grow .result)
 light c =
     let p = start (c .before) .pre in
-    rw (forest c) (light-up maxLinks (omega (arith, p .3)) (light-grown _ _ 0 bare _ (p .2 .usable) light-bare))
+    rw (forest c) (light-up linksHeld (omega (arith, p .3)) (light-grown _ _ 0 bare _ (p .2 .usable) light-bare))
 
 cast-if1 : tie.Need-cast-if1
 cast-if1 c = search needs

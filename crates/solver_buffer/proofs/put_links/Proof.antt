@@ -5,24 +5,24 @@ use native.Mathlib.Omega.{arith}
 use borrow.Author.Needs.{needs}
 use lib.ListN.{length}
 use Rattle.solver_buffer.specs.Buffer.{left, next-le, put-end, put-start, put-turn, putAt}
-use Rattle.network.specs.Limits.{maxLinks}
+use Rattle.network.specs.Capacities.{linksHeld}
 use Rattle.search_best.specs.Flags.{rising}
 use Rattle.solver_buffer.proofs.put_links.Statement.{statement}
 use Rattle.solver_buffer.proofs.put_links.Tie as tie
 
 abbrev Inv-loop : tie.InvT-loop
 Inv-loop tree₀ taken n₀ e₀ tree n e =
-    (e ≤ maxLinks) × (n ≤ e) × (length tree ≡ length tree₀) × (left taken tree n e ≡ putAt 0 (rising 0 taken) tree₀)
+    (e ≤ linksHeld) × (n ≤ e) × (length tree ≡ length tree₀) × (left taken tree n e ≡ putAt 0 (rising 0 taken) tree₀)
 
 abbrev μ-loop : tie.MeasureT-loop
-μ-loop tree₀ taken n₀ e₀ tree n e = maxLinks - e
+μ-loop tree₀ taken n₀ e₀ tree n e = linksHeld - e
 
 loop-holds : tie.Need-loop-holds Inv-loop μ-loop
 loop-holds c = (omega arith, omega arith, refl, put-start _ _)
 
 -- the link at a turn has a flag
 flagged : (c : tie.In-loop Inv-loop μ-loop) → c .before .loop .e < length (c .before .before .before .args .t2)
-flagged c = let m : length (c .before .before .before .args .t2) ≡ maxLinks = search needs in omega arith
+flagged c = let m : length (c .before .before .before .args .t2) ≡ linksHeld = search needs in omega arith
 
 cast-put-link : tie.Need-cast-put-link Inv-loop μ-loop
 cast-put-link c = search needs
@@ -57,7 +57,7 @@ same-length c = c .before .loop .inv .2
 returns : tie.Need-returns Inv-loop μ-loop
 returns c =
     let flags = c .before .before .before .args .t2 in
-    let m : length flags ≡ maxLinks = search needs in
+    let m : length flags ≡ linksHeld = search needs in
     let h : length flags ≤ c .before .loop .e = omega arith in
     put-end flags _ _ _ _ h (c .before .loop .inv .3)
 

@@ -13,13 +13,13 @@ use Rattle.trees_ceilings.proofs.figures_of.Statement.{statement}
 use Rattle.trees_ceilings.proofs.figures_of.Tie as tie
 
 abbrev Inv-loop : tie.InvT-loop
-Inv-loop costs ceiling links values₀ count i₀ values i = (i ≤ count) × (count ≡ length links) × (values ≡ figuresUpTo costs ceiling links i)
+Inv-loop column links values₀ count i₀ values i = (i ≤ count) × (count ≡ length links) × (values ≡ figuresUpTo column links i)
 
 abbrev μ-loop : tie.MeasureT-loop
-μ-loop costs ceiling links values₀ count i₀ values i = count - i
+μ-loop column links values₀ count i₀ values i = count - i
 
 loop-holds : tie.Need-loop-holds Inv-loop μ-loop
-loop-holds c = (omega arith, refl, figures-none _ _ _)
+loop-holds c = (omega arith, refl, figures-none _ _)
 
 shared-slice-read-cost-at : tie.Need-shared-slice-read-cost-at Inv-loop μ-loop
 shared-slice-read-cost-at c = search needs
@@ -29,7 +29,7 @@ cost-at-requires c κs =
     let v = c .before .before .loop in
     let p = c .before .before .before .before .pre in
     let h : v .i < length (c .before .before .before .before .args .links .now) = omega arith in
-    (p .room, p .ceiling, below-at (p .known) (v .i) h)
+    below-at (p .known) (v .i) h
 
 mul-values : tie.Need-mul-values Inv-loop μ-loop
 mul-values c = omega arith
@@ -46,13 +46,13 @@ loop-less c = search needs
 loop-again : tie.Need-loop-again Inv-loop μ-loop
 loop-again c =
     let f : SFits w16 (c .cost-at .result) = search needs in
-    (omega arith, refl, rw (toZ-ofZ f) (figures-turn _ _ _ _ (c .before .before .before .loop .inv .2) (c .cost-at .ensures)))
+    (omega arith, refl, rw (toZ-ofZ f) (figures-turn _ _ _ (c .before .before .before .loop .inv .2) (c .cost-at .ensures)))
 
 returns : tie.Need-returns Inv-loop μ-loop
 returns c =
     let v = c .before .loop in
     let e : v .i ≡ length (c .before .before .before .args .links .now) = omega arith in
-    figures-end _ _ _ (v .i) (v .inv .2) e
+    figures-end _ _ (v .i) (v .inv .2) e
 
 pub figures-of-spec : {M : Type 1} → statement M
 figures-of-spec =

@@ -1,31 +1,25 @@
--- n - 1 links that draw a forest are a tree, and no other number of links is.
+-- t links that draw a forest are a tree, and no other number of links is.
 use mathlib.Core.Path.{_∙_}
 use borrow.Author.Needs.{needs}
 use Rattle.trees_drawn.specs.Drawn.{size-drawn, tree-drawn}
 use Rattle.trees_drawn.proofs.is_tree.Statement.{statement}
 use Rattle.trees_drawn.proofs.is_tree.Tie as tie
 
-cast-n : tie.Need-cast-n
-cast-n c = search needs
-
-sub-if1 : tie.Need-sub-if1
-sub-if1 c = search needs
-
-slice-aggregate-draws-forest : tie.Need-slice-aggregate-draws-forest
-slice-aggregate-draws-forest c = search needs
+cast-if1 : tie.Need-cast-if1
+cast-if1 c = search needs
 
 draws-forest-requires : tie.Need-draws-forest-requires
 draws-forest-requires c κs = search needs
 
 returns : tie.Need-returns
 returns c =
-    let start = c .before .before .before .before .before .before in
-    c .draws-forest .ensures ∙ tree-drawn _ (start .pre) (start .args .links .now) (c .before .before .if1 .taken)
+    let start = c .before .before .before .before .before in
+    c .draws-forest .ensures ∙ tree-drawn (start .args .shape) _ (start .pre) (start .args .links .now) (c .before .if1 .taken)
 
 returns-2 : tie.Need-returns-2
-returns-2 c = size-drawn _ (c .before .before .before .before .pre) (c .before .before .before .before .args .links .now) (c .if1 .left)
+returns-2 c =
+    let start = c .before .before .before .before in
+    size-drawn (start .args .shape) _ (start .pre) (start .args .links .now) (c .if1 .left)
 
 pub is-tree-spec : {M : Type 1} → statement M
-is-tree-spec =
-    tie.close
-    (tie.spec cast-n sub-if1 slice-aggregate-draws-forest draws-forest-requires returns returns-2)
+is-tree-spec = tie.close (tie.spec cast-if1 draws-forest-requires returns returns-2)

@@ -9,31 +9,31 @@ use mir.Syntax.{w32}
 use mir.Val.{SFits, hbits, ofZ, toZ}
 use mir.ValLaws.{toZ-ofZ, toZ-pos}
 use Rattle.order.specs.Lowered.{sub-integers, sub-small}
-use Rattle.network.specs.Limits.{maxSum}
+use Rattle.network.specs.Capacities.{raise}
 use Rattle.trees_sums.specs.Added.{loweredSum}
 use Rattle.trees_sums.proofs.lowered.Statement.{statement}
 use Rattle.trees_sums.proofs.lowered.Tie as tie
 
 -- both numbers are in the lower half of 32 bits
-low : (c : tie.Start) → (c .args .raised < 2 ^ hbits w32) × (c .args .count * maxSum < 2 ^ hbits w32)
-low c = (omega (arith, c .pre .0), omega (arith, mul-le-mul-right maxSum (c .pre .1)))
+low : (c : tie.Start) → (c .args .raised < 2 ^ hbits w32) × (c .args .count * raise < 2 ^ hbits w32)
+low c = (omega (arith, c .pre .0), omega (arith, mul-le-mul-right raise (c .pre .1)))
 
 -- what is taken off
-product : (c : tie.Start) → toZ w32 (c .args .count) *ℤ toZ w32 maxSum ≡ pos (c .args .count * maxSum)
-product c = ap (λ z. z *ℤ pos maxSum) (toZ-pos w32 (c .args .count) (omega (arith, c .pre .1)))
+product : (c : tie.Start) → toZ w32 (c .args .count) *ℤ toZ w32 raise ≡ pos (c .args .count * raise)
+product c = ap (λ z. z *ℤ pos raise) (toZ-pos w32 (c .args .count) (omega (arith, c .pre .1)))
 
 -- what is left
 difference : (c : tie.Start)
-    → toZ w32 (c .args .raised) -ℤ toZ w32 (ofZ w32 (toZ w32 (c .args .count) *ℤ toZ w32 maxSum)) ≡ loweredSum (c .args .raised) (c .args .count)
+    → toZ w32 (c .args .raised) -ℤ toZ w32 (ofZ w32 (toZ w32 (c .args .count) *ℤ toZ w32 raise)) ≡ loweredSum (c .args .raised) (c .args .count)
 unfolding loweredSum
 difference c =
-    ap₂ _-ℤ_ (toZ-pos w32 (c .args .raised) (low c .0)) (ap (λ z. toZ w32 (ofZ w32 z)) (product c) ∙ toZ-pos w32 (c .args .count * maxSum) (low c .1))
-    ∙ sub-integers (c .args .raised) (c .args .count * maxSum)
+    ap₂ _-ℤ_ (toZ-pos w32 (c .args .raised) (low c .0)) (ap (λ z. toZ w32 (ofZ w32 z)) (product c) ∙ toZ-pos w32 (c .args .count * raise) (low c .1))
+    ∙ sub-integers (c .args .raised) (c .args .count * raise)
 
 -- it fits
 fits : (c : tie.Start) → SFits w32 (loweredSum (c .args .raised) (c .args .count))
 unfolding loweredSum
-fits c = record { sfits = sub-small (c .args .raised) (c .args .count * maxSum) (2 ^ hbits w32) (low c .0) (low c .1) }
+fits c = record { sfits = sub-small (c .args .raised) (c .args .count * raise) (2 ^ hbits w32) (low c .0) (low c .1) }
 
 cast-result : tie.Need-cast-result
 cast-result c = search needs

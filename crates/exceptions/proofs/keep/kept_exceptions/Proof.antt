@@ -6,7 +6,7 @@ use native.Mathlib.Omega.{arith}
 use borrow.Author.Needs.{needs}
 use lib.ListN.{getD, length, length-set}
 use Rattle.order.specs.Test.{both}
-use Rattle.network.specs.Limits.{maxLinks, maxPatterns}
+use Rattle.network.specs.Capacities.{linksHeld, patternsHeld}
 use Rattle.exceptions_patterns.specs.Patterns.{patternAt}
 use Rattle.exceptions.specs.Keep.{gather-end, gather-left, gather-start, gather-taken, gathered, kept-whole, keptBy, pattern-known}
 use Rattle.exceptions.specs.Select.{usable-at}
@@ -16,8 +16,8 @@ use Rattle.exceptions.proofs.keep.kept_exceptions.Tie as tie
 abbrev Inv-loop : tie.InvT-loop
 Inv-loop ends sums order patterns ks fit forests₀ link₀ n₀ k₀ k-end forests link n k =
     (k-end ≡ length order)
-    × (length link ≡ maxLinks)
-    × (length forests ≡ maxPatterns)
+    × (length link ≡ linksHeld)
+    × (length forests ≡ patternsHeld)
     × (n ≤ k)
     × (k ≤ k-end)
     × (gathered ends patterns fit order forests link n k ≡ keptBy ends patterns fit forests₀ order)
@@ -34,7 +34,7 @@ abbrev link-at : tie.In-loop Inv-loop μ-loop → ℕ
 link-at c = getD (start c .args .order .now) (c .before .loop .k) 0
 
 -- it is one of the links, and its pattern one of the patterns
-known : (c : tie.In-loop Inv-loop μ-loop) → (link-at c < maxLinks) × (patternAt (start c .args .patterns .now) (link-at c) < maxPatterns)
+known : (c : tie.In-loop Inv-loop μ-loop) → (link-at c < linksHeld) × (patternAt (start c .args .patterns .now) (link-at c) < patternsHeld)
 known c =
     let p = start c .pre in
     let below = usable-at (c .before .loop .k) (p .1) (c .loop-test .taken) .below in

@@ -5,7 +5,7 @@ use native.Mathlib.Omega.{arith}
 use borrow.Author.Needs.{needs}
 use lib.ListN.{length, List·getD-eq-default}
 use Rattle.order.specs.Lists.{getD-default}
-use Rattle.network.specs.Limits.{maxStations}
+use Rattle.network.specs.Capacities.{stationsHeld}
 use Rattle.forest.proofs.Forest.find.Statement.{statement}
 use Rattle.forest.proofs.Forest.find.Tie as tie
 
@@ -15,14 +15,14 @@ element-copy-out-result c = search needs
 returns : tie.Need-returns
 returns c =
     let l = c .before .before .args .t1 .leader in
-    let n : length l ≡ maxStations = search needs in
+    let n : length l ≡ stationsHeld = search needs in
     let h : c .before .before .args .v < length l = omega arith in
     getD-default l (c .before .before .args .v) 0 (c .before .before .args .v) h
 
 returns-2 : tie.Need-returns-2
 returns-2 c =
     let l = c .before .args .t1 .leader in
-    let n : length l ≡ maxStations = search needs in
+    let n : length l ≡ stationsHeld = search needs in
     let h : length l ≤ c .before .args .v = omega arith in
     sym (List·getD-eq-default l (c .before .args .v) h)
 

@@ -5,7 +5,7 @@ use mathlib.Core.Path.{_≡_, refl, sym, _∙_}
 use native.Mathlib.Omega.{arith}
 use borrow.Author.Needs.{needs}
 use lib.ListN.{length, length-set, getD}
-use Rattle.network.specs.Limits.{maxLinks}
+use Rattle.network.specs.Capacities.{linksHeld}
 use Rattle.kruskal.specs.Base.{collect-end, collect-left, collect-start, collect-taken, collected, kept}
 use Rattle.kruskal.specs.Tree.{Usable, walk-usable}
 use Rattle.kruskal.proofs.links.base_of.Statement.{statement}
@@ -13,7 +13,7 @@ use Rattle.kruskal.proofs.links.base_of.Tie as tie
 
 abbrev Inv-loop : tie.InvT-loop
 Inv-loop ends sums links forest₀ base₀ count₀ at₀ at-end forest base count at =
-    (at-end ≡ length links) × (length base ≡ maxLinks) × (count ≤ at)
+    (at-end ≡ length links) × (length base ≡ linksHeld) × (count ≤ at)
     × (collected ends links forest base count at ≡ kept ends forest₀ links) × (at ≤ at-end)
 
 abbrev μ-loop : tie.MeasureT-loop

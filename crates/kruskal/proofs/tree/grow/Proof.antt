@@ -8,7 +8,7 @@ use native.Mathlib.Omega.{arith}
 use borrow.Author.Needs.{needs}
 use lib.ListN.{length-set, length, take, getD}
 use lib.Seq.{take-all}
-use Rattle.network.specs.Limits.{maxLinks, maxRaised}
+use Rattle.network.specs.Capacities.{linksHeld, sumHeld}
 use Rattle.forest.specs.declared.Forest.{Forest}
 use Rattle.kruskal.specs.FoldTake.{foldl-turn}
 use Rattle.kruskal.specs.Tree.{Usable, added, linked, linked-adds, walk-usable}
@@ -22,9 +22,9 @@ whole f taken sum count = record { forest = f; taken = taken; sum = sum; count =
 
 abbrev Inv-loop : tie.InvT-loop
 Inv-loop ends sums links forest₀ taken₀ sum₀ count₀ at₀ at-end forest taken sum count at =
-    (at ≤ at-end) × (at-end ≡ length links) × (length taken ≡ maxLinks)
+    (at ≤ at-end) × (at-end ≡ length links) × (length taken ≡ linksHeld)
     × (whole forest taken sum count ≡ foldl (linked ends sums) (whole forest₀ taken₀ sum₀ count₀) (take at links))
-    × (sum ≤ sum₀ + at * maxRaised) × (count ≤ count₀ + at)
+    × (sum ≤ sum₀ + at * sumHeld) × (count ≤ count₀ + at)
 
 abbrev μ-loop : tie.MeasureT-loop
 μ-loop ends sums links forest₀ taken₀ sum₀ count₀ at₀ at-end forest taken sum count at = at-end - at
@@ -109,7 +109,7 @@ turned c =
     (λ w. rw (w .1, w .2, w .3, w .4, ← c .before .joins .ensures, w .0 .left))
     (c .if1 .came)
 
-length-taken : (c : tie.Joined1 Inv-loop μ-loop) → length (c .if1 .taken) ≡ maxLinks
+length-taken : (c : tie.Joined1 Inv-loop μ-loop) → length (c .if1 .taken) ≡ linksHeld
 length-taken c =
     let size = c .before .before .before .before .before .before .loop .inv .2 in
     ⊎-elim (λ w. rw (w .4) (simp length-set size)) (λ w. rw (w .2) size) (c .if1 .came)

@@ -8,7 +8,7 @@ use mathlib.Core.Bool.{false}
 use lib.ListN.{getD, length, replicate, take}
 use lib.Seq.{take-all}
 use Rattle.order.specs.Lists.{getD-mem}
-use Rattle.network.specs.Limits.{maxLinks}
+use Rattle.network.specs.Capacities.{linksHeld}
 use Rattle.kruskal.specs.FoldTake.{foldl-turn}
 use Rattle.kruskal.specs.Grown.{withFlag, flagsOf}
 use Rattle.search_base.proofs.base.flags_of.Statement.{statement}
@@ -16,7 +16,7 @@ use Rattle.search_base.proofs.base.flags_of.Tie as tie
 
 abbrev Inv-loop : tie.InvT-loop
 Inv-loop sums links taken₀ k₀ k-end taken k =
-    (k-end ≡ length links) × (length taken ≡ maxLinks) × (taken ≡ foldl withFlag (replicate maxLinks false) (take k links))
+    (k-end ≡ length links) × (length taken ≡ linksHeld) × (taken ≡ foldl withFlag (replicate linksHeld false) (take k links))
 
 abbrev μ-loop : tie.MeasureT-loop
 μ-loop sums links taken₀ k₀ k-end taken k = k-end - k
@@ -28,7 +28,7 @@ shared-slice-read-taken : tie.Need-shared-slice-read-taken Inv-loop μ-loop
 shared-slice-read-taken c = search needs
 
 -- the link at a turn has a flag
-flagged : (c : tie.After-shared-slice-known Inv-loop μ-loop) → getD (c .before .before .before .args .links .now) (c .before .before .loop .k) 0 < maxLinks
+flagged : (c : tie.After-shared-slice-known Inv-loop μ-loop) → getD (c .before .before .before .args .links .now) (c .before .before .loop .k) 0 < linksHeld
 flagged c =
     let h : c .before .before .loop .k < length (c .before .before .before .args .links .now) = omega arith in
     c .before .before .before .pre .usable _ (getD-mem _ _ 0 h) .below

@@ -4,23 +4,23 @@ use mathlib.Core.Path.{_≡_, sym, _∙_}
 use native.Mathlib.Omega.{arith}
 use borrow.Author.Needs.{needs}
 use lib.ListN.{length, drop}
-use Rattle.network.specs.Limits.{maxLinks}
+use Rattle.network.specs.Capacities.{linksHeld}
 use Rattle.search_best.specs.Flags.{first, first-end, first-found, first-turn}
 use Rattle.search_best.proofs.ties.first_tree.Statement.{statement}
 use Rattle.search_best.proofs.ties.first_tree.Tie as tie
 
 abbrev Inv-loop : tie.InvT-loop
-Inv-loop a b i₀ i = (i ≤ maxLinks) × (first a b ≡ first (drop i a) (drop i b))
+Inv-loop a b i₀ i = (i ≤ linksHeld) × (first a b ≡ first (drop i a) (drop i b))
 
 abbrev μ-loop : tie.MeasureT-loop
-μ-loop a b i₀ i = maxLinks - i
+μ-loop a b i₀ i = linksHeld - i
 
 -- the place at a turn is one of either list
 within : (c : tie.In-loop Inv-loop μ-loop)
     → (c .before .loop .i < length (c .before .before .args .t1)) × (c .before .loop .i < length (c .before .before .args .t2))
 within c =
-    let m : length (c .before .before .args .t1) ≡ maxLinks = search needs in
-    let n : length (c .before .before .args .t2) ≡ maxLinks = search needs in
+    let m : length (c .before .before .args .t1) ≡ linksHeld = search needs in
+    let n : length (c .before .before .args .t2) ≡ linksHeld = search needs in
     omega arith
 
 loop-holds : tie.Need-loop-holds Inv-loop μ-loop
@@ -50,7 +50,7 @@ loop-again c = let w = within (c .before) in
     (omega arith, c .before .before .loop .inv .1 ∙ first-turn _ _ _ (w .0) (w .1) (c .if1 .left))
 
 returns-2 : tie.Need-returns-2 Inv-loop μ-loop
-returns-2 c = let n : length (c .before .before .args .t1) ≡ maxLinks = search needs in
+returns-2 c = let n : length (c .before .before .args .t1) ≡ linksHeld = search needs in
     let h : length (c .before .before .args .t1) ≤ c .before .loop .i = omega arith in
     sym (c .before .loop .inv .1 ∙ first-end (c .before .before .args .t1) _ _ h)
 

@@ -7,7 +7,7 @@ use borrow.Author.Needs.{needs}
 use lib.IntN.{ℤ}
 use lib.ListN.{length, take}
 use lib.Seq.{length-take-le}
-use Rattle.network.specs.Limits.{maxLinks}
+use Rattle.network.specs.Capacities.{linksHeld}
 use Rattle.network.specs.PlanList.{bufferNeed}
 use Rattle.walk_visit.specs.Visit.{Ready, count-limit, need-is}
 use Rattle.walk.specs.Call.{room-reply, short-reply}
@@ -40,16 +40,16 @@ ready c =
 count1 : (c : tie.After-need) → length (values1 c) ≡ c .before .before .before .before .before .ceiling-values .result
 count1 c =
     let r = c .before .before .before .before .before .ceiling-values in
-    let size : length (r .last .1 .1 .0) ≡ maxLinks = search needs in
+    let size : length (r .last .1 .1 .0) ≡ linksHeld = search needs in
     length-take-le (r .result) (r .last .1 .1 .0) (omega (arith, r .ensures .0))
 
 count2 : (c : tie.After-need) → length (values2 c) ≡ c .before .before .ceiling-values2 .result
 count2 c =
     let r = c .before .before .ceiling-values2 in
-    let size : length (r .last .1 .1 .0) ≡ maxLinks = search needs in
+    let size : length (r .last .1 .1 .0) ≡ linksHeld = search needs in
     length-take-le (r .result) (r .last .1 .1 .0) (omega (arith, r .ensures .0))
 
-few : (c : tie.After-need) → (length (values1 c) ≤ maxLinks) × (length (values2 c) ≤ maxLinks)
+few : (c : tie.After-need) → (length (values1 c) ≤ linksHeld) × (length (values2 c) ≤ linksHeld)
 few c =
     let first = c .before .before .before .before .before .ceiling-values .ensures in
     let second = c .before .before .ceiling-values2 .ensures in

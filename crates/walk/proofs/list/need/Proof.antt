@@ -5,12 +5,12 @@ use native.Mathlib.Omega.{arith}
 use mir.Syntax.{w64}
 use mir.Val.{Fits}
 use borrow.Author.Needs.{needs}
-use Rattle.network.specs.Limits.{maxPlans}
+use Rattle.network.specs.Capacities.{plansHeld}
 use Rattle.network.specs.PlanList.{headSize, planSize, planSlots}
 use Rattle.walk.proofs.list.need.Statement.{statement}
 use Rattle.walk.proofs.list.need.Tie as tie
 
-positions : (c : tie.Start) → c .args .m1 * c .args .m2 ≤ maxPlans
+positions : (c : tie.Start) → c .args .m1 * c .args .m2 ≤ plansHeld
 positions c = let h = c .pre .1 in omega (arith, mul-le-mul-right (c .args .m2) (c .pre .0))
 
 product-fits : (c : tie.Start) → Fits w64 (c .args .m1 * c .args .m2)

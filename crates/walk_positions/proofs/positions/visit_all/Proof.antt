@@ -5,7 +5,7 @@ use Prim.Native.Nat.{ℕ, _+_, _*_, _-_, _≤_, _<_}
 use native.Mathlib.Nat.{mul-le-mul-right}
 use native.Mathlib.Omega.{arith}
 use lib.ListN.{length, length-replicate}
-use Rattle.network.specs.Limits.{maxPlans}
+use Rattle.network.specs.Capacities.{plansHeld}
 use Rattle.network.specs.PlanList.{headSize, planSize, planSlots}
 use Rattle.network.specs.Walk.{positionCount}
 use Rattle.network.specs.Yard.{treeSize}
@@ -17,7 +17,7 @@ use Rattle.walk_positions.proofs.positions.visit_all.Tie as tie
 
 abbrev Inv-loop : tie.InvT-loop
 Inv-loop net order v1 v2 allowance out₀ total marks₀ n₀ plans₀ solved₀ out marks n plans solved =
-    (length marks ≡ maxPlans) × (length out ≡ length out₀) × (n ≤ positionCount net) × (plans ≤ n) × (solved ≤ n) × (solved ≤ allowance)
+    (length marks ≡ plansHeld) × (length out ≡ length out₀) × (n ≤ positionCount net) × (plans ≤ n) × (solved ≤ n) × (solved ≤ allowance)
     × Progress net n marks out plans solved
 
 abbrev μ-loop : tie.MeasureT-loop
@@ -25,7 +25,7 @@ abbrev μ-loop : tie.MeasureT-loop
 
 -- as many positions as places of both ceilings, and the marks have room for them
 sizes : (s : tie.Start Inv-loop μ-loop)
-    → (positionCount (s .args .net) ≡ length (s .args .v1 .now) * length (s .args .v2 .now)) × (positionCount (s .args .net) ≤ maxPlans)
+    → (positionCount (s .args .net) ≡ length (s .args .v1 .now) * length (s .args .v2 .now)) × (positionCount (s .args .net) ≤ plansHeld)
 sizes s = (count-is (s .pre .0), count-limit (s .pre .0) (s .pre .1) (s .pre .2))
 
 -- ---- a turn
@@ -50,13 +50,13 @@ mul-total c = omega (arith, sizes (c .before .before))
 loop-holds : tie.Need-loop-holds Inv-loop μ-loop
 loop-holds c =
     let s = c .before .before in (
-      length-replicate {A = ℕ} maxPlans 0,
+      length-replicate {A = ℕ} plansHeld 0,
       refl,
       omega arith,
       omega arith,
       omega arith,
       omega arith,
-      start (s .args .net) maxPlans (s .args .out .now) (sizes s .1),
+      start (s .args .net) plansHeld (s .args .out .now) (sizes s .1),
     )
 
 array-read-if1 : tie.Need-array-read-if1 Inv-loop μ-loop

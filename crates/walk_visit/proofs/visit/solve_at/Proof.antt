@@ -5,7 +5,7 @@ use native.Mathlib.Omega.{arith}
 use borrow.Author.Needs.{needs}
 use lib.ListN.{length, replicate}
 use lib.Seq.{length-take-le}
-use Rattle.network.specs.Limits.{maxTree}
+use Rattle.network.specs.Capacities.{treeHeld}
 use Rattle.network.specs.Yard.{treeSize, yard}
 use Rattle.marking_marks.specs.Settle.{Settled}
 use Rattle.walk_visit.specs.Visit.{bestAt, reaches, settles}
@@ -48,7 +48,7 @@ take-in-requires : tie.Need-take-in-requires
 take-in-requires c κs =
     let asked = c .before .before .before .before .before .before .before in
     let s = start asked in
-    takes (s .args .net) (s .args .n) (asked .ask .ensures .0) (replicate maxTree 0) (asked .ask .ensures .1) (tree-room asked) (s .pre .3)
+    takes (s .args .net) (s .args .n) (asked .ask .ensures .0) (replicate treeHeld 0) (asked .ask .ensures .1) (tree-room asked) (s .pre .3)
 
 same-length : tie.Need-same-length
 same-length c = search needs
@@ -62,7 +62,7 @@ returns c =
     let s = start asked in
     let a = s .args in
     let marked = c .before .before .before .before .before .before .before .settle in
-    visited (a .net) (a .n) (asked .ask .ensures .0) (replicate maxTree 0) (asked .ask .ensures .1) (tree-room asked)
+    visited (a .net) (a .n) (asked .ask .ensures .0) (replicate treeHeld 0) (asked .ask .ensures .1) (tree-room asked)
     (subst⁻¹ (Settled (yard (a .net)) (a .n) (bestAt (a .net) (a .n)) (a .marks .now)) (marked .ensures)
     (settles (s .pre .0) (a .n) (s .pre .1) (asked .ask .ensures .0) (a .marks .now) (s .pre .2)))
     (c .before .before .take-in .ensures)

@@ -1,0 +1,82 @@
+// The positions of the ceilings as numbers in a mixed radix, a digit for each ceiling, the first one highest.
+use marking_values::values::different_values;
+use network::Shape;
+use network::capacities::CEILINGS_HELD;
+
+// Ceiling i has counts[i] values, and the numbers of positions whose places differ by one there are strides[i] apart; there are `total` positions.
+pub struct Grid {
+    pub counts: [usize; CEILINGS_HELD],
+    pub strides: [usize; CEILINGS_HELD],
+    pub total: usize,
+}
+
+// The different values of each ceiling, at the front of its part of `values`, and their numbers.
+fn values_of(shape: Shape, costs: &[i16], values: &mut [i16]) -> [usize; CEILINGS_HELD]
+{
+    let p = shape.p as usize;
+    let m = shape.m;
+    let mut counts = [0usize; CEILINGS_HELD];
+    let mut from = 0;
+    for i in 0..p {
+        let to = from + m;
+        counts[i] = different_values(&costs[from..to], &mut values[from..to]);
+        from = to;
+    }
+    counts
+}
+
+// Writes the stride of each ceiling, and returns the number of positions.
+fn strides_of(counts: &[usize], strides: &mut [usize]) -> usize
+{
+    let mut size = 1;
+    let mut i = counts.len();
+    while 0 < i {
+        i -= 1;
+        strides[i] = size;
+        size *= counts[i];
+    }
+    size
+}
+
+// The grid of a network, with the values of ceiling i at the front of its part of `values`, which holds m for each.
+pub fn grid_of(shape: Shape, costs: &[i16], values: &mut [i16]) -> Grid
+{
+    let p = shape.p as usize;
+    let counts = values_of(shape, costs, values);
+    let mut strides = [0usize; CEILINGS_HELD];
+    let total = strides_of(&counts[..p], &mut strides[..p]);
+    Grid {
+        counts,
+        strides,
+        total,
+    }
+}
+
+// The place in a ceiling of stride `stride`, and the rest of the number.
+pub struct Digit {
+    pub place: usize,
+    pub rest: usize,
+}
+
+// The highest digit of a number.
+fn digit(n: usize, stride: usize) -> Digit
+{
+    if stride == 1 {
+        return Digit { place: n, rest: 0 };
+    }
+    Digit {
+        place: n / stride,
+        rest: n % stride,
+    }
+}
+
+// Writes the places of position n.
+pub fn put_places(n: usize, strides: &[usize], places: &mut [usize])
+{
+    let mut rest = n;
+    for i in 0..strides.len() {
+        let d = digit(rest, strides[i]);
+        places[i] = d.place;
+        rest = d.rest;
+    }
+}

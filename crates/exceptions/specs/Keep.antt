@@ -17,7 +17,7 @@ use Rattle.order.specs.Test.{Decided, by-test, clash, decide, left, right}
 use Rattle.order.specs.Lists.{_∈_, count, filter, sublist-⊆}
 use Rattle.spanning.specs.Labelling.{crosses}
 use Rattle.spanning.specs.LabelList.{labelOf}
-use Rattle.network.specs.Capacities.{linksHeld, patternsHeld}
+use Rattle.network.specs.Capacities.{patternsHeld}
 use Rattle.kmax.specs.Ceilings.{slackOf}
 use Rattle.kmax.specs.Digits.{admits, admits-few, marked}
 use Rattle.forest.specs.Groups.{apart, joined}
@@ -162,40 +162,40 @@ pub record Exceptions (ks patterns l : List ℕ) : Type 0 where
   pub above : (x : ℕ) → x ∈ l → marked (patternAt patterns x) ≡ true
   pub alone : (x : ℕ) → x ∈ l → admitted ks patterns (x ∷ []) ≡ true
 
-module _ (ks patterns : List ℕ) (P : Patterned ks patterns) where
+module _ (m : ℕ) (ks patterns : List ℕ) (P : Patterned m ks patterns) where
   -- there is room for a pattern of each kind
-  pub pattern-known : (e : ℕ) → e < linksHeld → patternAt patterns e < patternsHeld
+  pub pattern-known : (e : ℕ) → e < m → patternAt patterns e < patternsHeld
   pattern-known e h = omega (arith, P .digits e h, pow-le-pow-right {n = 2} (omega arith) (P .few))
 
   -- there are none where no rank is above 1
-  pub no-exceptions : slackOf ks ≡ 0 → (l : List ℕ) → ((x : ℕ) → x ∈ l → x < linksHeld) → Exceptions ks patterns l → length l ≡ 0
+  pub no-exceptions : slackOf ks ≡ 0 → (l : List ℕ) → ((x : ℕ) → x ∈ l → x < m) → Exceptions ks patterns l → length l ≡ 0
   unfolding admitted
   no-exceptions none [] below E = refl
   no-exceptions none (x ∷ l) below E =
       let p = patternAt patterns x in
       let one : count marked (p ∷ []) ≡ 1 = rw (E .above x (here refl)) in
       let few = admits-few ks (p ∷ [])
-      (λ q m. let e : q ≡ p = List·Memᴰ·eq-of-singleton m in rw e (P .digits x (below x (here refl)))) (E .alone x (here refl)) in
+      (λ q i. let e : q ≡ p = List·Memᴰ·eq-of-singleton i in rw e (P .digits x (below x (here refl)))) (E .alone x (here refl)) in
       absurd (omega arith)
 
-module _ (ends ks patterns l : List ℕ) (P : Patterned ks patterns) where
+module _ (m : ℕ) (ends ks patterns l : List ℕ) (P : Patterned m ks patterns) where
   pub exceptions-sublist : Sublistᴰ (keptExceptions ends patterns ks l) l
   unfolding keptExceptions
   exceptions-sublist = by-sublist ends patterns (fitOf ks) separate l
 
-  module _ (below : (x : ℕ) → x ∈ l → x < linksHeld) where
+  module _ (below : (x : ℕ) → x ∈ l → x < m) where
     fit : (x : ℕ) → x ∈ keptExceptions ends patterns ks l → marked (patternAt patterns x) && admits ks (patternAt patterns x ∷ []) ≡ true
     unfolding keptExceptions
-    fit x m =
-        let known = pattern-known ks patterns P x (below x (sublist-⊆ (by-sublist ends patterns (fitOf ks) separate l) x m)) in
-        sym (fit-at ks (patternAt patterns x) known) ∙ by-fit ends patterns (fitOf ks) separate l x m
+    fit x i =
+        let known = pattern-known m ks patterns P x (below x (sublist-⊆ (by-sublist ends patterns (fitOf ks) separate l) x i)) in
+        sym (fit-at ks (patternAt patterns x) known) ∙ by-fit ends patterns (fitOf ks) separate l x i
 
     pub kept-exceptions : Exceptions ks patterns (keptExceptions ends patterns ks l)
     unfolding admitted
     kept-exceptions =
         record {
-          above = λ x m. left (marked (patternAt patterns x)) _ (fit x m);
-          alone = λ x m. right (marked (patternAt patterns x)) (admits ks (patternAt patterns x ∷ [])) (fit x m);
+          above = λ x i. left (marked (patternAt patterns x)) _ (fit x i);
+          alone = λ x i. right (marked (patternAt patterns x)) (admits ks (patternAt patterns x ∷ [])) (fit x i);
         }
 
   -- of a pattern that may be excepted, those that Kruskal's method keeps of its links

@@ -79,17 +79,17 @@ pub record InOrder (sums l : List ℕ) : Type 0 where
   pub sorted : Sorted orderℕ (sumAt sums) l
 
 module _ (sums : List ℕ) where
-  pub order-in-order : (m : ℕ) {l : List ℕ} → m ≤ linksHeld → Cheap sums m → l ≡ linkOrder sums m → InOrder sums l
+  pub order-in-order : {l : List ℕ} → length sums ≤ linksHeld → Cheap sums → l ≡ linkOrder sums → InOrder sums l
   unfolding linkOrder
-  order-in-order m h cheap e =
+  order-in-order h cheap e =
       let key = ranked (sumAt sums) (λ c. c) in
       rw e (record {
         walkable = record {
-          few = omega (arith, order-length sums m);
-          usable = λ e k. let b = order-below sums m e k in record { below = omega arith; cheap = cheap e b };
+          few = omega (arith, order-length sums);
+          usable = λ e k. let b = order-below sums e k in record { below = b; cheap = cheap e b };
         };
-        sorted = pairwise-imp (λ x y k. pair-first orderℕ orderℕ (key x) (key y) k) (linkOrder sums m)
-            (sort-sorted (pairs orderℕ orderℕ) key (numbersFrom m 0));
+        sorted = pairwise-imp (λ x y k. pair-first orderℕ orderℕ (key x) (key y) k) (linkOrder sums)
+            (sort-sorted (pairs orderℕ orderℕ) key (numbersFrom (length sums) 0));
       })
 
   -- so is each sublist

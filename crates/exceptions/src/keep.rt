@@ -4,6 +4,7 @@ use forest::Forest;
 use kruskal::links::Links;
 use network::capacities::LINKS_HELD;
 use network::capacities::PATTERNS_HELD;
+ghost use lib.ListN.{length};
 ghost use Rattle.kruskal.specs.Tree.{Columns, Walkable};
 ghost use Rattle.kruskal.specs.Base.{Holding};
 ghost use Rattle.exceptions_patterns.specs.Patterns.{Patterned};
@@ -11,7 +12,7 @@ ghost use Rattle.exceptions.specs.Keep.{keptExceptions};
 
 // The links of an order that may be exceptions and join two groups of the links kept of their pattern.
 pub fn kept_exceptions(ends: &[u8], sums: &[u32], order: &[u8], patterns: &[u8], ks: &[u8]) -> Links
-    requires { ⌜ Columns (now ends) (now sums) × Walkable (now sums) (now order) × Patterned (now ks) (now patterns) ⌝ }
+    requires { ⌜ Columns (now ends) (now sums) × Walkable (now sums) (now order) × Patterned (length (now sums)) (now ks) (now patterns) ⌝ }
     ensures { λ r. ⌜ Holding (keptExceptions (now (ends .entry)) (now (patterns .entry)) (now (ks .entry)) (now (order .entry))) r ⌝ }
 {
     let fit = fit_patterns(ks);

@@ -35,15 +35,15 @@ linked ends sums t e = cond (crosses (labelOf (t .forest .leader)) (endsAt ends 
 
 -- there are two ends and a cost for each of the links
 pub record Columns (ends sums : List ℕ) : Type 0 where
-  pub ends-size : length ends ≡ 2 * linksHeld
-  pub sums-size : length sums ≡ linksHeld
+  pub ends-size : length ends ≡ 2 * length sums
+  pub sums-size : length sums ≤ linksHeld
 
 -- link e is one of the links, with a cost in range
 pub record Usable (sums : List ℕ) (e : ℕ) : Type 0 where
-  pub below : e < linksHeld
+  pub below : e < length sums
   pub cheap : sumAt sums e ≤ sumHeld
 
--- a list of such links, with no more of them than a survey may have
+-- a list of such links, with no more of them than arrays hold
 pub record Walkable (sums l : List ℕ) : Type 0 where
   pub few : length l ≤ linksHeld
   pub usable : (e : ℕ) → e ∈ l → Usable sums e

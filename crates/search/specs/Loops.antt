@@ -20,7 +20,6 @@ use Rattle.order.specs.Sorted.{Sorted}
 use Rattle.network.specs.Yard.{sumAt}
 use Rattle.kmax.specs.Ceilings.{slackOf}
 use Rattle.kmax.specs.Digits.{admits, admits-few, marked, ones}
-use Rattle.network.specs.Capacities.{linksHeld}
 use Rattle.exceptions_patterns.specs.Patterns.{Patterned, admitted, patternAt}
 use Rattle.exceptions.specs.Keep.{Exceptions}
 use Rattle.exceptions.specs.Select.{InOrder, sublist-in-order}
@@ -93,7 +92,7 @@ pair-admitted ks patterns x y =
     by-test (leb x y) (λ k. rw k) (λ k. rw k (admits-swap ks (patternAt patterns x) (patternAt patterns y)))
 
 -- where all ranks together have less than 2 above 1, no two exceptions are admitted
-pair-barred : (ks patterns : List ℕ) → Patterned ks patterns → slackOf ks < 2 → (x y : ℕ) → x < linksHeld → y < linksHeld
+pair-barred : (ks patterns : List ℕ) {m : ℕ} → Patterned m ks patterns → slackOf ks < 2 → (x y : ℕ) → x < m → y < m
     → marked (patternAt patterns x) ≡ true → marked (patternAt patterns y) ≡ true → admitted ks patterns (pair x y) ≡ false
 pair-barred ks patterns P few x y hx hy mx my =
     sym (pair-admitted ks patterns x y)
@@ -194,8 +193,8 @@ module _ (ends sums : List ℕ) (goal : ℕ) (ks patterns base : List ℕ) where
   -- ---- all sets
 
   -- where no two exceptions are admitted, those of one link are all
-  module _ (P : Patterned ks patterns) (few : slackOf ks < 2) where
-    ones-searched : (b : Best) (l : List ℕ) → Exceptions ks patterns l → ((x : ℕ) → x ∈ l → x < linksHeld)
+  module _ {m : ℕ} (P : Patterned m ks patterns) (few : slackOf ks < 2) where
+    ones-searched : (b : Best) (l : List ℕ) → Exceptions ks patterns l → ((x : ℕ) → x ∈ l → x < m)
         → foldl (tried ends sums goal base) b (singles l) ≡ searched b (sets l)
     unfolding searched sets singles
     ones-searched b [] E below = refl
@@ -213,7 +212,7 @@ module _ (ends sums : List ℕ) (goal : ℕ) (ks patterns base : List ℕ) where
         ∙ sym (foldl-append try b′ (map (pair x) l) (sets l))
         ∙ ap (λ (c : Best). foldl try c (map (pair x) l ++ sets l)) first
 
-    pub ones-all : (b r : Best) (l : List ℕ) → Exceptions ks patterns l → ((x : ℕ) → x ∈ l → x < linksHeld)
+    pub ones-all : (b r : Best) (l : List ℕ) → Exceptions ks patterns l → ((x : ℕ) → x ∈ l → x < m)
         → r ≡ triedOnes ends sums goal base b l 0 → r ≡ searched b (sets l)
     unfolding triedOnes
     ones-all b r l E below e = e ∙ ones-searched b l E below

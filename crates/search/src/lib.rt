@@ -29,7 +29,7 @@ fn consider_pairs(
     b: Best,
 ) -> Best
     requires { ⌜ Columns (now ends) (now sums) × InOrder (now sums) (now base) × (rest ≡ restOf (now sums) (now base) (rest .goal) 2)
-        × Patterned (now ks) (now patterns) × InOrder (now sums) (now odd) × (0 < length (now odd)) ⌝ }
+        × Patterned (length (now sums)) (now ks) (now patterns) × InOrder (now sums) (now odd) × (0 < length (now odd)) ⌝ }
     ensures { λ q. ⌜ q ≡ withPairs (now (ends .entry)) (now (sums .entry)) (rest .goal) (now (ks .entry)) (now (patterns .entry))
         (now (base .entry)) b (now (odd .entry)) 1 ⌝ }
 {
@@ -61,7 +61,7 @@ pub fn consider_sets(
     odd: &[u8],
     b: Best,
 ) -> Best
-    requires { ⌜ Columns (now ends) (now sums) × InOrder (now sums) (now base) × Patterned (now ks) (now patterns)
+    requires { ⌜ Columns (now ends) (now sums) × InOrder (now sums) (now base) × Patterned (length (now sums)) (now ks) (now patterns)
         × InOrder (now sums) (now odd) × Exceptions (now ks) (now patterns) (now odd) ⌝ }
     ensures { λ q. ⌜ q ≡ searched (now (ends .entry)) (now (sums .entry)) goal (now (ks .entry)) (now (patterns .entry))
         (now (base .entry)) b (sets (now (odd .entry))) ⌝ }

@@ -72,7 +72,7 @@ module _ (ends sums : List ℕ) (goal : ℕ) (ks patterns : List ℕ) (base : Li
   offered-first u = by-test (eqb (u .count) goal) (λ k. rw k) (λ k. rw k)
 
   -- the empty set is admitted, where no rank is 0
-  pub base-considered : Kept ends base → Patterned ks patterns → (b : Best) → b ≡ baseAlone sums base goal
+  pub base-considered : Kept ends base → {m : ℕ} → Patterned m ks patterns → (b : Best) → b ≡ baseAlone sums base goal
       → b ≡ considered ends sums goal ks patterns base nothing []
   unfolding tried triedIf baseAlone bare flagsOf admitted
   base-considered made P b r =

@@ -68,8 +68,8 @@ take-least w (suc n) [] = omega arith
 take-least w (suc n) (x ∷ l) = omega (arith, take-least w n l)
 
 module _ (sums base : List ℕ) (walk : Walkable sums base) where
-  pub first-known : (n : ℕ) → length sums ≡ linksHeld → Below (length sums) (take n base)
-  first-known n h = record { below = λ e m. let b = walk .usable e (take-among n base e m) .below in omega arith }
+  pub first-known : (n : ℕ) → Below (length sums) (take n base)
+  first-known n = record { below = λ e m. walk .usable e (take-among n base e m) .below }
 
   first-small : (n : ℕ) → sum (sumAt sums) (take n base) ≤ linksHeld * sumHeld
   first-small n =
@@ -87,8 +87,8 @@ module _ (sums base : List ℕ) (walk : Walkable sums base) where
       by-test (ltb (length base) (goal - size)) (λ e. rw e (omega arith)) (λ e. rw e (omega (arith, first-small (goal - size))))
 
   -- and so of the whole base
-  pub base-known : length sums ≡ linksHeld → Below (length sums) base
-  base-known h = record { below = λ e m. let b = walk .usable e m .below in omega arith }
+  pub base-known : Below (length sums) base
+  base-known = record { below = λ e m. walk .usable e m .below }
 
   pub base-fits : sumOf sums base < 4294967296
   base-fits = rw (take-length base) at (first-fits (length base))

@@ -2,8 +2,6 @@
 use trees_sums::sum_of;
 ghost use mathlib.Core.Path.{_≡_};
 ghost use Prim.Native.Nat.{_+_, _-_, _<_};
-ghost use lib.ListN.{length};
-ghost use Rattle.network.specs.Capacities.{linksHeld};
 ghost use Rattle.kruskal.specs.Tree.{Walkable};
 ghost use Rattle.search_base.specs.Rest.{losesTo, restOf};
 
@@ -27,7 +25,7 @@ fn beside(goal: u8, size: u8) -> usize
 
 // The rest for a set of `size` links. The base comes in rising order of cost.
 pub fn rest_of(sums: &[u32], base: &[u8], goal: u8, size: u8) -> Rest
-    requires { ⌜ (length (now sums) ≡ linksHeld) × Walkable (now sums) (now base) ⌝ }
+    requires { ⌜ Walkable (now sums) (now base) ⌝ }
     ensures { λ r. ⌜ r ≡ restOf (now (sums .entry)) (now (base .entry)) goal size ⌝ }
 {
     let n = beside(goal, size);

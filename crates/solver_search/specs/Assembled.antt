@@ -2,9 +2,9 @@
 use Prim.Native.Nat.{ℕ, _<_}
 use mathlib.Core.List.{List}
 use mathlib.Core.Path.{_≡_}
+use lib.ListN.{length}
 use Rattle.order.specs.Lists.{_∈_, filter}
 use Rattle.forest.specs.Groups.{apart}
-use Rattle.network.specs.Capacities.{linksHeld}
 use Rattle.kruskal.specs.Base.{kept}
 use Rattle.exceptions_patterns.specs.Patterns.{Patterned, normal}
 use Rattle.exceptions.specs.Keep.{Exceptions, exceptions-sublist, kept-exceptions, keptExceptions}
@@ -22,12 +22,12 @@ unfolding searched bestOf
 assembled ends sums goal ks patterns order normals base b e f q = rw (← e, ← f) q
 
 -- what is known of the exceptions that are kept of links in order
-module _ (ends : List ℕ) {sums order ks patterns : List ℕ} (P : Patterned ks patterns) (v : InOrder sums order) where
-  pub kept-below : (x : ℕ) → x ∈ keptExceptions ends patterns ks order → x < linksHeld
-  kept-below x m = sublist-in-order sums (exceptions-sublist ends ks patterns order P) v .walkable .usable x m .below
+module _ (ends : List ℕ) {sums order ks patterns : List ℕ} (P : Patterned (length sums) ks patterns) (v : InOrder sums order) where
+  pub kept-below : (x : ℕ) → x ∈ keptExceptions ends patterns ks order → x < length sums
+  kept-below x m = sublist-in-order sums (exceptions-sublist (length sums) ends ks patterns order P) v .walkable .usable x m .below
 
   pub kept-in-order : InOrder sums (keptExceptions ends patterns ks order)
-  kept-in-order = sublist-in-order sums (exceptions-sublist ends ks patterns order P) v
+  kept-in-order = sublist-in-order sums (exceptions-sublist (length sums) ends ks patterns order P) v
 
   pub kept-known : Exceptions ks patterns (keptExceptions ends patterns ks order)
-  kept-known = kept-exceptions ends ks patterns order P (λ x m. v .walkable .usable x m .below)
+  kept-known = kept-exceptions (length sums) ends ks patterns order P (λ x m. v .walkable .usable x m .below)

@@ -8,6 +8,7 @@ use search::consider_sets;
 use search_base::base::base_alone;
 use search_best::best::Best;
 ghost use mathlib.Core.Path.{_≡_};
+ghost use lib.ListN.{length};
 ghost use Rattle.kruskal.specs.Tree.{Columns};
 ghost use Rattle.exceptions_patterns.specs.Patterns.{Patterned};
 ghost use Rattle.exceptions.specs.Keep.{keptExceptions};
@@ -27,7 +28,7 @@ fn best_from(
     ks: &[u8],
     order: &[u8],
 ) -> Best
-    requires { ⌜ Columns (now ends) (now sums) × InOrder (now sums) (now base) × Patterned (now ks) (now patterns)
+    requires { ⌜ Columns (now ends) (now sums) × InOrder (now sums) (now base) × Patterned (length (now sums)) (now ks) (now patterns)
         × InOrder (now sums) (now order) × Kept (now ends) (now base) ⌝ }
     ensures { λ q. ⌜ q ≡ searched (now (ends .entry)) (now (sums .entry)) goal (now (ks .entry)) (now (patterns .entry)) (now (base .entry)) nothing
         (trials (keptExceptions (now (ends .entry)) (now (patterns .entry)) (now (ks .entry)) (now (order .entry)))) ⌝ }
@@ -64,7 +65,7 @@ pub fn best_of(
     ks: &[u8],
     order: &[u8],
 ) -> Best
-    requires { ⌜ Columns (now ends) (now sums) × InOrder (now sums) (now order) × Patterned (now ks) (now patterns) ⌝ }
+    requires { ⌜ Columns (now ends) (now sums) × InOrder (now sums) (now order) × Patterned (length (now sums)) (now ks) (now patterns) ⌝ }
     ensures { λ q. ⌜ q ≡ bestOf (now (ends .entry)) (now (sums .entry)) goal (now (ks .entry)) (now (patterns .entry)) (now (order .entry)) ⌝ }
 {
     let free = normal_links(sums, order, patterns);

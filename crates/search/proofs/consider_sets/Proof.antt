@@ -29,10 +29,10 @@ within : (c : tie.In-loop Inv-loop μ-loop) → c .before .loop .i < length (sta
 within c = omega arith
 
 rest-of-requires : tie.Need-rest-of-requires Inv-loop μ-loop
-rest-of-requires c κs = let p = c .before .before .before .before .before .before .pre in (p .0 .sums-size, p .1 .walkable)
+rest-of-requires c κs = let p = c .before .before .before .before .before .before .pre in p .1 .walkable
 
 rest-of-requires-2 : tie.Need-rest-of-requires-2 Inv-loop μ-loop
-rest-of-requires-2 c κs = let p = c .before .before .before .before .before .before .before .pre in (p .0 .sums-size, p .1 .walkable)
+rest-of-requires-2 c κs = let p = c .before .before .before .before .before .before .before .pre in p .1 .walkable
 
 loop-holds : tie.Need-loop-holds Inv-loop μ-loop
 loop-holds c = (refl, sets-start _ _ _ _ _ _ _ _)

@@ -35,7 +35,7 @@ returns : tie.Need-returns
 returns c =
     let called = start (c .before .before) in
     let p = called .pre in
-    let none = no-exceptions _ _ (p .2) (sym (c .before .slack-of .ensures) ∙ c .if1 .taken) _
+    let none = no-exceptions _ _ _ (p .2) (sym (c .before .slack-of .ensures) ∙ c .if1 .taken) _
     (kept-below (called .args .ends .now) (p .2) (p .3)) (kept-known _ (p .2) (p .3)) in
     none-searched _ _ _ _ _ _ _ _ _ none (first (c .before .before))
 

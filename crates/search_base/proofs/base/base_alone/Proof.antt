@@ -7,7 +7,7 @@ use Rattle.search_base.proofs.base.base_alone.Statement.{statement}
 use Rattle.search_base.proofs.base.base_alone.Tie as tie
 
 sum-of-requires : tie.Need-sum-of-requires
-sum-of-requires c κs = let p = c .before .before .before .pre in (base-known _ _ (p .1) (p .0), base-fits _ _ (p .1))
+sum-of-requires c κs = let p = c .before .before .before .pre in (base-known _ _ (p .1), base-fits _ _ (p .1))
 
 flags-of-requires : tie.Need-flags-of-requires
 flags-of-requires c κs = search needs

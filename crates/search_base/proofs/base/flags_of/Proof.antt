@@ -31,7 +31,8 @@ shared-slice-read-taken c = search needs
 flagged : (c : tie.After-shared-slice-known Inv-loop μ-loop) → getD (c .before .before .before .args .links .now) (c .before .before .loop .k) 0 < linksHeld
 flagged c =
     let h : c .before .before .loop .k < length (c .before .before .before .args .links .now) = omega arith in
-    c .before .before .before .pre .usable _ (getD-mem _ _ 0 h) .below
+    let p = c .before .before .before .pre in
+    omega (arith, p .0, p .1 .usable _ (getD-mem _ _ 0 h) .below)
 
 cast-taken : tie.Need-cast-taken Inv-loop μ-loop
 cast-taken c = record { fits = omega (arith, flagged c) }

@@ -11,8 +11,7 @@ pub struct Grid {
 }
 
 // The different values of each ceiling, at the front of its part of `values`, and their numbers.
-fn values_of(shape: Shape, costs: &[i16], values: &mut [i16]) -> [usize; CEILINGS_HELD]
-{
+fn values_of(shape: Shape, costs: &[i16], values: &mut [i16]) -> [usize; CEILINGS_HELD] {
     let p = shape.p as usize;
     let m = shape.m;
     let mut counts = [0usize; CEILINGS_HELD];
@@ -26,8 +25,7 @@ fn values_of(shape: Shape, costs: &[i16], values: &mut [i16]) -> [usize; CEILING
 }
 
 // Writes the stride of each ceiling, and returns the number of positions.
-fn strides_of(counts: &[usize], strides: &mut [usize]) -> usize
-{
+fn strides_of(counts: &[usize], strides: &mut [usize]) -> usize {
     let mut size = 1;
     let mut i = counts.len();
     while 0 < i {
@@ -39,8 +37,7 @@ fn strides_of(counts: &[usize], strides: &mut [usize]) -> usize
 }
 
 // The grid of a network, with the values of ceiling i at the front of its part of `values`, which holds m for each.
-pub fn grid_of(shape: Shape, costs: &[i16], values: &mut [i16]) -> Grid
-{
+pub fn grid_of(shape: Shape, costs: &[i16], values: &mut [i16]) -> Grid {
     let p = shape.p as usize;
     let counts = values_of(shape, costs, values);
     let mut strides = [0usize; CEILINGS_HELD];
@@ -59,8 +56,7 @@ pub struct Digit {
 }
 
 // The highest digit of a number.
-fn digit(n: usize, stride: usize) -> Digit
-{
+fn digit(n: usize, stride: usize) -> Digit {
     if stride == 1 {
         return Digit { place: n, rest: 0 };
     }
@@ -71,8 +67,7 @@ fn digit(n: usize, stride: usize) -> Digit
 }
 
 // Writes the places of position n.
-pub fn put_places(n: usize, strides: &[usize], places: &mut [usize])
-{
+pub fn put_places(n: usize, strides: &[usize], places: &mut [usize]) {
     let mut rest = n;
     for i in 0..strides.len() {
         let d = digit(rest, strides[i]);

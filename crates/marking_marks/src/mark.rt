@@ -35,8 +35,7 @@ pub fn mark_rows(marks: &mut [u8], start: usize, stride: usize, rows: usize, n: 
 }
 
 // Marks the box with the given sides whose first position is `start`. The last side has the stride 1.
-pub fn mark_box(marks: &mut [u8], start: usize, strides: &[usize], counts: &[usize])
-{
+pub fn mark_box(marks: &mut [u8], start: usize, strides: &[usize], counts: &[usize]) {
     let sides = strides.len();
     if sides == 0 {
         marks[start] = 1;

@@ -1,10 +1,10 @@
 // Finding one plan in the bytes of a list: the number, and where the plan's record starts.
 use encoding_numbers::mark_at;
 use encoding_numbers::read_u16;
-use network::records::HEAD_SIZE;
 use network::limits::MAX_CEILINGS;
 use network::limits::MAX_PLANS;
 use network::limits::MAX_TREE;
+use network::records::HEAD_SIZE;
 use planlist_records::CEILINGS_AT;
 use planlist_records::COUNT_AT;
 use planlist_records::HEAD_MARK;

@@ -3,9 +3,9 @@ use kruskal_order::order_links;
 use network::Answer;
 use network::Checked;
 use network::Refusal;
-use solver::question::solve;
 use network::capacities::CEILINGS_HELD;
 use network::capacities::LINKS_HELD;
+use solver::question::solve;
 use survey::read_survey;
 ghost use mathlib.Core.Path.{_≡_};
 ghost use lib.ListN.{length};
@@ -38,7 +38,15 @@ pub fn best(survey: &[u8], b1: i16, b2: i16, tree: &mut [u8]) -> Answer
             let order = order_links(&sums[..m]);
             let bounds = [b1, b2];
             let p = shape.p as usize;
-            solve(shape, &ends[..2 * m], &sums[..m], &costs[..size], &order[..m], &bounds[..p], tree)
+            solve(
+                shape,
+                &ends[..2 * m],
+                &sums[..m],
+                &costs[..size],
+                &order[..m],
+                &bounds[..p],
+                tree,
+            )
         }
     }
 }

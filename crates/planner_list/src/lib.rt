@@ -31,6 +31,13 @@ pub fn list(survey: &[u8], allowance: u32, buffer: &mut [u8]) -> Status
             number: refusal.number,
             place: refusal.place,
         },
-        Checked::Fine => list_plans(shape, &ends[..2 * m], &sums[..m], &costs[..size], allowance, buffer),
+        Checked::Fine => list_plans(
+            shape,
+            &ends[..2 * m],
+            &sums[..m],
+            &costs[..size],
+            allowance,
+            buffer,
+        ),
     }
 }

@@ -1,5 +1,5 @@
 -- THE THEOREM: the program's search finds the best tree of document 01.
-use Prim.Native.Nat.{ℕ, _-_, _<_}
+use Prim.Native.Nat.{ℕ, _<_}
 use mathlib.Core.Bool.{Bool, true, not, _&&_}
 use mathlib.Core.List.{List, [], _∷_, List·Memᴰ·eq-of-singleton, Sublistᴰ}
 use mathlib.Core.Path.{_≡_, sym, ap, _∙_, fun-ext, subst}
@@ -7,6 +7,7 @@ use native.Mathlib.Omega.{arith}
 use borrow.Author.Tests.{not-false, not-true}
 use lib.Dec.{eqb}
 use lib.IntN.{ℤ}
+use lib.ListN.{length}
 use Rattle.order.specs.Test.{both, left, right}
 use Rattle.order.specs.Lists.{_∈_, _⊆_, filter, filter-mem, mem-filter, numbersFrom, sublist-⊆}
 use Rattle.order.specs.Order.{orderℕ, orderℤ, pairs}
@@ -23,8 +24,7 @@ use Rattle.kmax.specs.Digits.{admits, marked}
 use Rattle.planning.specs.Graph.{exceptionals, links, normals, searchSets, under}
 use Rattle.planning.specs.Search.{EnoughSets, base, search-base, search-sets}
 use Rattle.planning.specs.Patterns.{KeptLink, has, keeps, kept-enough}
-use Rattle.network.specs.Capacities.{linksHeld}
-use Rattle.network.specs.Yard.{best, bounds, endsAt, graph, ranks, sumAt}
+use Rattle.network.specs.Yard.{best, endsAt, graph, ranks, sumAt, treeSize}
 use Rattle.network.specs.NetworkFine.{NetworkFine, graph-sound}
 use Rattle.network.specs.Network.{Network}
 use Rattle.forest.specs.Groups.{apart, apart-labels, apart-led}
@@ -34,7 +34,7 @@ use Rattle.kruskal.specs.Grown.{kept-kruskal}
 use Rattle.solver.specs.Filter.{filter-ext, filter-sort}
 use Rattle.search_best.specs.Sets.{trials, trials-among, trials-complete, trials-sound}
 use Rattle.exceptions_patterns.specs.Patterns.{admitted, normal, patternAt}
-use Rattle.exceptions_patterns.specs.OfNetwork.{net-admitted, net-bounds, net-few, net-normal, net-pattern, net-patterned, netPatterns}
+use Rattle.exceptions_patterns.specs.OfNetwork.{net-admitted, net-normal, net-pattern, net-patterned, netPatterns}
 use Rattle.exceptions.specs.Keep.{exceptions-of, exceptions-sublist, kept-exceptions, keptExceptions, pattern-known}
 use Rattle.search_best.specs.Search.{bestOf}
 use Rattle.solver_network.specs.OfNetwork.{netBest}
@@ -46,20 +46,21 @@ links-apart s m =
     pairwise-imp (λ x y h q. h (ap (λ (k : ℕ × ℕ). k .1) q)) (numbersFrom m 0)
     (rising-apart orderℕ (λ x. x) (numbersFrom m 0) (numbers-rising m 0))
 
-module _ (net : Network) (fine : NetworkFine net) (b1 b2 : ℤ) where
-  -- the bounds
-  abbrev bs : List ℤ
-  bs = bounds net b1 b2
-
-  -- the ceilings that are present
+module _ (net : Network) (fine : NetworkFine net) (bs : List ℤ) (each : length bs ≡ net .p) where
+  -- the ceilings
   abbrev cs : List (Ceiling ℤ)
   cs = under (graph net) bs
 
   link-below : (e : ℕ) → e ∈ links (graph net) → e < net .m
   link-below e k = let r = numbers-mem (net .m) 0 e k in omega arith
 
-  within : (X : List ℕ) → ((x : ℕ) → x ∈ X → x < net .m) → (x : ℕ) → x ∈ X → x < linksHeld
-  within X below x k = let few = fine .few-links in omega (arith, below x k)
+  -- the order of the links is that of the graph's links, and holds no other
+  order-links : linkOrder (net .sums) ≡ byCost (sumAt (net .sums)) (links (graph net))
+  unfolding linkOrder
+  order-links = ap (λ (m : ℕ). byCost (sumAt (net .sums)) (numbersFrom m 0)) (fine .sum-count)
+
+  order-within : (x : ℕ) → x ∈ linkOrder (net .sums) → x < net .m
+  order-within x k = omega (arith, order-below (net .sums) x k, fine .sum-count)
 
   -- ---- what the program keeps of the normal links, and of the exceptions
 
@@ -71,13 +72,13 @@ module _ (net : Network) (fine : NetworkFine net) (b1 b2 : ℤ) where
   candidate q e k = link-below e (filter-mem q (links (graph net)) (passing q e k) .0)
 
   -- where the program's test p of a link is the theory's q
-  kept-links : (p q : ℕ → Bool) → ((e : ℕ) → e < linksHeld → p e ≡ q e)
-      → kept (net .ends) apart (filter p (linkOrder (net .sums) (net .m))) ≡ base (graph net) (byCost (sumAt (net .sums)) (filter q (links (graph net))))
-  unfolding linkOrder
+  kept-links : (p q : ℕ → Bool) → ((e : ℕ) → e < net .m → p e ≡ q e)
+      → kept (net .ends) apart (filter p (linkOrder (net .sums))) ≡ base (graph net) (byCost (sumAt (net .sums)) (filter q (links (graph net))))
   kept-links p q h =
       let s = sumAt (net .sums) in
       ap (kept (net .ends) apart)
-      (filter-ext p q (linkOrder (net .sums) (net .m)) (λ e k. h e (within (linkOrder (net .sums) (net .m)) (order-below (net .sums) (net .m)) e k))
+      (filter-ext p q (linkOrder (net .sums)) (λ e k. h e (order-within e k))
+      ∙ ap (filter q) order-links
       ∙ filter-sort (pairs orderℕ orderℕ) (ranked s (λ c. c)) q (links (graph net)) (links-apart s (net .m)))
       ∙ kept-kruskal (net .ends) apart (byCost s (filter q (links (graph net)))) apart-led (near net fine _ (candidate q))
       ∙ ap (λ (L : Labelling). kruskal (endsAt (net .ends)) L (byCost s (filter q (links (graph net))))) (fun-ext apart-labels)
@@ -86,73 +87,68 @@ module _ (net : Network) (fine : NetworkFine net) (b1 b2 : ℤ) where
   abbrev cheapest : List ℕ
   cheapest = base (graph net) (byCost (sumAt (net .sums)) (normals (graph net) bs))
 
-  base-links : kept (net .ends) apart (filter (normal (netPatterns net b1 b2)) (linkOrder (net .sums) (net .m))) ≡ cheapest
-  base-links = kept-links (normal (netPatterns net b1 b2)) (λ e. not (exceptional orderℤ cs e)) (net-normal net fine b1 b2)
+  base-links : kept (net .ends) apart (filter (normal (netPatterns net bs)) (linkOrder (net .sums))) ≡ cheapest
+  base-links = kept-links (normal (netPatterns net bs)) (λ e. not (exceptional orderℤ cs e)) (net-normal net fine bs each)
 
   kept-below : (q : ℕ → Bool) (e : ℕ) → e ∈ base (graph net) (byCost (sumAt (net .sums)) (filter q (links (graph net)))) → e < net .m
   kept-below q e k = candidate q e (greedy-⊆ (endsAt (net .ends)) (kruskal-greedy (endsAt (net .ends)) identity _) e k)
 
   -- and of the exceptions, pattern by pattern
   abbrev odd : List ℕ
-  odd = keptExceptions (net .ends) (netPatterns net b1 b2) (ranks net) (linkOrder (net .sums) (net .m))
+  odd = keptExceptions (net .ends) (netPatterns net bs) (ranks net) (linkOrder (net .sums))
 
   -- ---- the sets that the program tries are enough
 
-  order-within : (x : ℕ) → x ∈ linkOrder (net .sums) (net .m) → x < linksHeld
-  order-within = within (linkOrder (net .sums) (net .m)) (order-below (net .sums) (net .m))
-
   -- they stand in their order among the links
-  odd-sublist : Sublistᴰ odd (linkOrder (net .sums) (net .m))
-  odd-sublist = exceptions-sublist (net .ends) (ranks net) (netPatterns net b1 b2) (linkOrder (net .sums) (net .m)) (net-patterned net fine b1 b2)
+  odd-sublist : Sublistᴰ odd (linkOrder (net .sums))
+  odd-sublist = exceptions-sublist (net .m) (net .ends) (ranks net) (netPatterns net bs) (linkOrder (net .sums)) (net-patterned net fine bs each)
 
-  odd-among : odd ⊆ linkOrder (net .sums) (net .m)
+  odd-among : odd ⊆ linkOrder (net .sums)
   odd-among = sublist-⊆ odd-sublist
 
   odd-below : (x : ℕ) → x ∈ odd → x < net .m
-  odd-below x k = order-below (net .sums) (net .m) x (odd-among x k)
+  odd-below x k = order-within x (odd-among x k)
 
   -- no link is there twice
   odd-apart : Apart (λ x. x) odd
-  odd-apart = pairwise-sublist (λ x y. ¬ (y ≡ x)) odd-sublist (order-apart (net .sums) (net .m))
+  odd-apart = pairwise-sublist (λ x y. ¬ (y ≡ x)) odd-sublist (order-apart (net .sums))
 
   -- each is above some bound, and may be in a tree all the same
   odd-exceptional : odd ⊆ exceptionals (graph net) bs
   unfolding normal
   odd-exceptional x k =
       let known =
-      kept-exceptions (net .ends) (ranks net) (netPatterns net b1 b2) (linkOrder (net .sums) (net .m)) (net-patterned net fine b1 b2) order-within in
-      let above = sym (net-normal net fine b1 b2 x (order-within x (odd-among x k))) ∙ not-true _ (known .above x k) in
+      kept-exceptions (net .m) (net .ends) (ranks net) (netPatterns net bs) (linkOrder (net .sums)) (net-patterned net fine bs each) order-within in
+      let above = sym (net-normal net fine bs each x (order-within x (odd-among x k))) ∙ not-true _ (known .above x k) in
       mem-filter (exceptional orderℤ cs) (mem-numbers (net .m) 0 x (omega arith) (omega (arith, odd-below x k))) (not-false _ above)
 
   -- what the program keeps of one pattern is what the theory keeps of it
-  pattern-links : (q : ℕ) → kept (net .ends) apart (filter (λ e. eqb (patternAt (netPatterns net b1 b2) e) q) (linkOrder (net .sums) (net .m)))
+  pattern-links : (q : ℕ) → kept (net .ends) apart (filter (λ e. eqb (patternAt (netPatterns net bs) e) q) (linkOrder (net .sums)))
       ≡ keeps (graph net) bs q
   pattern-links q =
-      kept-links (λ e. eqb (patternAt (netPatterns net b1 b2) e) q) (has (graph net) bs q)
-      (λ e h. ap (λ (p : ℕ). eqb p q) (net-pattern net fine b1 b2 e h))
+      kept-links (λ e. eqb (patternAt (netPatterns net bs) e) q) (has (graph net) bs q)
+      (λ e h. ap (λ (p : ℕ). eqb p q) (net-pattern net fine bs each e h))
 
   -- a link that needs to be tried may be an exception
-  needed-fit : (x : ℕ) → x < linksHeld → lone orderℤ cs x ≡ true
-      → marked (patternAt (netPatterns net b1 b2) x) && admits (ranks net) (patternAt (netPatterns net b1 b2) x ∷ []) ≡ true
+  needed-fit : (x : ℕ) → x < net .m → lone orderℤ cs x ≡ true
+      → marked (patternAt (netPatterns net bs) x) && admits (ranks net) (patternAt (netPatterns net bs) x ∷ []) ≡ true
   unfolding normal admitted
   needed-fit x h e =
       let above = left (exceptional orderℤ cs x) (admissible orderℤ cs (x ∷ [])) e in
       let alone = right (exceptional orderℤ cs x) (admissible orderℤ cs (x ∷ [])) e in
-      let one = net-admitted net fine b1 b2 (x ∷ []) (λ y m. rw (List·Memᴰ·eq-of-singleton m) h) in
-      both (ap not (net-normal net fine b1 b2 x h ∙ ap not above)) (one ∙ alone)
+      let one = net-admitted net fine bs each (x ∷ []) (λ y m. rw (List·Memᴰ·eq-of-singleton m) h) in
+      both (ap not (net-normal net fine bs each x h ∙ ap not above)) (one ∙ alone)
 
   -- and so it is among those that the program tries
   needed : (x : ℕ) → x < net .m → KeptLink (graph net) bs x → x ∈ odd
   needed x h K =
-      let few = fine .few-links in
-      let known : x < linksHeld = omega arith in
-      let q = patternAt (netPatterns net b1 b2) x in
-      let own = exceptions-of (net .ends) (ranks net) (netPatterns net b1 b2) (linkOrder (net .sums) (net .m)) (net-patterned net fine b1 b2) q
-      (pattern-known (ranks net) (netPatterns net b1 b2) (net-patterned net fine b1 b2) x known) (needed-fit x known (K .alone)) in
-      let kept : x ∈ keeps (graph net) bs q = subst (λ (p : ℕ). x ∈ keeps (graph net) bs p) (sym (net-pattern net fine b1 b2 x known)) (K .kept) in
-      let there : x ∈ filter (λ e. eqb (patternAt (netPatterns net b1 b2) e) q) odd =
+      let q = patternAt (netPatterns net bs) x in
+      let own = exceptions-of (net .m) (net .ends) (ranks net) (netPatterns net bs) (linkOrder (net .sums)) (net-patterned net fine bs each) q
+      (pattern-known (net .m) (ranks net) (netPatterns net bs) (net-patterned net fine bs each) x h) (needed-fit x h (K .alone)) in
+      let kept : x ∈ keeps (graph net) bs q = subst (λ (p : ℕ). x ∈ keeps (graph net) bs p) (sym (net-pattern net fine bs each x h)) (K .kept) in
+      let there : x ∈ filter (λ e. eqb (patternAt (netPatterns net bs) e) q) odd =
       subst (λ (l : List ℕ). x ∈ l) (sym (own ∙ pattern-links q)) kept in
-      filter-mem (λ e. eqb (patternAt (netPatterns net b1 b2) e) q) odd there .0
+      filter-mem (λ e. eqb (patternAt (netPatterns net bs) e) q) odd there .0
 
   enough : EnoughSets (graph net) bs (trials odd)
   enough =
@@ -163,17 +159,17 @@ module _ (net : Network) (fine : NetworkFine net) (b1 b2 : ℤ) where
       trials-complete odd X
       (sublist-rising orderℕ (λ x. x) sub (pairwise-filter (exceptional orderℤ cs) _ (links (graph net)) (numbers-rising (net .m) 0)))
       (λ x m. needed x (link-below x (filter-mem (exceptional orderℤ cs) (links (graph net)) (sublist-⊆ sub x m) .0)) (K x m))
-      (omega (arith, net-few net fine)))
+      (omega (arith, fine .few-exceptions)))
 
   trials-best : searchSets (graph net) bs cheapest (trials odd) ≡ best net bs
   trials-best =
       search-base (graph net) bs (byCost (sumAt (net .sums)) (normals (graph net) bs)) (trials odd)
-      ∙ search-sets (graph net) (graph-sound net fine) bs (net-bounds net fine b1 b2) (trials odd) enough
+      ∙ search-sets (graph net) (graph-sound net fine) bs (each ∙ sym (fine .rank-count)) (trials odd) enough
 
-  pub best-shown : Shows (sumAt (net .sums)) (net .n - 1) (best net bs) (netBest net b1 b2)
+  pub best-shown : Shows (sumAt (net .sums)) (treeSize net) (best net bs) (netBest net bs)
   unfolding bestOf netBest
   best-shown =
-      let found = search-shown net fine bs (ranks net) (netPatterns net b1 b2) cheapest (kept-below (λ e. not (exceptional orderℤ cs e)))
-      (λ X below. net-admitted net fine b1 b2 X (within X below)) (trials odd)
+      let found = search-shown net fine bs (ranks net) (netPatterns net bs) cheapest (kept-below (λ e. not (exceptional orderℤ cs e)))
+      (λ X below. net-admitted net fine bs each X below) (trials odd)
       (λ X k x m. odd-below x (trials-among odd X k x m)) in
       rw (base-links, ← trials-best) found

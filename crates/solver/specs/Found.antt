@@ -1,5 +1,5 @@
 -- What the program keeps at each exception set is what the theory's search keeps: `Shows` ties the one to the other.
-use Prim.Native.Nat.{ℕ, _-_, _≤_, _<_}
+use Prim.Native.Nat.{ℕ, _≤_, _<_}
 use mathlib.Core.Bool.{Bool, cond, true, false, not, _&&_, _||_}
 use mathlib.Core.List.{List, [], _∷_, _++_, append-nil, foldl, map, List·Memᴰ·head as here, List·Memᴰ·tail as there}
 use mathlib.Core.Logic.{_⊎_, inl, inr}
@@ -27,7 +27,7 @@ use Rattle.kmax.specs.Ceilings.{admissible}
 use Rattle.kmax.specs.Search.{offer, search-snoc, searchIn, tryOne}
 use Rattle.planning.specs.Graph.{by-weight, completed, searchSets, total, under}
 use Rattle.network.specs.Capacities.{linksHeld}
-use Rattle.network.specs.Yard.{endsAt, graph, sumAt}
+use Rattle.network.specs.Yard.{endsAt, graph, sumAt, treeSize}
 use Rattle.network.specs.NetworkFine.{NetworkFine, graph-sound}
 use Rattle.network.specs.Network.{Network}
 use Rattle.kruskal.specs.Tree.{bare, linked}
@@ -92,7 +92,7 @@ module _ (net : Network) (fine : NetworkFine net) where
 
   -- the links of a tree
   abbrev goal : ℕ
-  goal = net .n - 1
+  goal = treeSize net
 
   -- the better of two trees in the theory's search
   abbrev better : Option (List ℕ) → Option (List ℕ) → Option (List ℕ)

@@ -11,17 +11,20 @@ use lib.Seq.{take-append-seam}
 use Rattle.order.specs.Test.{clash}
 use Rattle.spanning.specs.Listing.{isListed-iff, listing-length}
 use Rattle.frontier.specs.Best.{best-some}
-use Rattle.network.specs.Yard.{best, bounds, ends, treeSize, yard}
+use Rattle.network.specs.Yard.{best, ends as ends-of, treeSize, yard}
 use Rattle.network.specs.Calls.{isNone, treeWith}
 use Rattle.network.specs.PlanList.{costsOf}
-use Rattle.network.specs.NetworkFine.{NetworkFine}
+use Rattle.network.specs.Shaped.{Plannable, netOf}
 use Rattle.network.specs.declared.Answer.{Answer}
 use Rattle.network.specs.declared.Answer.the-variants.{Plan, Refused}
 use Rattle.network.specs.declared.Costs.{Costs}
 use Rattle.network.specs.Network.{Network}
 use Rattle.network.specs.declared.Refusal.{Refusal}
-use Rattle.trees_costs.specs.TreeCosts.{TreeLinks, tree-links}
-use Rattle.solver.specs.Answer.{bestFound}
+use Rattle.network.specs.declared.Shape.{Shape}
+use Rattle.trees_sums.specs.Added.{sumOf}
+use Rattle.trees_costs.specs.TreeCosts.{Priceable, TreeLinks, costs-net, costsBy, priceable, tree-links}
+use Rattle.solver.specs.Answer.{Tells}
+use Rattle.solver.specs.declared.best.Found as best
 
 -- the answer, by the best tree under the bounds
 unfoldable pub answerOf : Network → Option (List ℕ) → Answer
@@ -52,39 +55,43 @@ tree-front o ts tree e = ap (λ (q : Option (List ℕ)). take (length ts) (treeW
 
 -- a best tree has t links
 pub best-length : (net : Network) (b : List ℤ) (ts : List ℕ) → best net b ≡ some ts → length ts ≡ treeSize net
-best-length net b ts e = listing-length (ends net) (net .n) (net .m) ts (best-some (yard net) b ts e .member)
+best-length net b ts e = listing-length (ends-of net) (net .n) (net .m) ts (best-some (yard net) b ts e .member)
 
--- what the search finds: the answer of a tree with the costs of its links, and that of none
-module _ (net : Network) (b1 b2 : ℤ) where
-  pub found-tree : bestFound net b1 b2 ≡ true → (ts : List ℕ) × (best net (bounds net b1 b2) ≡ some ts)
-  unfolding bestFound
-  found-tree e = go (best net (bounds net b1 b2)) refl e
-    where
-      go : (o : Option (List ℕ)) → best net (bounds net b1 b2) ≡ o → not (isNone o) ≡ true → (ts : List ℕ) × (best net (bounds net b1 b2) ≡ some ts)
-      go none q f = clash f refl
-      go (some ts) q f = (ts, q)
-
-  pub found-none : bestFound net b1 b2 ≡ false → Refused (record { number = 14; place = 0 }) ≡ answerOf net (best net (bounds net b1 b2))
-  unfolding bestFound answerOf
-  found-none e = go (best net (bounds net b1 b2)) e
+-- what the search finds: the answer of none, and that of a tree with the costs of its links
+module _ (sums : List ℕ) (o : Option (List ℕ)) {r : best.Found} (tells : Tells sums o r) where
+  pub found-none : (net : Network) → r .found ≡ false → Refused (record { number = 14; place = 0 }) ≡ answerOf net o
+  unfolding answerOf
+  found-none net f = go o (sym (tells .found) ∙ f)
     where
       go : (o : Option (List ℕ)) → not (isNone o) ≡ false → Refused (record { number = 14; place = 0 }) ≡ answerOf net o
       go none f = refl
       go (some ts) f = clash refl f
 
-  -- the first t bytes of it are t links, whose costs are the answer's
-  module _ (fine : NetworkFine net) (tree left : List ℕ) (found : bestFound net b1 b2 ≡ true) (e : left ≡ treeWith (best net (bounds net b1 b2)) tree) where
-    front : take (treeSize net) left ≡ found-tree found .0
-    front =
-        let w = found-tree found in
-        let l = best-length net (bounds net b1 b2) (w .0) (w .1) in
-        ap (λ (k : ℕ). take k left) (sym l) ∙ ap (take (length (w .0))) e ∙ tree-front (best net (bounds net b1 b2)) (w .0) tree (w .1)
+  pub found-tree : r .found ≡ true → (ts : List ℕ) × (o ≡ some ts)
+  found-tree f = go o (sym (tells .found) ∙ f)
+    where
+      go : (o : Option (List ℕ)) → not (isNone o) ≡ true → (ts : List ℕ) × (o ≡ some ts)
+      go none f = clash f refl
+      go (some ts) f = (ts, refl)
 
-    pub front-links : TreeLinks net (take (treeSize net) left)
-    front-links =
-        let w = found-tree found in
-        rw front (tree-links net (w .0) (isListed-iff (ends net) (net .n) (net .m) (w .0) .1 (best-some (yard net) (bounds net b1 b2) (w .0) (w .1) .member)))
+-- where the best tree is ts, the first t bytes of the buffer are its links, whose costs are the answer's
+module _ (shape : Shape) (ends sums : List ℕ) (costs bs : List ℤ) (can : Plannable shape ends sums costs) (ts : List ℕ)
+    (is : best (netOf shape ends sums costs) bs ≡ some ts) (tree : List ℕ) {left : List ℕ} (e : left ≡ treeWith (best (netOf shape ends sums costs) bs) tree) where
+  abbrev net : Network
+  net = netOf shape ends sums costs
 
-    pub front-answer : (v : Costs) → v ≡ costsOf net (take (treeSize net) left) → Plan v ≡ answerOf net (best net (bounds net b1 b2))
-    unfolding answerOf
-    front-answer v q = let w = found-tree found in rw (w .1, q, front)
+  front : take (shape .t) left ≡ ts
+  front =
+      ap (λ (k : ℕ). take k left) (can .tree ∙ sym (best-length net bs ts is))
+      ∙ ap (take (length ts)) e ∙ tree-front (best net bs) ts tree is
+
+  listed : TreeLinks net ts
+  listed = tree-links net ts (isListed-iff (ends-of net) (net .n) (net .m) ts .1 (best-some (yard net) bs ts is .member))
+
+  pub front-priceable : {raised : ℕ} → raised ≡ sumOf sums ts → Priceable shape costs (take (shape .t) left) raised
+  front-priceable q = rw (front, q) (priceable shape ends sums costs can ts listed)
+
+  pub front-answer : {raised : ℕ} {v : Costs} → raised ≡ sumOf sums ts → v ≡ costsBy shape costs (take (shape .t) left) raised
+      → Plan v ≡ answerOf net (best net bs)
+  unfolding answerOf
+  front-answer q f = rw (is, f, front, q, costs-net shape ends sums costs can ts)

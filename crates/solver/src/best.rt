@@ -4,12 +4,11 @@ use solver_buffer::put_links;
 use solver_network::best_in_order;
 ghost use mathlib.Core.Path.{_≡_};
 ghost use Prim.Native.Nat.{_≤_};
-ghost use lib.ListN.{length, take};
+ghost use lib.ListN.{length};
 ghost use Rattle.network.specs.Calls.{treeWith};
-ghost use Rattle.network.specs.Yard.{best, bounds, treeSize};
-ghost use Rattle.network.specs.NetworkFine.{NetworkFine};
+ghost use Rattle.network.specs.Shaped.{Plannable};
 ghost use Rattle.kruskal_order.specs.ByCost.{linkOrder};
-ghost use Rattle.solver.specs.Answer.{bestFound};
+ghost use Rattle.solver.specs.Answer.{Tells, bestUnder};
 
 // Whether a tree was found, and the raised sum of its costs.
 pub struct Found {
@@ -27,6 +26,12 @@ pub fn best_links(
     bounds: &[i16],
     tree: &mut [u8],
 ) -> Found
+    requires { ⌜ Plannable shape (now ends) (now sums) (now costs) × (now order ≡ linkOrder (now sums)) × (length (now bounds) ≡ shape .p)
+        × (shape .t ≤ length (now tree)) ⌝ }
+    ensures { λ r. ⌜
+        Tells (now (sums .entry)) (bestUnder shape (now (ends .entry)) (now (sums .entry)) (now (costs .entry)) (now (bounds .entry))) r
+        × (now (tree .exit)
+        ≡ treeWith (bestUnder shape (now (ends .entry)) (now (sums .entry)) (now (costs .entry)) (now (bounds .entry))) (now (tree .entry))) ⌝ }
 {
     let b = best_in_order(shape, ends, sums, costs, order, bounds);
     if b.found {

@@ -6,11 +6,11 @@ use network::Shape;
 use trees_costs::costs_with;
 ghost use mathlib.Core.Path.{_≡_};
 ghost use Prim.Native.Nat.{_≤_};
-ghost use lib.ListN.{length, take};
-ghost use Rattle.network.specs.NetworkFine.{NetworkFine};
-ghost use Rattle.network.specs.Yard.{best, bounds, treeSize};
+ghost use lib.ListN.{length};
 ghost use Rattle.network.specs.Calls.{treeWith};
+ghost use Rattle.network.specs.Shaped.{Plannable, netOf};
 ghost use Rattle.kruskal_order.specs.ByCost.{linkOrder};
+ghost use Rattle.solver.specs.Answer.{bestUnder};
 ghost use Rattle.solver.specs.Question.{answerOf};
 
 // The costs of the best tree under bounds, with its links in the tree buffer.
@@ -23,6 +23,13 @@ pub fn solve(
     bounds: &[i16],
     tree: &mut [u8],
 ) -> Answer
+    requires { ⌜ Plannable shape (now ends) (now sums) (now costs) × (now order ≡ linkOrder (now sums)) × (length (now bounds) ≡ shape .p)
+        × (shape .t ≤ length (now tree)) ⌝ }
+    ensures { λ r. ⌜
+        (r ≡ answerOf (netOf shape (now (ends .entry)) (now (sums .entry)) (now (costs .entry)))
+        (bestUnder shape (now (ends .entry)) (now (sums .entry)) (now (costs .entry)) (now (bounds .entry))))
+        × (now (tree .exit)
+        ≡ treeWith (bestUnder shape (now (ends .entry)) (now (sums .entry)) (now (costs .entry)) (now (bounds .entry))) (now (tree .entry))) ⌝ }
 {
     let best = best_links(shape, ends, sums, costs, order, bounds, tree);
     if best.found {

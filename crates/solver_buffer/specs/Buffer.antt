@@ -3,30 +3,21 @@ use Prim.Native.Nat.{ℕ, suc, _+_, _<_, _≤_}
 use mathlib.Core.Bool.{Bool, cond, true, false}
 use mathlib.Core.List.{List, [], _∷_, _++_}
 use mathlib.Core.Path.{_≡_, refl, ap, _∙_}
-use native.Mathlib.Nat.{not-suc-le-zero, le-of-suc-le-suc}
+use native.Mathlib.Nat.{add-zero, le-of-suc-le-suc, not-suc-le-zero}
 use native.Mathlib.Numerals.{add-one}
 use native.Mathlib.Omega.{arith}
 use lib.ListN.{length, getD, set, drop, drop-of-length-le}
-use lib.Seq.{drop-cons}
+use lib.Seq.{drop-cons, set-set}
+use mir.Val.{boolByte}
+use borrow.Author.Tests.{ltb-false, ltb-true}
+use lib.Dec.{ltb}
+use Rattle.order.specs.Test.{by-test}
 use Rattle.search_best.specs.Flags.{rising}
 
 -- a list written into a buffer from place n on
 unfoldable pub putAt : ℕ → List ℕ → List ℕ → List ℕ
 putAt n [] out = out
 putAt n (x ∷ l) out = putAt (suc n) l (set out n x)
-
--- link e written at n where its flag is set
-unfoldable pub put : Bool → ℕ → ℕ → List ℕ → List ℕ
-put flag n e out = cond flag (set out n e) out
-
--- the place of the next link
-unfoldable pub next : Bool → ℕ → ℕ
-next flag n = cond flag (n + 1) n
-
-pub next-le : (flag : Bool) (n : ℕ) {r : ℕ} → r ≡ next flag n → r ≤ n + 1
-unfolding next
-next-le true n q = omega arith
-next-le false n q = omega arith
 
 -- what is left to write, from the flag of link e on, at place n
 unfoldable pub left : List Bool → List ℕ → ℕ → ℕ → List ℕ
@@ -36,21 +27,44 @@ pub put-start : (taken : List Bool) (out : List ℕ) → left taken out 0 0 ≡ 
 unfolding left
 put-start taken out = refl
 
--- one turn: link e is written where its flag is set
-pub put-turn : (taken : List Bool) (out out′ w : List ℕ) (n n′ e : ℕ) → e < length taken → left taken out n e ≡ w
-    → out′ ≡ put (getD taken e false) n e out → n′ ≡ next (getD taken e false) n → left taken out′ n′ (e + 1) ≡ w
-unfolding left rising putAt put next
-put-turn taken out out′ w n n′ e h i p q =
-    rw (p, q, add-one n, add-one e) (go (getD taken e false) (rw (drop-cons taken e false h) at i))
-  where
-    go : (b : Bool) → putAt n (cond b (e ∷ rising (suc e) (drop (suc e) taken)) (rising (suc e) (drop (suc e) taken))) out ≡ w
-        → putAt (cond b (suc n) n) (rising (suc e) (drop (suc e) taken)) (cond b (set out n e) out) ≡ w
-    go true i = i
-    go false i = i
+-- a byte is written over where links are left
+over : (n : ℕ) (l out : List ℕ) (x : ℕ) → 0 < length l → putAt n l (set out n x) ≡ putAt n l out
+unfolding putAt
+over n [] out x h = absurd (omega arith)
+over n (y ∷ l) out x h = ap (putAt (suc n) l) (set-set out n x y)
 
-pub put-end : (taken : List Bool) (out w : List ℕ) (n e : ℕ) → length taken ≤ e → left taken out n e ≡ w → out ≡ w
+-- while links are left, link e is one of those with a flag
+pub more-flags : (taken : List Bool) (e : ℕ) → 0 < length (rising e (drop e taken)) → e < length taken
+unfolding rising
+more-flags taken e h =
+    by-test (ltb e (length taken))
+    (λ k. ltb-true e (length taken) k)
+    (λ k. let none = rw (drop-of-length-le taken (ltb-false e (length taken) k)) at h in absurd (omega arith))
+
+-- one turn: link e is written, and stays where its flag is set; so many links are left
+pub put-turn : (taken : List Bool) (out w : List ℕ) (n e t : ℕ) {b : Bool} → n < t → b ≡ getD taken e false → n + length (rising e (drop e taken)) ≡ t
+    → left taken out n e ≡ w
+    → (left taken (set out n e) (n + boolByte b) (e + 1) ≡ w) × (n + boolByte b + length (rising (e + 1) (drop (e + 1) taken)) ≡ t)
 unfolding left rising putAt
-put-end taken out w n e h i = rw (drop-of-length-le taken h) at i
+put-turn taken out w n e t {b} h q s i =
+    let inside : e < length taken = more-flags taken e (omega arith) in
+    rw (q, add-one e) (go (getD taken e false) (rw (drop-cons taken e false inside) at s) (rw (drop-cons taken e false inside) at i))
+  where
+    rest : List ℕ
+    rest = rising (suc e) (drop (suc e) taken)
+
+    go : (b : Bool) → n + length (cond b (e ∷ rest) rest) ≡ t → putAt n (cond b (e ∷ rest) rest) out ≡ w
+        → (putAt (n + boolByte b) rest (set out n e) ≡ w) × (n + boolByte b + length rest ≡ t)
+    go true s i = (rw add-one i, omega arith)
+    go false s i = (rw add-zero (over n rest out e (omega arith) ∙ i), omega arith)
+
+pub put-end : (taken : List Bool) (out w : List ℕ) (n e t : ℕ) → t ≤ n → n + length (rising e (drop e taken)) ≡ t → left taken out n e ≡ w → out ≡ w
+unfolding left putAt
+put-end taken out w n e t h s i = go (rising e (drop e taken)) (omega arith) i
+  where
+    go : (l : List ℕ) → length l ≡ 0 → putAt n l out ≡ w → out ≡ w
+    go [] z i = i
+    go (x ∷ l) z i = absurd (omega arith)
 
 -- ---- the whole
 

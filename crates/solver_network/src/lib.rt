@@ -5,13 +5,22 @@ use network::capacities::LINKS_HELD;
 use search_best::best::Best;
 use solver_search::best_of;
 ghost use mathlib.Core.Path.{_≡_};
-ghost use lib.ListN.{take};
-ghost use Rattle.network.specs.NetworkFine.{NetworkFine};
+ghost use lib.ListN.{length};
+ghost use Rattle.network.specs.Shaped.{Plannable, netOf};
 ghost use Rattle.kruskal_order.specs.ByCost.{linkOrder};
 ghost use Rattle.solver_network.specs.OfNetwork.{netBest};
 
-// The best tree of a network under bounds.
-pub fn best_in_order(shape: Shape, ends: &[u8], sums: &[u32], costs: &[i16], order: &[u8], bounds: &[i16]) -> Best
+// The best tree of a network under a bound for each ceiling, with its links in order of cost at hand.
+pub fn best_in_order(
+    shape: Shape,
+    ends: &[u8],
+    sums: &[u32],
+    costs: &[i16],
+    order: &[u8],
+    bounds: &[i16],
+) -> Best
+    requires { ⌜ Plannable shape (now ends) (now sums) (now costs) × (now order ≡ linkOrder (now sums)) × (length (now bounds) ≡ shape .p) ⌝ }
+    ensures { λ b. ⌜ b ≡ netBest (netOf shape (now (ends .entry)) (now (sums .entry)) (now (costs .entry))) (now (bounds .entry)) ⌝ }
 {
     let p = shape.p as usize;
     let m = shape.m;

@@ -52,7 +52,6 @@ fn read_with(s: &[u8], l: Layout, ends: &mut [u8], sums: &mut [u32], costs: &mut
 }
 
 // Reads a survey: its first refusal, or the shape of its yard, with its columns at the fronts of those that are lent.
-pub fn read_survey(s: &[u8], ends: &mut [u8], sums: &mut [u32], costs: &mut [i16]) -> Survey
-{
+pub fn read_survey(s: &[u8], ends: &mut [u8], sums: &mut [u32], costs: &mut [i16]) -> Survey {
     read_with(s, layout_of(s), ends, sums, costs)
 }

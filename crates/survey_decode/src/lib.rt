@@ -12,7 +12,14 @@ ghost use Rattle.network.specs.Survey.{networkWith};
 ghost use Rattle.network.specs.Accepted.{Priced, Whole};
 
 // The shape of a survey with m links, whose columns go to the fronts of those that are lent.
-pub fn decode(s: &[u8], l: Layout, m: usize, ends: &mut [u8], sums: &mut [u32], costs: &mut [i16]) -> Shape
+pub fn decode(
+    s: &[u8],
+    l: Layout,
+    m: usize,
+    ends: &mut [u8],
+    sums: &mut [u32],
+    costs: &mut [i16],
+) -> Shape
     requires { ⌜ Whole (now s) l m × Priced (now s) l m ⌝ }
 {
     let n = s[STATIONS];

@@ -3,9 +3,9 @@ use marking_grid::grid_of;
 use network::Shape;
 use network::Status;
 use network::capacities::CEILINGS_HELD;
+use network::capacities::LINKS_HELD;
 use network::records::COSTS_SIZE;
 use network::records::HEAD_SIZE;
-use network::capacities::LINKS_HELD;
 use planlist_ending::clear;
 use planlist_ending::finish;
 use walk_positions::positions::Walked;
@@ -49,8 +49,14 @@ fn conclude(out: &mut [u8], walked: Walked, t: u8, p: u8) -> Status
 
 // Lists the plans of a network by the threshold walk: declines a buffer below its need, and gives up where more positions would be solved than
 // allowed.
-pub fn list_plans(shape: Shape, ends: &[u8], sums: &[u32], costs: &[i16], allowance: u32, out: &mut [u8]) -> Status
-{
+pub fn list_plans(
+    shape: Shape,
+    ends: &[u8],
+    sums: &[u32],
+    costs: &[i16],
+    allowance: u32,
+    out: &mut [u8],
+) -> Status {
     let size = costs.len();
     let mut values = [0i16; CEILINGS_HELD * LINKS_HELD];
     let grid = grid_of(shape, costs, &mut values[..size]);
@@ -60,6 +66,15 @@ pub fn list_plans(shape: Shape, ends: &[u8], sums: &[u32], costs: &[i16], allowa
             place: 0,
         };
     }
-    let walked = visit_all(shape, ends, sums, costs, &values[..size], grid, allowance, out);
+    let walked = visit_all(
+        shape,
+        ends,
+        sums,
+        costs,
+        &values[..size],
+        grid,
+        allowance,
+        out,
+    );
     conclude(out, walked, shape.t, shape.p)
 }

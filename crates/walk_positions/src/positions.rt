@@ -35,8 +35,7 @@ pub fn visit_all(
     grid: Grid,
     allowance: u32,
     out: &mut [u8],
-) -> Walked
-{
+) -> Walked {
     let p = shape.p as usize;
     let m = shape.m;
     let t = shape.t as usize;
@@ -61,7 +60,15 @@ pub fn visit_all(
             }
             put_places(n, &strides[..p], &mut places[..p]);
             put_bounds(values, m, &places[..p], &mut bounds[..p]);
-            let answer = solve(shape, ends, sums, costs, &order[..m], &bounds[..p], &mut tree);
+            let answer = solve(
+                shape,
+                ends,
+                sums,
+                costs,
+                &order[..m],
+                &bounds[..p],
+                &mut tree,
+            );
             settle(&mut marks, n, shape, values, grid, &places[..p], answer);
             plans = take_in(out, plans, answer, &tree[..t]);
             solved += 1;

@@ -18,8 +18,7 @@ ghost use Rattle.walk_visit.specs.Visit.{Ready, bestAt};
 ghost use Rattle.walk_visit.specs.Visited.{Prepared, Visited};
 
 // The values at some places, each in the ceiling's part of `values`, which holds m for each.
-pub fn put_bounds(values: &[i16], m: usize, places: &[usize], bounds: &mut [i16])
-{
+pub fn put_bounds(values: &[i16], m: usize, places: &[usize], bounds: &mut [i16]) {
     let mut from = 0;
     for i in 0..places.len() {
         bounds[i] = values[from + places[i]];
@@ -28,16 +27,21 @@ pub fn put_bounds(values: &[i16], m: usize, places: &[usize], bounds: &mut [i16]
 }
 
 // The sides of the box from some places to the last ones.
-fn put_last_sides(counts: &[usize], places: &[usize], sides: &mut [usize])
-{
+fn put_last_sides(counts: &[usize], places: &[usize], sides: &mut [usize]) {
     for i in 0..counts.len() {
         sides[i] = counts[i] - places[i];
     }
 }
 
 // The sides of the box from some places through those of a tree's costs y.
-fn put_own_sides(values: &[i16], m: usize, counts: &[usize], places: &[usize], y: &[i16], sides: &mut [usize])
-{
+fn put_own_sides(
+    values: &[i16],
+    m: usize,
+    counts: &[usize],
+    places: &[usize],
+    y: &[i16],
+    sides: &mut [usize],
+) {
     let mut from = 0;
     for i in 0..counts.len() {
         let to = from + counts[i];
@@ -47,8 +51,15 @@ fn put_own_sides(values: &[i16], m: usize, counts: &[usize], places: &[usize], y
 }
 
 // Marks the positions that the answer at position n settles.
-pub fn settle(marks: &mut [u8], n: usize, shape: Shape, values: &[i16], grid: Grid, places: &[usize], answer: Answer)
-{
+pub fn settle(
+    marks: &mut [u8],
+    n: usize,
+    shape: Shape,
+    values: &[i16],
+    grid: Grid,
+    places: &[usize],
+    answer: Answer,
+) {
     let p = shape.p as usize;
     let counts = grid.counts;
     let strides = grid.strides;
@@ -59,7 +70,14 @@ pub fn settle(marks: &mut [u8], n: usize, shape: Shape, values: &[i16], grid: Gr
         return;
     };
     let y = [costs.y1, costs.y2];
-    put_own_sides(values, shape.m, &counts[..p], places, &y[..p], &mut sides[..p]);
+    put_own_sides(
+        values,
+        shape.m,
+        &counts[..p],
+        places,
+        &y[..p],
+        &mut sides[..p],
+    );
     mark_box(marks, n, &strides[..p], &sides[..p]);
 }
 

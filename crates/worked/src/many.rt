@@ -2,9 +2,9 @@
 use crate::yard::HEAD_MARK;
 use crate::yard::PLAN_MARK;
 use encoding_writes::write_u32;
+use network::limits::MAX_PLANS;
 use network::records::COSTS_SIZE;
 use network::records::HEAD_SIZE;
-use network::limits::MAX_PLANS;
 
 // One plan too many.
 const PLANS: u32 = MAX_PLANS as u32 + 1;

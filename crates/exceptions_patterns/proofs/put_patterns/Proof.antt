@@ -34,7 +34,7 @@ turn : (c : tie.In-loop Inv-loop μ-loop)
 turn c = part (c .before .loop .i) (c .before .loop .from) _ (c .loop-test .taken) (c .before .loop .inv .1)
 
 loop-holds : tie.Need-loop-holds Inv-loop μ-loop
-loop-holds c = 
+loop-holds c =
     let a = c .before .args in
     let p = c .before .pre in
     (omega arith, p .0, omega arith, refl, from-start _ _ (a .bounds .now) (a .patterns .now) (p .2))
@@ -64,21 +64,22 @@ shared-slice-copy-out-add-digit : tie.Need-shared-slice-copy-out-add-digit Inv-l
 shared-slice-copy-out-add-digit c = search needs
 
 add-digit-requires : tie.Need-add-digit-requires Inv-loop μ-loop
-add-digit-requires c κs = 
+add-digit-requires c κs =
     let v = c .before .before .before .before .loop in
     let a = c .before .before .before .before .before .before .args in
     let m = length (a .patterns .now) in
     let w = turn (c .before .before .before) in
     let rest : m ≤ length (drop (v .from - m) (a .costs .now)) = omega (arith, length-drop (v .from - m) (a .costs .now), w .0, v .inv .2) in
-    let size : v .from - (v .from - m) ≡ m = omega (arith, w .0) in
-    (rw size (length-take-le m _ rest ∙ sym (v .inv .3)),
-    from-room m (a .costs .now) (a .bounds .now) (v .i) (c .before .before .before .before .before .before .pre .1) (v .inv .4))
+    let size : v .from - (v .from - m) ≡ m = omega (arith, w .0) in (
+      rw size (length-take-le m _ rest ∙ sym (v .inv .3)),
+      from-room m (a .costs .now) (a .bounds .now) (v .i) (c .before .before .before .before .before .before .pre .1) (v .inv .4),
+    )
 
 loop-less : tie.Need-loop-less Inv-loop μ-loop
 loop-less c = search needs
 
 loop-again : tie.Need-loop-again Inv-loop μ-loop
-loop-again c = 
+loop-again c =
     let v = c .before .before .before .before .before .before .before .loop in
     let a = c .before .before .before .before .before .before .before .before .before .args in
     let m = length (a .patterns .now) in
@@ -95,7 +96,7 @@ same-length : tie.Need-same-length Inv-loop μ-loop
 same-length c = search needs
 
 returns : tie.Need-returns Inv-loop μ-loop
-returns c = 
+returns c =
     let none : c .before .loop .i ≡ 0 = omega arith in
     from-end _ _ _ _ (rw none at (c .before .loop .inv .4))
 

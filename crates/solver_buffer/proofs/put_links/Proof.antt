@@ -1,65 +1,80 @@
 -- What is left to write, from link e and place n on, is what there was to write at the start.
-use Prim.Native.Nat.{_-_, _≤_, _<_}
-use mathlib.Core.Path.{_≡_, refl, _∙_}
+use Prim.Native.Nat.{_+_, _-_, _≤_, _<_}
+use mathlib.Core.Bool.{false}
+use mathlib.Core.Path.{_≡_, refl}
+use native.Mathlib.Nat.{zero-add}
 use native.Mathlib.Omega.{arith}
 use borrow.Author.Needs.{needs}
-use lib.ListN.{length}
-use Rattle.solver_buffer.specs.Buffer.{left, next-le, put-end, put-start, put-turn, putAt}
+use lib.ListN.{drop, getD, length, length-set, set}
+use mir.Val.{boolByte}
 use Rattle.network.specs.Capacities.{linksHeld}
 use Rattle.search_best.specs.Flags.{rising}
+use Rattle.solver_buffer.specs.Buffer.{left, more-flags, put-end, put-start, put-turn, putAt}
 use Rattle.solver_buffer.proofs.put_links.Statement.{statement}
 use Rattle.solver_buffer.proofs.put_links.Tie as tie
 
 abbrev Inv-loop : tie.InvT-loop
-Inv-loop tree₀ taken n₀ e₀ tree n e =
-    (e ≤ linksHeld) × (n ≤ e) × (length tree ≡ length tree₀) × (left taken tree n e ≡ putAt 0 (rising 0 taken) tree₀)
+Inv-loop tree₀ t taken n₀ e₀ tree n e =
+    (e ≤ linksHeld) × (n ≤ t) × (length tree ≡ length tree₀) × (n + length (rising e (drop e taken)) ≡ t)
+    × (left taken tree n e ≡ putAt 0 (rising 0 taken) tree₀)
 
 abbrev μ-loop : tie.MeasureT-loop
-μ-loop tree₀ taken n₀ e₀ tree n e = linksHeld - e
-
-loop-holds : tie.Need-loop-holds Inv-loop μ-loop
-loop-holds c = (omega arith, omega arith, refl, put-start _ _)
+μ-loop tree₀ t taken n₀ e₀ tree n e = linksHeld - e
 
 -- the link at a turn has a flag
-flagged : (c : tie.In-loop Inv-loop μ-loop) → c .before .loop .e < length (c .before .before .before .args .t2)
-flagged c = let m : length (c .before .before .before .args .t2) ≡ linksHeld = search needs in omega arith
+flagged : (c : tie.In-loop Inv-loop μ-loop) → c .before .loop .e < linksHeld
+flagged c =
+    let taken = c .before .before .args .t2 in
+    let size : length taken ≡ linksHeld = search needs in
+    let v = c .before .loop in
+    omega (arith, more-flags taken (v .e) (omega (arith, v .inv .3, c .loop-test .taken)))
 
-cast-put-link : tie.Need-cast-put-link Inv-loop μ-loop
-cast-put-link c = search needs
+-- what its turn leaves
+turned : (c : tie.In-loop Inv-loop μ-loop)
+    → let v = c .before .loop in
+    let i = c .before .before .args in
+    let n = v .n + boolByte (getD (i .t2) (v .e) false) in
+    (left (i .t2) (set (v .tree) (v .n) (v .e)) n (v .e + 1) ≡ putAt 0 (rising 0 (i .t2)) (i .tree .now))
+    × (n + length (rising (v .e + 1) (drop (v .e + 1) (i .t2))) ≡ i .t)
+turned c =
+    let v = c .before .loop in
+    put-turn (c .before .before .args .t2) _ _ (v .n) (v .e) _ (c .loop-test .taken) refl (v .inv .3) (v .inv .4)
 
-array-read-put-link : tie.Need-array-read-put-link Inv-loop μ-loop
-array-read-put-link c = search needs
+loop-holds : tie.Need-loop-holds Inv-loop μ-loop
+loop-holds c = (omega arith, omega arith, refl, rw zero-add (c .pre .0), put-start _ _)
 
-put-link-requires : tie.Need-put-link-requires Inv-loop μ-loop
-put-link-requires c κs = search needs
+cast-tree : tie.Need-cast-tree Inv-loop μ-loop
+cast-tree c = omega (arith, flagged c)
+
+slice-write-tree : tie.Need-slice-write-tree Inv-loop μ-loop
+slice-write-tree c = search needs
+
+array-read-n : tie.Need-array-read-n Inv-loop μ-loop
+array-read-n c = flagged c
+
+cast-n : tie.Need-cast-n Inv-loop μ-loop
+cast-n c = tt
+
+add-n : tie.Need-add-n Inv-loop μ-loop
+add-n c = omega (arith, turned c .1)
 
 add-e : tie.Need-add-e Inv-loop μ-loop
-add-e c = search needs
+add-e c = omega (arith, flagged c)
 
 loop-less : tie.Need-loop-less Inv-loop μ-loop
-loop-less c = search needs
+loop-less c = omega (arith, flagged c)
 
 loop-again : tie.Need-loop-again Inv-loop μ-loop
 loop-again c =
-    let turn = c .before .before .before .before in
-    let i = turn .before .loop .inv in
-    let written = c .before .before .put-link in
-    let k = next-le _ _ (written .ensures .1) in (
-      omega arith,
-      omega arith,
-      written .kept .0 ∙ i .2,
-      put-turn _ _ _ _ _ _ _ (flagged turn) (i .3) (written .ensures .0) (written .ensures .1),
-    )
+    let v = c .before .loop in
+    let w = turned c in
+    (omega (arith, flagged c), omega (arith, w .1), simp length-set (v .inv .2), w .1, w .0)
 
 same-length : tie.Need-same-length Inv-loop μ-loop
 same-length c = c .before .loop .inv .2
 
 returns : tie.Need-returns Inv-loop μ-loop
-returns c =
-    let flags = c .before .before .before .args .t2 in
-    let m : length flags ≡ linksHeld = search needs in
-    let h : length flags ≤ c .before .loop .e = omega arith in
-    put-end flags _ _ _ _ h (c .before .loop .inv .3)
+returns c = let v = c .before .loop in put-end _ _ _ (v .n) (v .e) _ (omega (arith, c .loop-test .left)) (v .inv .3) (v .inv .4)
 
 pub put-links-spec : {M : Type 1} → statement M
 put-links-spec =
@@ -68,9 +83,11 @@ put-links-spec =
     Inv-loop
     μ-loop
     loop-holds
-    cast-put-link
-    array-read-put-link
-    put-link-requires
+    cast-tree
+    slice-write-tree
+    array-read-n
+    cast-n
+    add-n
     add-e
     loop-less
     loop-again

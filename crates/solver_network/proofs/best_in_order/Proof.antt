@@ -1,98 +1,101 @@
--- Each call is what it ensures; the bounds are read back from their bits.
+-- Each call is what it ensures; the patterns are those of the network.
+use Prim.Native.Nat.{ℕ, _*_, _≤_}
+use mathlib.Core.List.{_++_}
 use mathlib.Core.Path.{_≡_, sym, ap, _∙_}
 use native.Mathlib.Omega.{arith}
 use borrow.Author.Needs.{needs}
-use lib.ListN.{length, length-take}
-use lib.Seq.{length-take-le}
-use mir.Facts.{toZ-ofZ}
-use mir.Syntax.{w16}
-use mir.Val.{ofZ, toZ}
-use Rattle.kruskal_order.specs.ByCost.{order-length}
+use lib.ListN.{drop, length, length-append, replicate, take}
+use lib.Seq.{length-take-le, take-at}
+use Rattle.network.specs.Capacities.{linksHeld}
+use Rattle.network.specs.Shaped.{netOf}
 use Rattle.exceptions.specs.Select.{order-in-order}
 use Rattle.exceptions_patterns.specs.OfNetwork.{net-patterned, netPatterns}
-use Rattle.solver_network.specs.OfNetwork.{assembled-network, few-bounds}
+use Rattle.exceptions_patterns.specs.Patterns.{patternsOf}
+use Rattle.solver_network.specs.OfNetwork.{assembled-network, zeros-front}
 use Rattle.solver_network.proofs.best_in_order.Statement.{statement}
 use Rattle.solver_network.proofs.best_in_order.Tie as tie
 
 -- where the function was called
-abbrev start : tie.After-bounds → tie.Start
-start c = c .before .before .before .before .before .before .before .before .before
+abbrev start : tie.After-patterns → tie.Start
+start c = c .before .before .before .before .before .before
+
+-- as many patterns as links
+size : (c : tie.After-patterns) → length (take (start c .args .shape .m) (replicate {A = ℕ} linksHeld 0)) ≡ start c .args .shape .m
+size c = length-take-le (start c .args .shape .m) (replicate {A = ℕ} linksHeld 0) (start c .pre .0 .fine .few-links)
+
+-- they are those of the network
+made : (c : tie.After-put-patterns)
+    → let i = start (c .before) .args in
+    c .put-patterns .last .1 .1 .0 ≡ netPatterns (netOf (i .shape) (i .ends .now) (i .sums .now) (i .costs .now)) (i .bounds .now)
+made c =
+    let i = start (c .before) .args in
+    c .put-patterns .ensures ∙ ap (λ (m : ℕ). patternsOf m (i .costs .now) (i .bounds .now)) (size (c .before))
+
+-- and stand at the front of the array
+front : (c : tie.After-put-patterns)
+    → let m = start (c .before) .args .shape .m in
+    let all = c .put-patterns .last .1 .1 .0 ++ drop m (replicate {A = ℕ} linksHeld 0) in
+    (take m all ≡ c .put-patterns .last .1 .1 .0) × (m ≤ length all)
+front c =
+    let m = start (c .before) .args .shape .m in
+    let l = c .put-patterns .last .1 .1 .0 in
+    let n : length l ≡ m = c .put-patterns .kept .1 .1 .0 ∙ size (c .before) in
+    (take-at l (drop m (replicate {A = ℕ} linksHeld 0)) m n, omega (arith, length-append l (drop m (replicate {A = ℕ} linksHeld 0))))
 
 cast-p : tie.Need-cast-p
 cast-p c = search needs
 
-sub-goal : tie.Need-sub-goal
-sub-goal c = search needs
+array-borrow-prefix-patterns : tie.Need-array-borrow-prefix-patterns
+array-borrow-prefix-patterns c = search needs
 
-slice-aggregate-patterns-of : tie.Need-slice-aggregate-patterns-of
-slice-aggregate-patterns-of c = search needs
+slice-aggregate-put-patterns : tie.Need-slice-aggregate-put-patterns
+slice-aggregate-put-patterns c = sym (size c)
 
-array-share-prefix-bounds : tie.Need-array-share-prefix-bounds
-array-share-prefix-bounds c = search needs
+put-patterns-requires : tie.Need-put-patterns-requires
+put-patterns-requires c κs =
+    let p = start c .pre in
+    (rw (size c, p .2) (p .0 .fine .cost-count), omega (arith, p .2, p .0 .fine .few-ceilings), zeros-front linksHeld (start c .args .shape .m))
 
--- the patterns are those of the network
-made : (c : tie.After-patterns-of)
-    → let i = start (c .before) .args in c .patterns-of .result ≡ netPatterns (i .net) (i .b1) (i .b2)
-made c = let i = start (c .before) in rw (toZ-ofZ (i .fits .b1), toZ-ofZ (i .fits .b2)) at (c .patterns-of .ensures)
-
-slice-aggregate-patterns-of-2 : tie.Need-slice-aggregate-patterns-of-2
-slice-aggregate-patterns-of-2 c = sym (length-take-le _ _ (start c .pre .0 .few-ceilings))
-
-patterns-of-requires : tie.Need-patterns-of-requires
-patterns-of-requires c κs =
-    let i = start c in
-    let fine = i .pre .0 in
-    (fine .lengths .3, few-bounds (i .args .net .p) (toZ w16 (ofZ w16 (i .args .b1))) (toZ w16 (ofZ w16 (i .args .b2))))
+array-share-prefix-patterns : tie.Need-array-share-prefix-patterns
+array-share-prefix-patterns c = front (c .before) .1
 
 slice-aggregate-best-of : tie.Need-slice-aggregate-best-of
-slice-aggregate-best-of c = search needs
-
-slice-aggregate-best-of-2 : tie.Need-slice-aggregate-best-of-2
-slice-aggregate-best-of-2 c = search needs
-
-slice-aggregate-best-of-3 : tie.Need-slice-aggregate-best-of-3
-slice-aggregate-best-of-3 c = search needs
+slice-aggregate-best-of c = sym (length-take-le _ _ (front (c .before .before) .1))
 
 array-share-prefix-k : tie.Need-array-share-prefix-k
 array-share-prefix-k c = search needs
 
-slice-aggregate-best-of-4 : tie.Need-slice-aggregate-best-of-4
-slice-aggregate-best-of-4 c =
-    let i = start (c .before .before .before .before .before) in
-    omega (arith, i .pre .0 .few-ceilings, i .pre .0 .lengths .0, length-take (i .args .net .p) (i .args .net .k))
-
-slice-aggregate-best-of-5 : tie.Need-slice-aggregate-best-of-5
-slice-aggregate-best-of-5 c = sym (ap length (start (c .before .before .before .before .before .before) .pre .1) ∙ order-length _ _)
+slice-aggregate-best-of-2 : tie.Need-slice-aggregate-best-of-2
+slice-aggregate-best-of-2 c = search needs
 
 best-of-requires : tie.Need-best-of-requires
 best-of-requires c κs =
-    let i = start (c .before .before .before .before .before .before) in
-    let fine = i .pre .0 in (
-      record { ends-size = fine .lengths .1; sums-size = fine .lengths .2 },
-      order-in-order _ _ (fine .few-links) (fine .cheap) (i .pre .1),
-      rw (made (c .before .before .before .before .before)) (net-patterned _ fine (i .args .b1) (i .args .b2)),
+    let i = start (c .before .before .before .before) in
+    let p = i .pre in
+    let fine = p .0 .fine in
+    let net = netOf (i .args .shape) (i .args .ends .now) (i .args .sums .now) (i .args .costs .now) in (
+      record { ends-size = fine .end-count ∙ ap (λ (m : ℕ). 2 * m) (sym (fine .sum-count)); sums-size = omega (arith, fine .sum-count, fine .few-links) },
+      order-in-order _ (omega (arith, fine .sum-count, fine .few-links)) (λ e h. fine .cheap e (omega (arith, fine .sum-count))) (p .1),
+      rw (front (c .before .before .before) .0, made (c .before .before .before), fine .sum-count) (net-patterned net fine (i .args .bounds .now) (p .2)),
     )
 
 returns : tie.Need-returns
 returns c =
-    let kept = c .before .before .before .before .before .before in
-    assembled-network _ _ _ _ _ _ (made kept) (start (kept .before) .pre .1) (c .best-of .ensures)
+    let asked = c .before .before .before .before in
+    let i = start (asked .before) in
+    assembled-network _ _ _ _ _ _ (i .pre .0 .tree) (front asked .0 ∙ made asked) (i .pre .1) (c .best-of .ensures)
 
 pub best-in-order-spec : {M : Type 1} → statement M
 best-in-order-spec =
     tie.close
     (tie.spec
     cast-p
-    sub-goal
-    slice-aggregate-patterns-of
-    array-share-prefix-bounds
-    slice-aggregate-patterns-of-2
-    patterns-of-requires
+    array-borrow-prefix-patterns
+    slice-aggregate-put-patterns
+    put-patterns-requires
+    array-share-prefix-patterns
     slice-aggregate-best-of
-    slice-aggregate-best-of-2
-    slice-aggregate-best-of-3
     array-share-prefix-k
-    slice-aggregate-best-of-4
-    slice-aggregate-best-of-5
+    slice-aggregate-best-of-2
     best-of-requires
     returns)

@@ -60,7 +60,7 @@ array-read-ceiling-cost : tie.Need-array-read-ceiling-cost Inv-loop μ-loop
 array-read-ceiling-cost c = search needs
 
 ceiling-cost-requires : tie.Need-ceiling-cost-requires Inv-loop μ-loop
-ceiling-cost-requires c κs = 
+ceiling-cost-requires c κs =
     let start = c .before .before .before .before .before .before in
     let v = c .before .before .loop in
     part-fine (start .args .shape) _ _ (start .pre) (v .i) (v .from) _ (c .before .loop-test .taken) (v .inv .1) refl
@@ -78,14 +78,14 @@ loop-less : tie.Need-loop-less Inv-loop μ-loop
 loop-less c = search needs
 
 loop-again : tie.Need-loop-again Inv-loop μ-loop
-loop-again c = 
+loop-again c =
     let f : SFits w16 (c .ceiling-cost .result) = search needs in
     let v = c .before .before .before .loop in
     let m = c .before .before .before .before .before .before .before .args .shape .m in
     (omega arith, omega (arith, v .inv .1, add-one (v .i), suc-mul (v .i) m), v .inv .2, rw (toZ-ofZ f) (ceilings-turn _ _ _ _ (v .i) (v .from) _ (v .inv .3) (v .inv .1) refl (c .ceiling-cost .ensures)))
 
 returns : tie.Need-returns Inv-loop μ-loop
-returns c = 
+returns c =
     let v = c .before .loop in
     ceilings-end (c .before .before .before .before .before .args .shape) _ _ (v .i) (v .inv .3) (omega arith)
 

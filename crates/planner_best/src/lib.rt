@@ -24,8 +24,6 @@ pub fn best(survey: &[u8], b1: i16, b2: i16, tree: &mut [u8]) -> Answer
     let read = read_survey(survey, &mut ends, &mut sums, &mut costs);
     let checked = read.checked;
     let shape = read.shape;
-    let m = shape.m;
-    let size = shape.p as usize * m;
     match checked {
         Checked::Refused(refusal) => Answer::Refused(refusal),
         Checked::Fine => {
@@ -35,9 +33,11 @@ pub fn best(survey: &[u8], b1: i16, b2: i16, tree: &mut [u8]) -> Answer
                     place: 0,
                 });
             }
+            let m = shape.m;
+            let p = shape.p as usize;
+            let size = p * m;
             let order = order_links(&sums[..m]);
             let bounds = [b1, b2];
-            let p = shape.p as usize;
             solve(
                 shape,
                 &ends[..2 * m],

@@ -3,17 +3,17 @@ use mathlib.Core.Bool.{false, true}
 use mathlib.Core.List.{List}
 use mathlib.Core.Path.{_≡_}
 use Prim.Native.Nat.{ℕ}
+use Rattle.network.specs.Network.{Network}
 use Rattle.network.specs.Yard.{isTree}
 use Rattle.network.specs.PlanList.{costsOf}
 use Rattle.network.specs.Checked.{refuseIf, _orElse_}
 use Rattle.network.specs.Refusals.{checkedOf}
 use Rattle.network.specs.Calls.{drawnChecked, judged, reply, says}
+use Rattle.network.specs.Survey.{networkOf}
 use Rattle.network.specs.declared.Answer.the-variants.{Plan, Refused as Answer·Refused}
-use Rattle.network.specs.declared.Checked.the-variants.{Refused}
+use Rattle.network.specs.declared.Checked.the-variants.{Fine, Refused}
 use Rattle.network.specs.declared.Costs.{Costs}
-use Rattle.network.specs.Network.{Network}
 use Rattle.network.specs.declared.Refusal.{Refusal}
-use Rattle.survey.specs.Survey.{Read}
 
 module _ (s drawn : List ℕ) where
   -- the survey is refused
@@ -21,13 +21,14 @@ module _ (s drawn : List ℕ) where
   unfolding judged drawnChecked reply says _orElse_
   judged-refused r e = rw e
 
-  module _ (net : Network) (read : Read s net) where
+  -- it is accepted, and its network is net
+  module _ (accepted : checkedOf s ≡ Fine) (net : Network) (same : net ≡ networkOf s) where
     -- the links are a tree
     pub judged-tree : (v : Costs) → isTree net drawn ≡ true → v ≡ costsOf net drawn → says (Plan v) ≡ judged s drawn
     unfolding judged drawnChecked reply says refuseIf _orElse_
-    judged-tree v t e = rw (e, read .accepted, ← read .network, t)
+    judged-tree v t e = rw (e, accepted, ← same, t)
 
     -- they are none
     pub judged-no-tree : isTree net drawn ≡ false → says (Answer·Refused (record { number = 11; place = 0 })) ≡ judged s drawn
     unfolding judged drawnChecked reply says refuseIf _orElse_
-    judged-no-tree t = rw (read .accepted, ← read .network, t)
+    judged-no-tree t = rw (accepted, ← same, t)

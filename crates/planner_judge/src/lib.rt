@@ -22,11 +22,11 @@ pub fn judge(survey: &[u8], drawn: &[u8]) -> Answer
     let read = read_survey(survey, &mut ends, &mut sums, &mut costs);
     let checked = read.checked;
     let shape = read.shape;
-    let m = shape.m;
-    let size = shape.p as usize * m;
     match checked {
         Checked::Refused(refusal) => Answer::Refused(refusal),
         Checked::Fine => {
+            let m = shape.m;
+            let size = shape.p as usize * m;
             if is_tree(shape, &ends[..2 * m], drawn) {
                 Answer::Plan(tree_costs(shape, &sums[..m], &costs[..size], drawn))
             } else {

@@ -24,20 +24,22 @@ pub fn list(survey: &[u8], allowance: u32, buffer: &mut [u8]) -> Status
     let read = read_survey(survey, &mut ends, &mut sums, &mut costs);
     let checked = read.checked;
     let shape = read.shape;
-    let m = shape.m;
-    let size = shape.p as usize * m;
     match checked {
         Checked::Refused(refusal) => Status {
             number: refusal.number,
             place: refusal.place,
         },
-        Checked::Fine => list_plans(
-            shape,
-            &ends[..2 * m],
-            &sums[..m],
-            &costs[..size],
-            allowance,
-            buffer,
-        ),
+        Checked::Fine => {
+            let m = shape.m;
+            let size = shape.p as usize * m;
+            list_plans(
+                shape,
+                &ends[..2 * m],
+                &sums[..m],
+                &costs[..size],
+                allowance,
+                buffer,
+            )
+        }
     }
 }

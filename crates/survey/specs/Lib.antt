@@ -1,2 +1,2 @@
--- what reading a survey gives, and what a caller has of it
+-- what reading a survey gives
 pub mod Survey

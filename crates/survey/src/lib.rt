@@ -6,9 +6,10 @@ use network::Shape;
 use network::capacities::CEILINGS_HELD;
 use survey_decode::decode;
 use survey_layout::layout::layout_of;
-ghost use mathlib.Core.Path.{_≡_};
 ghost use Rattle.network.specs.Layouts.{Roomy};
-ghost use Rattle.survey.specs.Survey.{noNetwork, surveyOf, surveyWith};
+ghost use Rattle.network.specs.Refusals.{checkedOf, checkedWith};
+ghost use Rattle.network.specs.Survey.{linkCount, networkOf, networkWith};
+ghost use Rattle.survey.specs.Survey.{Lent, SurveyRead};
 
 mod rules;
 
@@ -18,10 +19,8 @@ pub struct Survey {
     pub shape: Shape,
 }
 
-// What stands for the shape of a survey that is refused.
-fn no_shape() -> Shape
-    ensures { λ r. ⌜ r ≡ noShape ⌝ }
-{
+// What stands for the shape of a survey that is refused, where none is looked at.
+fn no_shape() -> Shape {
     Shape {
         n: 0,
         p: 0,
@@ -33,7 +32,12 @@ fn no_shape() -> Shape
 
 // Reads a survey in a layout: its check, and its network where it is not refused.
 fn read_with(s: &[u8], l: Layout, ends: &mut [u8], sums: &mut [u32], costs: &mut [i16]) -> Survey
-    requires { ⌜ Roomy l ⌝ }
+    requires { ⌜ Roomy l × Lent (now ends) (now sums) (now costs) ⌝ }
+    ensures { λ r.
+        ⌜
+        SurveyRead (checkedWith l (now (s .entry))) (networkWith l (now (s .entry)) (linkCount l (now (s .entry)))) r
+        (now (ends .exit)) (now (sums .exit)) (now (costs .exit))
+        ⌝ }
 {
     let checked = check_with(s, l);
     match checked {
@@ -52,6 +56,12 @@ fn read_with(s: &[u8], l: Layout, ends: &mut [u8], sums: &mut [u32], costs: &mut
 }
 
 // Reads a survey: its first refusal, or the shape of its yard, with its columns at the fronts of those that are lent.
-pub fn read_survey(s: &[u8], ends: &mut [u8], sums: &mut [u32], costs: &mut [i16]) -> Survey {
+pub fn read_survey(s: &[u8], ends: &mut [u8], sums: &mut [u32], costs: &mut [i16]) -> Survey
+    requires { ⌜ Lent (now ends) (now sums) (now costs) ⌝ }
+    ensures { λ r.
+        ⌜
+        SurveyRead (checkedOf (now (s .entry))) (networkOf (now (s .entry))) r (now (ends .exit)) (now (sums .exit)) (now (costs .exit))
+        ⌝ }
+{
     read_with(s, layout_of(s), ends, sums, costs)
 }

@@ -5,15 +5,16 @@ use survey_layout::fields::COSTS;
 use survey_layout::fields::ENDS;
 use survey_layout::layout::link_start;
 ghost use mathlib.Core.Path.{_≡_};
-ghost use Prim.Native.Nat.{_*_};
-ghost use Rattle.network.specs.Limits.{maxCeilings};
-ghost use Rattle.network.specs.Survey.{costsIn, endsIn};
+ghost use Prim.Native.Nat.{_+_, _*_, _≤_};
+ghost use lib.ListN.{length, take};
+ghost use Rattle.network.specs.Survey.{ceilingIn, costsIn, endsIn};
 ghost use Rattle.network.specs.Accepted.{Whole};
+ghost use Rattle.survey_columns.specs.Columns.{HasCosts};
 
-// The ends of the m links, two for each.
+// The ends of the m links, two for each, at the front of a column.
 pub fn decode_ends(s: &[u8], l: Layout, m: usize, ends: &mut [u8])
-    requires { ⌜ Whole (now s) l m ⌝ }
-    ensures { λ r. ⌜ r ≡ endsIn l (now (s .entry)) (2 * m) ⌝ }
+    requires { ⌜ Whole (now s) l m × (2 * m ≤ length (now ends)) ⌝ }
+    ensures { λ _. ⌜ take (2 * m) (now (ends .exit)) ≡ endsIn l (now (s .entry)) m ⌝ }
 {
     let mut q = 0;
     while q < 2 * m {
@@ -25,7 +26,8 @@ pub fn decode_ends(s: &[u8], l: Layout, m: usize, ends: &mut [u8])
 
 // The costs of the m links by a ceiling.
 fn decode_ceiling(s: &[u8], l: Layout, m: usize, ceiling: usize, column: &mut [i16])
-    requires { ⌜ Whole (now s) l m ⌝ }
+    requires { ⌜ Whole (now s) l m × HasCosts (ceiling + 1) × (length (now column) ≡ m) ⌝ }
+    ensures { λ _. ⌜ now (column .exit) ≡ ceilingIn l (now (s .entry)) m ceiling ⌝ }
 {
     let mut e = 0;
     while e < m {
@@ -35,9 +37,10 @@ fn decode_ceiling(s: &[u8], l: Layout, m: usize, ceiling: usize, column: &mut [i
     }
 }
 
-// The costs of the m links by the first p ceilings, one ceiling after the other.
+// The costs of the m links by the first p ceilings, one ceiling after the other, at the front of a column.
 pub fn decode_costs(s: &[u8], l: Layout, m: usize, p: usize, costs: &mut [i16])
-    requires { ⌜ Whole (now s) l m ⌝ }
+    requires { ⌜ Whole (now s) l m × HasCosts p × (p * m ≤ length (now costs)) ⌝ }
+    ensures { λ _. ⌜ take (p * m) (now (costs .exit)) ≡ costsIn l (now (s .entry)) m p ⌝ }
 {
     let mut from = 0;
     for i in 0..p {

@@ -7,9 +7,8 @@ use survey_layout::fields::CEILINGS;
 use survey_layout::fields::RANKS;
 use survey_layout::fields::STATIONS;
 use survey_sums::decode_sums;
-ghost use mathlib.Core.Path.{_≡_};
 ghost use Rattle.network.specs.Survey.{networkWith};
-ghost use Rattle.network.specs.Accepted.{Priced, Whole};
+ghost use Rattle.survey_decode.specs.Decoded.{Decodable, Decoded};
 
 // The shape of a survey with m links, whose columns go to the fronts of those that are lent.
 pub fn decode(
@@ -20,7 +19,8 @@ pub fn decode(
     sums: &mut [u32],
     costs: &mut [i16],
 ) -> Shape
-    requires { ⌜ Whole (now s) l m × Priced (now s) l m ⌝ }
+    requires { ⌜ Decodable (now s) l m (now ends) (now sums) (now costs) ⌝ }
+    ensures { λ r. ⌜ Decoded (networkWith l (now (s .entry)) m) r (now (ends .exit)) (now (sums .exit)) (now (costs .exit)) ⌝ }
 {
     let n = s[STATIONS];
     let p = s[CEILINGS];

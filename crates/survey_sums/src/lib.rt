@@ -6,6 +6,8 @@ use survey_layout::fields::SUM;
 use survey_layout::layout::link_start;
 ghost use mathlib.Core.Bool.{false};
 ghost use mathlib.Core.Path.{_≡_};
+ghost use Prim.Native.Nat.{_≤_};
+ghost use lib.ListN.{length, take};
 ghost use Rattle.network.specs.Survey.{sumsIn};
 ghost use Rattle.network.specs.Survey as spec;
 ghost use Rattle.network.specs.Refusals.{badSum};
@@ -19,10 +21,10 @@ fn raised(sum: i32) -> u32
     (sum + RAISE) as u32
 }
 
-// The raised sum costs of the m links.
+// The raised sum costs of the m links, at the front of a column.
 pub fn decode_sums(s: &[u8], l: Layout, m: usize, sums: &mut [u32])
-    requires { ⌜ Whole (now s) l m × Priced (now s) l m ⌝ }
-    ensures { λ r. ⌜ r ≡ sumsIn l (now (s .entry)) m ⌝ }
+    requires { ⌜ Whole (now s) l m × Priced (now s) l m × (m ≤ length (now sums)) ⌝ }
+    ensures { λ _. ⌜ take m (now (sums .exit)) ≡ sumsIn l (now (s .entry)) m ⌝ }
 {
     let mut i = 0;
     while i < m {

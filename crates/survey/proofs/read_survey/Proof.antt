@@ -1,6 +1,5 @@
--- `survey::read_survey` meets its contract. It is `read_with` at the layout that the first two bytes say.
+-- It is `read_with` at the layout that the first two bytes say.
 use borrow.Author.Needs.{needs}
-use Rattle.survey.specs.Survey.{surveyOf}
 use Rattle.survey.proofs.read_survey.Statement.{statement}
 use Rattle.survey.proofs.read_survey.Tie as tie
 
@@ -10,9 +9,25 @@ layout-of-requires c κs = search needs
 read-with-requires : tie.Need-read-with-requires
 read-with-requires c κs = search needs
 
+same-length : tie.Need-same-length
+same-length c = search needs
+
+same-length-2 : tie.Need-same-length-2
+same-length-2 c = search needs
+
+same-length-3 : tie.Need-same-length-3
+same-length-3 c = search needs
+
 returns : tie.Need-returns
-unfolding surveyOf
-returns c = rw (c .read-with .ensures, c .before .layout-of .ensures .0)
+returns c = rw (← c .before .before .before .before .before .before .before .before .before .layout-of .ensures .0) (c .before .before .before .before .before .read-with .ensures)
 
 pub read-survey-spec : {M : Type 1} → statement M
-read-survey-spec = tie.close (tie.spec layout-of-requires read-with-requires returns)
+read-survey-spec =
+    tie.close
+    (tie.spec
+    layout-of-requires
+    read-with-requires
+    same-length
+    same-length-2
+    same-length-3
+    returns)

@@ -1,68 +1,85 @@
--- `survey_columns::decode_costs` meets its contract. The invariant: the costs before q stand in the column.
-use Prim.Native.Nat.{_≤_, _-_, _*_}
+-- The costs by the ceilings before i stand at the front of the column, and those by ceiling i go behind them.
+use lib.ListN.{drop, length, length-drop, length-take, take}
+use native.Mathlib.Nat.{mul-le-mul-right, suc-mul, zero-mul}
+use native.Mathlib.Numerals.{add-one}
+use Prim.Native.Nat.{_+_, _≤_, _-_, _*_}
 use borrow.Author.Needs.{needs}
-use mathlib.Core.Path.{_≡_, refl, sym, ap, _∙_}
-use mir.Syntax.{w16}
-use mir.ValLaws.{toZ-ofZ}
+use mathlib.Core.Path.{_≡_, refl, sym, _∙_}
 use native.Mathlib.Omega.{arith}
-use Rattle.network.specs.Column.{column, column-more}
-use Rattle.network.specs.Limits.{maxCeilings}
 use Rattle.network.specs.Survey.{costsIn}
+use Rattle.survey_columns.specs.Columns.{costs-none, costs-turn}
 use Rattle.survey_columns.proofs.decode_costs.Statement.{statement}
 use Rattle.survey_columns.proofs.decode_costs.Tie as tie
 
 abbrev Inv-loop : tie.InvT-loop
-Inv-loop s l m costs₀ q₀ costs q = (q ≤ maxCeilings * m) × (costs ≡ costsIn l s q)
+Inv-loop s l m p costs₀ from₀ i₀ costs from i = (i ≤ p) × (from ≡ i * m) × (length costs ≡ length costs₀) × (take from costs ≡ costsIn l s m i)
 
 abbrev μ-loop : tie.MeasureT-loop
-μ-loop s l m costs₀ q₀ costs q = maxCeilings * m - q
+μ-loop s l m p costs₀ from₀ i₀ costs from i = p - i
+
+-- the part of the ceiling in turn lies inside the column
+inside : (c : tie.In-loop Inv-loop μ-loop) → c .before .loop .from + c .before .before .before .args .m ≤ length (c .before .loop .costs)
+inside c =
+    let start = c .before .before .before in
+    let v = c .before .loop in
+    omega (arith, start .pre .2, v .inv .1, mul-le-mul-right (start .args .m) (c .loop-test .taken), suc-mul (v .i) (start .args .m))
 
 loop-holds : tie.Need-loop-holds Inv-loop μ-loop
-unfolding costsIn column
-loop-holds c = (search needs, refl)
+loop-holds c = (omega arith, sym (zero-mul _), refl, costs-none _ _ _)
 
-mul-loop : tie.Need-mul-loop Inv-loop μ-loop
-mul-loop c = search needs
+add-to : tie.Need-add-to Inv-loop μ-loop
+add-to c = omega (arith, inside c, c .before .before .before .good)
 
-link-start-requires : tie.Need-link-start-requires Inv-loop μ-loop
-link-start-requires c κs = search needs
+mul-decode-ceiling : tie.Need-mul-decode-ceiling Inv-loop μ-loop
+mul-decode-ceiling c = omega (arith, inside c, c .before .before .before .good)
 
-add-read-i16 : tie.Need-add-read-i16 Inv-loop μ-loop
-add-read-i16 c = search needs
+sub-decode-ceiling : tie.Need-sub-decode-ceiling Inv-loop μ-loop
+sub-decode-ceiling c = omega arith
 
-mul-read-i16 : tie.Need-mul-read-i16 Inv-loop μ-loop
-mul-read-i16 c = search needs
+part-decode-ceiling-start : tie.Need-part-decode-ceiling-start Inv-loop μ-loop
+part-decode-ceiling-start c = search needs
 
-add-read-i16-2 : tie.Need-add-read-i16-2 Inv-loop μ-loop
-add-read-i16-2 c = search needs
+part-decode-ceiling-end : tie.Need-part-decode-ceiling-end Inv-loop μ-loop
+part-decode-ceiling-end c = inside c
 
-read-i16-requires : tie.Need-read-i16-requires Inv-loop μ-loop
-read-i16-requires c κs = search needs
+decode-ceiling-requires : tie.Need-decode-ceiling-requires Inv-loop μ-loop
+decode-ceiling-requires c κs =
+    let start = c .before .before .before .before in
+    let v = c .before .before .loop in
+    let room = inside (c .before) in
+    let rest = drop (v .from) (v .costs) in (
+      start .pre .0,
+      omega (arith, start .pre .1),
+      omega (arith, length-take (v .from + start .args .m - v .from) rest, length-drop (v .from) (v .costs)),
+    )
 
-mul-costs : tie.Need-mul-costs Inv-loop μ-loop
-mul-costs c = search needs
-
-array-set-from-costs : tie.Need-array-set-from-costs Inv-loop μ-loop
-array-set-from-costs c = search needs
-
-add-q : tie.Need-add-q Inv-loop μ-loop
-add-q c = search needs
+add-i : tie.Need-add-i Inv-loop μ-loop
+add-i c = search needs
 
 loop-less : tie.Need-loop-less Inv-loop μ-loop
 loop-less c = search needs
 
 loop-again : tie.Need-loop-again Inv-loop μ-loop
-unfolding costsIn
 loop-again c =
-    let head = c .before .before .before in
-    let read = c .read-i16 in (
+    let start = c .before .before .before .before .before .before in
+    let v = c .before .before .before .before .loop in
+    let room = inside (c .before .before .before) in (
       search needs,
-      rw (head .loop .inv .1, toZ-ofZ w16 (read .result) (search needs), read .ensures, c .before .link-start .ensures .0)
-          (sym (column-more _ _ _ _)),
+      omega (arith, v .inv .1, add-one (v .i), suc-mul (v .i) (start .args .m)),
+      c .costs .given .1 ∙ v .inv .2,
+      costs-turn _ _ _ (v .i) (v .from) (v .costs) (v .inv .3) room (c .before .decode-ceiling .ensures),
     )
 
+same-length : tie.Need-same-length Inv-loop μ-loop
+same-length c = c .before .loop .inv .2
+
 returns : tie.Need-returns Inv-loop μ-loop
-returns c = c .before .loop .inv .1 ∙ ap (costsIn _ _) (omega arith)
+returns c =
+    let args = c .before .before .before .args in
+    let v = c .before .loop in
+    let all : v .i ≡ args .p = omega arith in
+    let end : v .from ≡ args .p * args .m = rw all at (v .inv .1) in
+    rw (all, end) at (v .inv .3)
 
 pub decode-costs-spec : {M : Type 1} → statement M
 decode-costs-spec =
@@ -71,15 +88,14 @@ decode-costs-spec =
     Inv-loop
     μ-loop
     loop-holds
-    mul-loop
-    link-start-requires
-    add-read-i16
-    mul-read-i16
-    add-read-i16-2
-    read-i16-requires
-    mul-costs
-    array-set-from-costs
-    add-q
+    add-to
+    mul-decode-ceiling
+    sub-decode-ceiling
+    part-decode-ceiling-start
+    part-decode-ceiling-end
+    decode-ceiling-requires
+    add-i
     loop-less
     loop-again
+    same-length
     returns)

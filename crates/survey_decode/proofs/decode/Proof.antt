@@ -1,6 +1,6 @@
--- `survey_decode::decode` meets its contract. Each array is what its function ensures.
+-- Each column is what its function ensures.
+use Rattle.survey_decode.specs.Decoded.{decoded}
 use borrow.Author.Needs.{needs}
-use Rattle.network.specs.Survey.{costsIn, endsIn, networkWith, sumsIn}
 use Rattle.survey_decode.proofs.decode.Statement.{statement}
 use Rattle.survey_decode.proofs.decode.Tie as tie
 
@@ -25,14 +25,26 @@ decode-ends-requires c κs = search needs
 decode-sums-requires : tie.Need-decode-sums-requires
 decode-sums-requires c κs = search needs
 
+cast-decode-costs : tie.Need-cast-decode-costs
+cast-decode-costs c = search needs
+
 decode-costs-requires : tie.Need-decode-costs-requires
 decode-costs-requires c κs = search needs
 
+sub-t12 : tie.Need-sub-t12
+sub-t12 c = search needs
+
+same-length : tie.Need-same-length
+same-length c = search needs
+
+same-length-2 : tie.Need-same-length-2
+same-length-2 c = search needs
+
+same-length-3 : tie.Need-same-length-3
+same-length-3 c = search needs
+
 returns : tie.Need-returns
-unfolding networkWith endsIn sumsIn costsIn
-returns c =
-    let sums = c .before in
-    rw (c .decode-costs .ensures, sums .decode-sums .ensures, sums .before .decode-ends .ensures)
+returns c = decoded _ _ _ (c .before .before .before .before .before .before .before .before .before .decode-ends .ensures) (c .before .before .before .before .before .decode-sums .ensures) (c .before .decode-costs .ensures)
 
 pub decode-spec : {M : Type 1} → statement M
 decode-spec =
@@ -45,5 +57,10 @@ decode-spec =
     shared-slice-read-k2
     decode-ends-requires
     decode-sums-requires
+    cast-decode-costs
     decode-costs-requires
+    sub-t12
+    same-length
+    same-length-2
+    same-length-3
     returns)

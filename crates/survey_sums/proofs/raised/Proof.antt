@@ -6,7 +6,7 @@ use lib.IntN.{pos, _+ℤ_}
 use mir.Syntax.{w32}
 use mir.Val.{hbits, ofZ, toZ}
 use mir.ValLaws.{toZ-ofZ, toZ-pos}
-use Rattle.network.specs.Limits.{maxSum}
+use Rattle.network.specs.Capacities.{raise}
 use Rattle.network.specs.Survey as spec
 use Rattle.network.specs.Sums.{raised-small, raised-sum}
 use Rattle.survey_sums.proofs.raised.Statement.{statement}
@@ -17,8 +17,8 @@ low : (c : tie.Start) → spec.raised (c .args .sum) < 2 ^ hbits w32
 low c = omega (arith, raised-small (c .args .sum) (c .pre))
 
 -- the sum that the code makes
-made : (c : tie.Start) → toZ w32 (ofZ w32 (c .args .sum)) +ℤ toZ w32 maxSum ≡ pos (spec.raised (c .args .sum))
-made c = ap (λ z. z +ℤ pos maxSum) (toZ-ofZ w32 (c .args .sum) (c .fits .sum)) ∙ raised-sum (c .args .sum) (c .pre)
+made : (c : tie.Start) → toZ w32 (ofZ w32 (c .args .sum)) +ℤ toZ w32 raise ≡ pos (spec.raised (c .args .sum))
+made c = ap (λ z. z +ℤ pos raise) (toZ-ofZ w32 (c .args .sum) (c .fits .sum)) ∙ raised-sum (c .args .sum) (c .pre)
 
 add-result : tie.Need-add-result
 add-result c = rw (made c) (record { sfits = low c })

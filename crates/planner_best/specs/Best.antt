@@ -10,13 +10,13 @@ use Rattle.network.specs.Yard.{best, bounds, treeSize}
 use Rattle.network.specs.PlanList.{costsOf}
 use Rattle.network.specs.Checked.{refuseIf, _orElse_}
 use Rattle.network.specs.Refusals.{checkedOf}
+use Rattle.network.specs.Survey.{networkOf}
 use Rattle.network.specs.Calls.{asked, askedChecked, bestTree, costValues, ifFine, isNone, linksOf, reply, says, treeAfter, treeWith}
 use Rattle.network.specs.declared.Answer.{Answer}
 use Rattle.network.specs.declared.Answer.the-variants.{Refused as Answer·Refused}
-use Rattle.network.specs.declared.Checked.the-variants.{Refused}
+use Rattle.network.specs.declared.Checked.the-variants.{Fine, Refused}
 use Rattle.network.specs.Network.{Network}
 use Rattle.network.specs.declared.Refusal.{Refusal}
-use Rattle.survey.specs.Survey.{Read}
 use Rattle.solver.specs.Question.{answerOf}
 
 -- what an answer says, and what it leaves, where the last test is whether a tree fits
@@ -40,21 +40,21 @@ module _ (s : List ℕ) (b1 b2 : ℤ) (tree : List ℕ) where
   unfolding treeAfter askedChecked ifFine _orElse_
   refused-after r e = rw e
 
-  module _ (net : Network) (read : Read s net) where
+  module _ (accepted : checkedOf s ≡ Fine) (net : Network) (network : net ≡ networkOf s) where
     -- the buffer is below t
     pub asked-short : length tree < treeSize net → says (Answer·Refused (record { number = 9; place = 0 })) ≡ asked s b1 b2 (length tree)
     unfolding asked askedChecked reply says refuseIf _orElse_
-    asked-short h = rw (read .accepted, ← read .network, lt-ltb (length tree) (treeSize net) h)
+    asked-short h = rw (accepted, ← network, lt-ltb (length tree) (treeSize net) h)
 
     pub short-after : length tree < treeSize net → tree ≡ treeAfter s b1 b2 tree
     unfolding treeAfter askedChecked ifFine refuseIf _orElse_
-    short-after h = rw (read .accepted, ← read .network, lt-ltb (length tree) (treeSize net) h)
+    short-after h = rw (accepted, ← network, lt-ltb (length tree) (treeSize net) h)
 
     -- the search is asked
     pub asked-answer : (a : Answer) → treeSize net ≤ length tree → a ≡ answerOf net (best net (bounds net b1 b2)) → says a ≡ asked s b1 b2 (length tree)
     unfolding asked askedChecked bestTree refuseIf _orElse_
-    asked-answer a h e = rw (e, read .accepted, ← read .network, le-ltb (length tree) (treeSize net) h) (answer-says net (best net (bounds net b1 b2)))
+    asked-answer a h e = rw (e, accepted, ← network, le-ltb (length tree) (treeSize net) h) (answer-says net (best net (bounds net b1 b2)))
 
     pub answer-after : (left : List ℕ) → treeSize net ≤ length tree → left ≡ treeWith (best net (bounds net b1 b2)) tree → left ≡ treeAfter s b1 b2 tree
     unfolding treeAfter askedChecked bestTree refuseIf _orElse_
-    answer-after left h e = rw (e, read .accepted, ← read .network, le-ltb (length tree) (treeSize net) h) (answer-leaves (best net (bounds net b1 b2)) tree)
+    answer-after left h e = rw (e, accepted, ← network, le-ltb (length tree) (treeSize net) h) (answer-leaves (best net (bounds net b1 b2)) tree)

@@ -1,14 +1,53 @@
 -- The survey's check, the size of the tree buffer, then the question on its network.
-use mathlib.Core.Path.{sym, _∙_}
+use mathlib.Core.Path.{_≡_, sym, ap, _∙_}
 use native.Mathlib.Omega.{arith}
-use mir.Facts.{toZ-ofZ}
-use denote.Ref.{now}
-use Rattle.network.specs.Cut.{cut-asked}
-use Rattle.survey.specs.Survey.{Read, read-accepted, read-checked}
-use Rattle.planner_best.specs.Best.{answer-after, asked-answer, asked-refused, asked-short, refused-after, short-after}
 use borrow.Author.Needs.{needs}
+use denote.Ref.{now}
+use lib.ListN.{length, take}
+use lib.Seq.{length-take-le}
+use mir.Facts.{toZ-ofZ}
+use Rattle.network.specs.Capacities.{linksHeld}
+use Rattle.network.specs.Cut.{cut-asked}
+use Rattle.network.specs.Refusals.{checkedOf}
+use Rattle.network.specs.Survey.{networkOf}
+use Rattle.network.specs.declared.Checked.the-variants.{Fine}
+use Rattle.survey.specs.Survey.{Read}
+use Rattle.kruskal_order.specs.ByCost.{linkOrder, order-length}
+use Rattle.planner_best.specs.Best.{answer-after, asked-answer, asked-refused, asked-short, refused-after, short-after}
 use Rattle.planner_best.proofs.best.Statement.{statement}
 use Rattle.planner_best.proofs.best.Tie as tie
+
+-- where the survey was read, and where the function was called
+abbrev reading : tie.After-enum-told → tie.After-read-survey
+reading c = c .before .before .before .before .before .before
+
+abbrev start : tie.After-enum-told → tie.Start
+start c = reading c .before .before .before .before .before .before
+
+-- the survey is accepted
+accepted : (c : tie.After-enum-told) → checkedOf (now (start c .args .survey)) ≡ Fine
+accepted c = sym (reading c .read-survey .ensures .checked) ∙ c .enum-told .given .1
+
+-- its network
+network : (c : tie.After-enum-told)
+    → let read = reading c .read-survey in
+    Read (networkOf (now (start c .args .survey))) (read .result .shape) (read .last .1 .0) (read .last .1 .1 .0) (read .last .1 .1 .1 .0)
+network c = reading c .read-survey .ensures .accepted (c .enum-told .given .1)
+
+-- its links stand in order at the front of the array
+ordered : (c : tie.After-order-links)
+    → let read = reading (c .before .before .before .before .before) .read-survey in
+    take (read .result .shape .m) (c .order-links .result) ≡ linkOrder (take (read .result .shape .m) (read .last .1 .1 .0))
+ordered c = rw (network (c .before .before .before .before .before) .plannable .fine .sum-count) at (c .order-links .ensures)
+
+slice-aggregate-read-survey : tie.Need-slice-aggregate-read-survey
+slice-aggregate-read-survey c = search needs
+
+slice-aggregate-read-survey-2 : tie.Need-slice-aggregate-read-survey-2
+slice-aggregate-read-survey-2 c = search needs
+
+slice-aggregate-read-survey-3 : tie.Need-slice-aggregate-read-survey-3
+slice-aggregate-read-survey-3 c = search needs
 
 read-survey-requires : tie.Need-read-survey-requires
 read-survey-requires c κs = search needs
@@ -19,44 +58,82 @@ enum-known-checked c = search needs
 enum-told : tie.Need-enum-told
 enum-told c = search needs
 
--- the survey is accepted
-read : (c : tie.After-enum-told)
-    → Read (now (c .before .before .before .before .before .before .args .survey)) (c .before .before .before .read-survey .result .network)
-read c = read-accepted _ _ (c .before .before .before .read-survey .ensures) (c .enum-told .given .1)
-
 cast-if1 : tie.Need-cast-if1
 cast-if1 c = search needs
 
-sub-if1 : tie.Need-sub-if1
-sub-if1 c = let h = read (c .before) .fine .some-station in omega arith
-
 returns : tie.Need-returns
 returns c =
-    let r = read (c .before .before) in
-    let tree = now (c .before .before .before .before .before .before .before .before .args .tree) in
-    let e = asked-short _ _ _ tree _ r (omega arith) in
-    (e, (short-after _ _ _ tree _ r (omega arith), cut-asked _ _ _ _ e))
+    let told = c .before .before in
+    let tree = now (start told .args .tree) in
+    let read = network told in
+    let t = read .plannable .tree in
+    let e = asked-short _ _ _ tree (accepted told) _ (read .network) (omega arith) in
+    (e, (short-after _ _ _ tree (accepted told) _ (read .network) (omega arith), cut-asked _ _ _ _ e))
+
+cast-p : tie.Need-cast-p
+cast-p c = search needs
+
+mul-size : tie.Need-mul-size
+mul-size c = omega (arith, network (c .before .before .before) .few-costs)
+
+array-share-prefix-sums : tie.Need-array-share-prefix-sums
+array-share-prefix-sums c = network (c .before .before .before) .sums-inside
 
 slice-aggregate-order-links : tie.Need-slice-aggregate-order-links
-slice-aggregate-order-links c = search needs
+slice-aggregate-order-links c = sym (network (c .before .before .before .before) .plannable .fine .sum-count)
 
 order-links-requires : tie.Need-order-links-requires
 order-links-requires c κs =
-    let fine = read (c .before .before .before .before) .fine in
-    (fine .few-links, omega arith, fine .cheap)
+    let fine = network (c .before .before .before .before) .plannable .fine in
+    (omega (arith, fine .sum-count, fine .few-links), λ e h. fine .cheap e (omega (arith, fine .sum-count)))
+
+mul-ends : tie.Need-mul-ends
+mul-ends c = omega (arith, network (c .before .before .before .before .before) .plannable .fine .few-links)
+
+array-share-prefix-ends : tie.Need-array-share-prefix-ends
+array-share-prefix-ends c = network (c .before .before .before .before .before) .ends-inside
 
 slice-aggregate-solve : tie.Need-slice-aggregate-solve
-slice-aggregate-solve c = search needs
+slice-aggregate-solve c = sym (network (c .before .before .before .before .before .before) .plannable .fine .end-count)
+
+array-share-prefix-sums-2 : tie.Need-array-share-prefix-sums-2
+array-share-prefix-sums-2 c = network (c .before .before .before .before .before .before) .sums-inside
+
+slice-aggregate-solve-2 : tie.Need-slice-aggregate-solve-2
+slice-aggregate-solve-2 c = sym (network (c .before .before .before .before .before .before .before) .plannable .fine .sum-count)
+
+array-share-prefix-costs : tie.Need-array-share-prefix-costs
+array-share-prefix-costs c = network (c .before .before .before .before .before .before .before) .costs-inside
+
+slice-aggregate-solve-3 : tie.Need-slice-aggregate-solve-3
+slice-aggregate-solve-3 c = sym (network (c .before .before .before .before .before .before .before .before) .plannable .fine .cost-count)
+
+array-share-prefix-order : tie.Need-array-share-prefix-order
+array-share-prefix-order c =
+    let size : length (c .before .before .before .order-links .result) ≡ linksHeld = search needs in
+    omega (arith, network (c .before .before .before .before .before .before .before .before) .plannable .fine .few-links)
+
+slice-aggregate-solve-4 : tie.Need-slice-aggregate-solve-4
+slice-aggregate-solve-4 c =
+    let fine = network (c .before .before .before .before .before .before .before .before .before) .plannable .fine in
+    sym (ap length (ordered (c .before .before .before .before)) ∙ order-length _ ∙ fine .sum-count)
+
+array-share-prefix-bounds : tie.Need-array-share-prefix-bounds
+array-share-prefix-bounds c = network (c .before .before .before .before .before .before .before .before .before) .plannable .fine .few-ceilings
+
+slice-aggregate-solve-5 : tie.Need-slice-aggregate-solve-5
+slice-aggregate-solve-5 c = sym (length-take-le _ _ (network (c .before .before .before .before .before .before .before .before .before .before) .plannable .fine .few-ceilings))
 
 solve-requires : tie.Need-solve-requires
 solve-requires c κs =
-    let r = read (c .before .before .before .before .before .before .before) in
-    (r .fine, c .before .before .order-links .ensures, omega arith)
+    let read = network (c .before .before .before .before .before .before .before .before .before .before .before) in
+    let t = read .plannable .tree in
+    (read .plannable, ordered (c .before .before .before .before .before .before), length-take-le _ _ (read .plannable .fine .few-ceilings), omega arith)
 
 returns-2 : tie.Need-returns-2
 returns-2 c =
-    let refused = sym (read-checked _ _ (c .before .before .before .before .read-survey .ensures)) ∙ c .before .checked .given .1 in
-    let tree = now (c .before .before .before .before .before .before .before .args .tree) in
+    let refused = sym (c .before .before .before .before .before .before .before .read-survey .ensures .checked) ∙ c .before .checked .given .1 in
+    let tree = now (c .before .before .before .before .before .before .before .before .before .before .before .before .before .args .tree) in
     let e = asked-refused _ _ _ tree _ refused in
     (e, (refused-after _ _ _ tree _ refused, cut-asked _ _ _ _ e))
 
@@ -65,26 +142,44 @@ same-length c = search needs
 
 returns-3 : tie.Need-returns-3
 returns-3 c =
-    let r = read (c .before .before .before .before .before .before .before .before .before .before) in
-    let i = c .before .before .before .before .before .before .before .before .before .before .before .before .before .before .before .before in
-    let solved = rw (toZ-ofZ (i .fits .b1), toZ-ofZ (i .fits .b2)) at (c .before .before .solve .ensures) in
+    let told = c .before .before .before .before .before .before .before .before .before .before .before .before .before .before in
+    let i = start told in
+    let read = network told in
+    let t = read .plannable .tree in
     let tree = now (i .args .tree) in
-    let e = asked-answer _ _ _ tree _ r _ (omega arith) (solved .0) in
-    (e, (answer-after _ _ _ tree _ r _ (omega arith) (solved .1), cut-asked _ _ _ _ e))
+    let room = c .before .before .before .before .before .before .before .before .before .before .before .before .if1 .left in
+    let solved = rw (toZ-ofZ (i .fits .b1), toZ-ofZ (i .fits .b2)) at (c .before .before .solve .ensures) in
+    let e = asked-answer _ _ _ tree (accepted told) _ (read .network) _ (omega arith) (solved .0) in
+    (e, (answer-after _ _ _ tree (accepted told) _ (read .network) _ (omega arith) (solved .1), cut-asked _ _ _ _ e))
 
 pub best-spec : {M : Type 1} → statement M
 best-spec =
     tie.close
     (tie.spec
+    slice-aggregate-read-survey
+    slice-aggregate-read-survey-2
+    slice-aggregate-read-survey-3
     read-survey-requires
     enum-known-checked
     enum-told
     cast-if1
-    sub-if1
     returns
+    cast-p
+    mul-size
+    array-share-prefix-sums
     slice-aggregate-order-links
     order-links-requires
+    mul-ends
+    array-share-prefix-ends
     slice-aggregate-solve
+    array-share-prefix-sums-2
+    slice-aggregate-solve-2
+    array-share-prefix-costs
+    slice-aggregate-solve-3
+    array-share-prefix-order
+    slice-aggregate-solve-4
+    array-share-prefix-bounds
+    slice-aggregate-solve-5
     solve-requires
     returns-2
     same-length

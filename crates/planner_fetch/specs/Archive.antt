@@ -13,7 +13,7 @@ use Rattle.network.specs.Survey.{networkOf}
 use Rattle.network.specs.Refusals.{checkedOf}
 use Rattle.network.specs.Fetching.{fetchLinks, fetchNumber}
 use Rattle.network.specs.Meaning.{tree-size}
-use Rattle.network.specs.NetworkFine.{position-limit, survey-fine, survey-sound}
+use Rattle.network.specs.NetworkFine.{position-limit, survey-fine, survey-limits, survey-sound}
 use Rattle.network.specs.Promise.{LinksKept, NumberKept, complete}
 use Rattle.network.specs.declared.Checked.the-variants.{Fine}
 use Rattle.planlist_fetching.specs.Fetched.{listed-links, listed-number}
@@ -28,15 +28,15 @@ record Listable (s : List ℕ) : Type 0 where
 listable : (s : List ℕ) → checkedOf s ≡ Fine → Listable s
 listable s accepted =
     let net = networkOf s in
-    let fine = survey-fine s accepted in
+    let limits = survey-limits s accepted in
+    let ranked = survey-fine s accepted .rank-count in
     let sound = survey-sound s accepted in
     let list = complete net sound in
-    let stations = fine .few-stations in
     record {
       full = λ ts m. tree-size net sound ts (list .only-trees ts m);
-      few = omega (arith, plans-few (yard net), ap length (list .by-walk), list .count, position-limit net fine);
+      few = omega (arith, plans-few (yard net), ap length (list .by-walk), list .count, position-limit net limits);
       short = omega arith;
-      flat = fine .few-ceilings;
+      flat = omega arith;
     }
 
 pub number-kept : (list : List ℕ) (r : ℕ) {n : ℕ} → n ≡ fetchNumber list r → NumberKept list r n

@@ -30,14 +30,11 @@ fn no_shape() -> Shape {
     }
 }
 
-// Reads a survey in a layout: its check, and its network where it is not refused.
+// Reads a survey in a layout: its check, and its shape and columns where it is not refused.
 fn read_with(s: &[u8], l: Layout, ends: &mut [u8], sums: &mut [u32], costs: &mut [i16]) -> Survey
     requires { ⌜ Roomy l × Lent (now ends) (now sums) (now costs) ⌝ }
-    ensures { λ r.
-        ⌜
-        SurveyRead (checkedWith l (now (s .entry))) (networkWith l (now (s .entry)) (linkCount l (now (s .entry)))) r
-        (now (ends .exit)) (now (sums .exit)) (now (costs .exit))
-        ⌝ }
+    ensures { λ r. ⌜ SurveyRead (checkedWith l (now (s .entry))) (networkWith l (now (s .entry)) (linkCount l (now (s .entry)))) r
+        (now (ends .exit)) (now (sums .exit)) (now (costs .exit)) ⌝ }
 {
     let checked = check_with(s, l);
     match checked {
@@ -58,10 +55,7 @@ fn read_with(s: &[u8], l: Layout, ends: &mut [u8], sums: &mut [u32], costs: &mut
 // Reads a survey: its first refusal, or the shape of its yard, with its columns at the fronts of those that are lent.
 pub fn read_survey(s: &[u8], ends: &mut [u8], sums: &mut [u32], costs: &mut [i16]) -> Survey
     requires { ⌜ Lent (now ends) (now sums) (now costs) ⌝ }
-    ensures { λ r.
-        ⌜
-        SurveyRead (checkedOf (now (s .entry))) (networkOf (now (s .entry))) r (now (ends .exit)) (now (sums .exit)) (now (costs .exit))
-        ⌝ }
+    ensures { λ r. ⌜ SurveyRead (checkedOf (now (s .entry))) (networkOf (now (s .entry))) r (now (ends .exit)) (now (sums .exit)) (now (costs .exit)) ⌝ }
 {
     read_with(s, layout_of(s), ends, sums, costs)
 }

@@ -17,7 +17,7 @@ abbrev pub HasCosts : ℕ → Type 0
 HasCosts p = 8 + 2 * p ≤ linkSize
 
 -- a list up to the end of a part of it that was replaced
-pub take-put-end : {A : Type 0} (from to : ℕ) (xs ys : List A) → from ≤ to → to ≤ length xs → length ys ≡ to - from
+take-put-end : {A : Type 0} (from to : ℕ) (xs ys : List A) → from ≤ to → to ≤ length xs → length ys ≡ to - from
     → take to (putMid from (to - from) xs ys) ≡ take from xs ++ ys
 take-put-end from to xs ys h room e =
     rw (← (append-assoc (take from xs) ys (postOf from (to - from) xs)))

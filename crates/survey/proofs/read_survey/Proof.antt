@@ -19,7 +19,9 @@ same-length-3 : tie.Need-same-length-3
 same-length-3 c = search needs
 
 returns : tie.Need-returns
-returns c = rw (← c .before .before .before .before .before .before .before .before .before .layout-of .ensures .0) (c .before .before .before .before .before .read-with .ensures)
+returns c =
+    let read = c .before .before .before .before .before in
+    rw (← read .before .before .before .before .layout-of .ensures .0) (read .read-with .ensures)
 
 pub read-survey-spec : {M : Type 1} → statement M
 read-survey-spec =

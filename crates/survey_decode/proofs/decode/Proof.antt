@@ -44,7 +44,9 @@ same-length-3 : tie.Need-same-length-3
 same-length-3 c = search needs
 
 returns : tie.Need-returns
-returns c = decoded _ _ _ (c .before .before .before .before .before .before .before .before .before .decode-ends .ensures) (c .before .before .before .before .before .decode-sums .ensures) (c .before .decode-costs .ensures)
+returns c =
+    let sums = c .before .before .before .before .before in
+    decoded _ _ _ (sums .before .before .before .before .decode-ends .ensures) (sums .decode-sums .ensures) (c .before .decode-costs .ensures)
 
 pub decode-spec : {M : Type 1} → statement M
 decode-spec =

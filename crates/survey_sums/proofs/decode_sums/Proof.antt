@@ -60,7 +60,11 @@ unfolding sumsIn
 loop-again c =
     let v = c .before .before .before .before .loop in
     let room : v .i < length (v .sums) = omega (arith, c .before .before .before .before .before .before .before .pre .2) in
-    (search needs, simp length-set (v .inv .1), tabulate-turn _ (v .sums) (v .i) _ room (v .inv .2) (c .raised .ensures ∙ rw (sum (c .before), c .before .before .link-start .ensures .0)))
+    let start = c .before .before .link-start in (
+      search needs,
+      simp length-set (v .inv .1),
+      tabulate-turn _ (v .sums) (v .i) _ room (v .inv .2) (c .raised .ensures ∙ rw (sum (c .before), start .ensures .0)),
+    )
 
 same-length : tie.Need-same-length Inv-loop μ-loop
 same-length c = c .before .loop .inv .1

@@ -45,6 +45,7 @@ more-flags taken e h =
 pub put-turn : (taken : List Bool) (out w : List ℕ) (n e t : ℕ) {b : Bool} → n < t → b ≡ getD taken e false → n + length (rising e (drop e taken)) ≡ t
     → left taken out n e ≡ w
     → (left taken (set out n e) (n + boolByte b) (e + 1) ≡ w) × (n + boolByte b + length (rising (e + 1) (drop (e + 1) taken)) ≡ t)
+    × (n + boolByte b ≤ n + 1)
 unfolding left rising putAt
 put-turn taken out w n e t {b} h q s i =
     let inside : e < length taken = more-flags taken e (omega arith) in
@@ -54,9 +55,9 @@ put-turn taken out w n e t {b} h q s i =
     rest = rising (suc e) (drop (suc e) taken)
 
     go : (b : Bool) → n + length (cond b (e ∷ rest) rest) ≡ t → putAt n (cond b (e ∷ rest) rest) out ≡ w
-        → (putAt (n + boolByte b) rest (set out n e) ≡ w) × (n + boolByte b + length rest ≡ t)
-    go true s i = (rw add-one i, omega arith)
-    go false s i = (rw add-zero (over n rest out e (omega arith) ∙ i), omega arith)
+        → (putAt (n + boolByte b) rest (set out n e) ≡ w) × (n + boolByte b + length rest ≡ t) × (n + boolByte b ≤ n + 1)
+    go true s i = (rw add-one i, omega arith, omega arith)
+    go false s i = (rw add-zero (over n rest out e (omega arith) ∙ i), omega arith, omega arith)
 
 pub put-end : (taken : List Bool) (out w : List ℕ) (n e t : ℕ) → t ≤ n → n + length (rising e (drop e taken)) ≡ t → left taken out n e ≡ w → out ≡ w
 unfolding left putAt

@@ -15,8 +15,8 @@ use Rattle.solver_buffer.proofs.put_links.Tie as tie
 
 abbrev Inv-loop : tie.InvT-loop
 Inv-loop tree₀ t taken n₀ e₀ tree n e =
-    (e ≤ linksHeld) × (n ≤ t) × (length tree ≡ length tree₀) × (n + length (rising e (drop e taken)) ≡ t)
-    × (left taken tree n e ≡ putAt 0 (rising 0 taken) tree₀)
+    (e ≤ linksHeld) × (length tree ≡ length tree₀) × (n + length (rising e (drop e taken)) ≡ t)
+    × (left taken tree n e ≡ putAt 0 (rising 0 taken) tree₀) × (n ≤ e)
 
 abbrev μ-loop : tie.MeasureT-loop
 μ-loop tree₀ t taken n₀ e₀ tree n e = linksHeld - e
@@ -27,7 +27,7 @@ flagged c =
     let taken = c .before .before .args .t2 in
     let size : length taken ≡ linksHeld = search needs in
     let v = c .before .loop in
-    omega (arith, more-flags taken (v .e) (omega (arith, v .inv .3, c .loop-test .taken)))
+    omega (arith, more-flags taken (v .e) (omega (arith, v .inv .2, c .loop-test .taken)))
 
 -- what its turn leaves
 turned : (c : tie.In-loop Inv-loop μ-loop)
@@ -36,15 +36,16 @@ turned : (c : tie.In-loop Inv-loop μ-loop)
     let n = v .n + boolByte (getD (i .t2) (v .e) false) in
     (left (i .t2) (set (v .tree) (v .n) (v .e)) n (v .e + 1) ≡ putAt 0 (rising 0 (i .t2)) (i .tree .now))
     × (n + length (rising (v .e + 1) (drop (v .e + 1) (i .t2))) ≡ i .t)
+    × (n ≤ v .n + 1)
 turned c =
     let v = c .before .loop in
-    put-turn (c .before .before .args .t2) _ _ (v .n) (v .e) _ (c .loop-test .taken) refl (v .inv .3) (v .inv .4)
+    put-turn (c .before .before .args .t2) _ _ (v .n) (v .e) _ (c .loop-test .taken) refl (v .inv .2) (v .inv .3)
 
 loop-holds : tie.Need-loop-holds Inv-loop μ-loop
-loop-holds c = (omega arith, omega arith, refl, rw zero-add (c .pre .0), put-start _ _)
+loop-holds c = (omega arith, refl, rw zero-add (c .pre .0), put-start _ _, omega arith)
 
 cast-tree : tie.Need-cast-tree Inv-loop μ-loop
-cast-tree c = omega (arith, flagged c)
+cast-tree c = omega (arith, flagged c, c .before .loop .inv .4)
 
 slice-write-tree : tie.Need-slice-write-tree Inv-loop μ-loop
 slice-write-tree c = search needs
@@ -68,13 +69,13 @@ loop-again : tie.Need-loop-again Inv-loop μ-loop
 loop-again c =
     let v = c .before .loop in
     let w = turned c in
-    (omega (arith, flagged c), omega (arith, w .1), simp length-set (v .inv .2), w .1, w .0)
+    (omega (arith, flagged c), simp length-set (v .inv .1), w .1, w .0, omega (arith, w .2, v .inv .4))
 
 same-length : tie.Need-same-length Inv-loop μ-loop
-same-length c = c .before .loop .inv .2
+same-length c = c .before .loop .inv .1
 
 returns : tie.Need-returns Inv-loop μ-loop
-returns c = let v = c .before .loop in put-end _ _ _ (v .n) (v .e) _ (omega (arith, c .loop-test .left)) (v .inv .3) (v .inv .4)
+returns c = let v = c .before .loop in put-end _ _ _ (v .n) (v .e) _ (omega (arith, c .loop-test .left)) (v .inv .2) (v .inv .3)
 
 pub put-links-spec : {M : Type 1} → statement M
 put-links-spec =

@@ -2,6 +2,13 @@
 use marking_values::values::different_values;
 use network::Shape;
 use network::capacities::CEILINGS_HELD;
+ghost use mathlib.Core.Path.{_≡_};
+ghost use Prim.Native.Nat.{_*_, _/_, _%_, _≤_, _<_};
+ghost use lib.ListN.{length};
+ghost use Rattle.network.specs.Capacities.{ceilingsHeld};
+ghost use Rattle.marking_grid.specs.Digits.{Few, Steps, digitsBy, total, weights};
+ghost use Rattle.marking_grid.specs.Parts.{Filled, ceilingValues};
+ghost use Rattle.marking_grid.specs.Gridded.{Griddable, Gridded};
 
 // Ceiling i has counts[i] values, and the numbers of positions whose places differ by one there are strides[i] apart; there are `total` positions.
 pub struct Grid {
@@ -11,7 +18,10 @@ pub struct Grid {
 }
 
 // The different values of each ceiling, at the front of its part of `values`, and their numbers.
-fn values_of(shape: Shape, costs: &[i16], values: &mut [i16]) -> [usize; CEILINGS_HELD] {
+fn values_of(shape: Shape, costs: &[i16], values: &mut [i16]) -> [usize; CEILINGS_HELD]
+    requires { ⌜ Griddable (shape .p) (shape .m) (now costs) (now values) ⌝ }
+    ensures { λ r. ⌜ (length r ≡ ceilingsHeld) × Filled (shape .m) (now (costs .entry)) (now (values .exit)) r (shape .p) ⌝ }
+{
     let p = shape.p as usize;
     let m = shape.m;
     let mut counts = [0usize; CEILINGS_HELD];
@@ -25,7 +35,10 @@ fn values_of(shape: Shape, costs: &[i16], values: &mut [i16]) -> [usize; CEILING
 }
 
 // Writes the stride of each ceiling, and returns the number of positions.
-fn strides_of(counts: &[usize], strides: &mut [usize]) -> usize {
+fn strides_of(counts: &[usize], strides: &mut [usize]) -> usize
+    requires { ⌜ Few (now counts) × (length (now strides) ≡ length (now counts)) ⌝ }
+    ensures { λ r. ⌜ (r ≡ total (now (counts .entry))) × (now (strides .exit) ≡ weights (now (counts .entry))) ⌝ }
+{
     let mut size = 1;
     let mut i = counts.len();
     while 0 < i {
@@ -37,7 +50,10 @@ fn strides_of(counts: &[usize], strides: &mut [usize]) -> usize {
 }
 
 // The grid of a network, with the values of ceiling i at the front of its part of `values`, which holds m for each.
-pub fn grid_of(shape: Shape, costs: &[i16], values: &mut [i16]) -> Grid {
+pub fn grid_of(shape: Shape, costs: &[i16], values: &mut [i16]) -> Grid
+    requires { ⌜ Griddable (shape .p) (shape .m) (now costs) (now values) ⌝ }
+    ensures { λ r. ⌜ Gridded (ceilingValues (shape .p) (shape .m) (now (costs .entry))) (shape .m) (now (values .exit)) r ⌝ }
+{
     let p = shape.p as usize;
     let counts = values_of(shape, costs, values);
     let mut strides = [0usize; CEILINGS_HELD];
@@ -56,7 +72,10 @@ pub struct Digit {
 }
 
 // The highest digit of a number.
-fn digit(n: usize, stride: usize) -> Digit {
+fn highest_digit(n: usize, stride: usize) -> Digit
+    requires { ⌜ 0 < stride ⌝ }
+    ensures { λ r. ⌜ (r .place ≡ n / stride) × (r .rest ≡ n % stride) ⌝ }
+{
     if stride == 1 {
         return Digit { place: n, rest: 0 };
     }
@@ -67,10 +86,13 @@ fn digit(n: usize, stride: usize) -> Digit {
 }
 
 // Writes the places of position n.
-pub fn put_places(n: usize, strides: &[usize], places: &mut [usize]) {
+pub fn put_places(n: usize, strides: &[usize], places: &mut [usize])
+    requires { ⌜ Steps (now strides) × (length (now places) ≡ length (now strides)) ⌝ }
+    ensures { λ _. ⌜ now (places .exit) ≡ digitsBy (now (strides .entry)) n ⌝ }
+{
     let mut rest = n;
     for i in 0..strides.len() {
-        let d = digit(rest, strides[i]);
+        let d = highest_digit(rest, strides[i]);
         places[i] = d.place;
         rest = d.rest;
     }

@@ -2,5 +2,7 @@
 pub mod Paint
 pub mod Box
 pub mod Settle
+-- a box by strides and counts
+pub mod Sides
 -- the next position to solve
 pub mod Unmarked

@@ -1,10 +1,9 @@
 -- Marking a box of positions in an array of marks.
-use mathlib.Core.Path.{_≡_, refl, sym, ap, _∙_, subst, subst⁻¹}
+use mathlib.Core.Path.{_≡_, refl, ap, _∙_, subst, subst⁻¹}
 use mathlib.Core.Bool.{Bool, cond}
 use mathlib.Core.List.{List, [], _∷_}
-use Prim.Native.Nat.{ℕ, zero, suc, _+_, _*_, _-_, _/_, _%_, _≤_, _<_}
-use native.Mathlib.Nat.{suc-mul, add-mul, mul-one, mul-suc, mul-le-mul-left}
-use native.Mathlib.Numerals.{add-one}
+use Prim.Native.Nat.{ℕ, zero, suc, _+_, _*_, _-_, _<_}
+use native.Mathlib.Nat.{suc-mul, mul-suc}
 use native.Mathlib.Omega.{arith}
 use lib.ListN.{length, getD, set, length-set}
 
@@ -25,10 +24,6 @@ sweep f s (suc n) at ms = sweep f s n (at + s) (f at ms)
 abbrev pub paint : List Run → ℕ → List ℕ → List ℕ
 paint [] at ms = set ms at 1
 paint (r ∷ rs) at ms = sweep (paint rs) (r .stride) (r .count) at ms
-
--- the sides of the box from position n through the places k1 and k2 of two ceilings, where the second has m2 values
-abbrev pub through : ℕ → ℕ → ℕ → ℕ → List Run
-through m2 n k1 k2 = run m2 (k1 + 1 - n / m2) ∷ run 1 (k2 + 1 - n % m2) ∷ []
 
 -- a turn of a loop that sweeps
 pub sweep-turn : (f : ℕ → List ℕ → List ℕ) (s n at : ℕ) (ms : List ℕ) → 0 < n → sweep f s n at ms ≡ sweep f s (n - 1) (at + s) (f at ms)
@@ -90,11 +85,3 @@ module _ (f : ℕ → List ℕ → List ℕ) (same : (i : ℕ) (ms : List ℕ) �
 pub rows-left : (s n : ℕ) → 0 < n → s * n ≡ s + s * (n - 1)
 rows-left s zero h = absurd (omega arith)
 rows-left s (suc n) h = let e : suc n - 1 ≡ n = omega arith in rw e (omega (arith, mul-suc s n))
-
--- where m positions stand in a row and k + 1 rows have room, so has the box from position n on through row k
-pub box-room : (n m k : ℕ) {size : ℕ} → 0 < m → n / m ≤ k → (k + 1) * m ≤ size → (k + 1 ≤ size) × (m ≤ size) × (n / m * m + (k + 1 - n / m) * m ≤ size)
-box-room n m k {size} p q h =
-    let e : n / m + (k + 1 - n / m) ≡ k + 1 = omega arith in
-    let all = sym (add-mul (n / m) (k + 1 - n / m) m) ∙ ap (λ (a : ℕ). a * m) e in
-    let one = ap (λ (a : ℕ). a * m) (add-one k) ∙ suc-mul k m in
-    (omega (arith, mul-le-mul-left (k + 1) p, mul-one (k + 1)), omega arith, omega arith)

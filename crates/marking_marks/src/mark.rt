@@ -1,9 +1,10 @@
 // Marks of positions: one byte for each position, by its number.
 ghost use mathlib.Core.Path.{_≡_};
 ghost use mathlib.Core.List.{[], _∷_};
-ghost use Prim.Native.Nat.{_+_, _-_, _*_, _/_, _%_, _≤_, _<_};
+ghost use Prim.Native.Nat.{_+_, _-_, _*_, _≤_};
 ghost use lib.ListN.{length};
-ghost use Rattle.marking_marks.specs.Paint.{paint, run, through};
+ghost use Rattle.marking_marks.specs.Paint.{paint, run};
+ghost use Rattle.marking_marks.specs.Sides.{Inside, runs};
 ghost use Rattle.marking_marks.specs.Unmarked.{nextUnmarked};
 
 // Marks n positions from one on.
@@ -22,7 +23,7 @@ pub fn mark_row(marks: &mut [u8], start: usize, n: usize)
 
 // Marks n positions in each of some rows, whose starts are a stride apart.
 pub fn mark_rows(marks: &mut [u8], start: usize, stride: usize, rows: usize, n: usize)
-    requires { ⌜ (n ≤ stride) × (stride ≤ length (now marks)) × (start + stride * rows + n ≤ length (now marks) + stride) ⌝ }
+    requires { ⌜ (stride ≤ length (now marks)) × (start + stride * rows + n ≤ length (now marks) + stride) ⌝ }
     ensures { λ _. ⌜ now (marks .exit) ≡ paint (run stride rows ∷ run 1 n ∷ []) start (now (marks .entry)) ⌝ }
 {
     let mut at = start;
@@ -35,7 +36,10 @@ pub fn mark_rows(marks: &mut [u8], start: usize, stride: usize, rows: usize, n: 
 }
 
 // Marks the box with the given sides whose first position is `start`. The last side has the stride 1.
-pub fn mark_box(marks: &mut [u8], start: usize, strides: &[usize], counts: &[usize]) {
+pub fn mark_box(marks: &mut [u8], start: usize, strides: &[usize], counts: &[usize])
+    requires { ⌜ Inside (now strides) (now counts) start (length (now marks)) ⌝ }
+    ensures { λ _. ⌜ now (marks .exit) ≡ paint (runs (now (strides .entry)) (now (counts .entry))) start (now (marks .entry)) ⌝ }
+{
     let sides = strides.len();
     if sides == 0 {
         marks[start] = 1;

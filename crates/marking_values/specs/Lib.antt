@@ -1,5 +1,3 @@
 -- The different values of a ceiling in falling order, and places in them
 pub mod Place
 pub mod Values
--- those of a network's ceilings, absent ones included
-pub mod Slots

@@ -1,15 +1,16 @@
 -- The place of a value in a falling list, and of each ceiling's cost in that ceiling's values.
-use mathlib.Core.Bool.{true, cond}
+use mathlib.Core.Bool.{true, false, cond}
 use mathlib.Core.List.{List, [], _∷_, _++_, List·Memᴰ·head as here, List·Memᴰ·tail as there}
-use mathlib.Core.Path.{_≡_, refl, ap, ap₂}
-use Prim.Native.Nat.{ℕ, suc, _≤_, _<_}
+use mathlib.Core.Path.{_≡_, refl, sym, ap, ap₂}
+use Prim.Native.Nat.{ℕ, zero, suc, _+_, _≤_, _<_}
+use native.Mathlib.Nat.{zero-add}
 use native.Mathlib.Omega.{arith}
 use lib.IntN.{ℤ, pos}
 use lib.ListN.{length, getD, take, drop, drop-of-length-le}
 use lib.Seq.{drop-cons}
 use lib.Signed.{leZ}
-use Rattle.order.specs.Test.{by-test}
-use Rattle.order.specs.Lists.{_∈_}
+use Rattle.order.specs.Test.{by-test, refute}
+use Rattle.order.specs.Lists.{_∈_, getD-mem}
 use Rattle.order.specs.Order.{le-refl, orderℤ, reverse}
 use Rattle.order.specs.Sorted.{insert}
 use Rattle.frontier.specs.Frontier.{Picks, picks-cons, picks-nil}
@@ -63,6 +64,19 @@ places-of d (picks-cons m p) (all-cons f fs) =
     let w = place-mem d f m in
     let r = places-of d p fs in
     (in-cons (w .0) (r .0), ap₂ (λ (x : ℤ) (v : List ℤ). x ∷ v) (w .1) (r .1))
+
+-- a value at most that at place i has its place from i on
+pub place-from : (x : ℤ) (l : List ℤ) → Falling orderℤ l → (i : ℕ) (d : ℤ) → i < length l → leZ x (getD l i d) ≡ true
+    → placeIn x l ≡ i + placeIn x (drop i l)
+unfolding placeIn
+place-from x [] f i d h e = absurd (omega arith)
+place-from x (y ∷ l) f zero d h e = sym (zero-add (placeIn x (y ∷ l)))
+place-from x (y ∷ l) f (suc i) d h e =
+    let short : i < length l = omega arith in
+    let there = getD l i d in
+    let above : leZ y x ≡ false = refute (leZ y x) (leZ y there) (λ q. orderℤ .le-trans y x there q e) (f .0 there (getD-mem l i d short)) in
+    let later = place-from x l (f .1) i d short e in
+    rw above (omega arith)
 
 -- where a value is put into a falling list
 pub insert-place : (x : ℤ) (l : List ℤ) → insert (reverse orderℤ) (λ v. v) x l ≡ take (placeIn x l) l ++ (x ∷ drop (placeIn x l) l)

@@ -10,14 +10,14 @@ use Rattle.marking_marks.proofs.mark.mark_rows.Tie as tie
 
 abbrev Inv-loop : tie.InvT-loop
 Inv-loop marks₀ start stride rows n at₀ left₀ marks at left =
-    (length marks ≡ length marks₀) × (n ≤ stride) × (stride ≤ length marks) × (at + stride * left + n ≤ length marks + stride)
+    (length marks ≡ length marks₀) × (stride ≤ length marks) × (at + stride * left + n ≤ length marks + stride)
     × (sweep (paint (run 1 n ∷ [])) stride left at marks ≡ sweep (paint (run 1 n ∷ [])) stride rows start marks₀)
 
 abbrev μ-loop : tie.MeasureT-loop
 μ-loop marks₀ start stride rows n at₀ left₀ marks at left = left
 
 loop-holds : tie.Need-loop-holds Inv-loop μ-loop
-loop-holds c = (refl, omega arith, omega arith, omega arith, refl)
+loop-holds c = (refl, omega arith, omega arith, refl)
 
 -- the row of this turn, among those left
 next-row : (c : tie.In-loop Inv-loop μ-loop)
@@ -45,11 +45,10 @@ loop-again c =
     let row = paint (run 1 (a .n) ∷ []) in
     let marked = c .before .before .mark-row in (
       omega (arith, marked .kept),
-      omega arith,
       omega (arith, marked .kept),
       omega (arith, marked .kept, next-row turn),
       ap (sweep row (a .stride) (l .left - 1) (l .at + a .stride)) (marked .ensures)
-          ∙ sym (sweep-turn row (a .stride) (l .left) (l .at) (l .marks) (turn .loop-test .taken)) ∙ l .inv .4,
+          ∙ sym (sweep-turn row (a .stride) (l .left) (l .at) (l .marks) (turn .loop-test .taken)) ∙ l .inv .3,
     )
 
 same-length : tie.Need-same-length Inv-loop μ-loop
@@ -59,7 +58,7 @@ returns : tie.Need-returns Inv-loop μ-loop
 returns c =
     let l = c .before .loop in
     let a = c .before .before .before .args in
-    sym (sweep-end (paint (run 1 (a .n) ∷ [])) (a .stride) (l .left) (l .at) (l .marks) (omega arith)) ∙ l .inv .4
+    sym (sweep-end (paint (run 1 (a .n) ∷ [])) (a .stride) (l .left) (l .at) (l .marks) (omega arith)) ∙ l .inv .3
 
 pub mark-rows-spec : {M : Type 1} → statement M
 mark-rows-spec =

@@ -1,13 +1,13 @@
 -- The values of each ceiling at the front of its part of one array, in which every ceiling has as many places as there are links.
 use mathlib.Core.List.{List, _++_}
 use mathlib.Core.Logic.{⊎-elim}
-use mathlib.Core.Path.{_≡_, sym, ap, _∙_}
-use Prim.Native.Nat.{ℕ, _+_, _*_, _≤_, _<_}
+use mathlib.Core.Path.{_≡_, sym, ap, ap₂, _∙_}
+use Prim.Native.Nat.{ℕ, _+_, _-_, _*_, _≤_, _<_}
 use native.Mathlib.Nat.{eq-or-lt-of-le, mul-le-mul-right, suc-mul}
 use native.Mathlib.Omega.{arith}
 use lib.IntN.{ℤ}
 use lib.ListN.{drop, getD, length, length-append, length-drop, set, take}
-use lib.Seq.{drop-at, getD-set-other, getD-set-same, length-take-le, take-add, take-append-le, take-take}
+use lib.Seq.{drop-at, drop-drop, getD-set-other, getD-set-same, length-take-le, take-add, take-append-le, take-take}
 use borrow.Rule.Slice.PartMut.{putMid}
 use Rattle.network.specs.Tabulate.{tabulate}
 use Rattle.network.specs.Yard.{ceilingPart, costAt}
@@ -33,6 +33,14 @@ module _ {A : Type 0} where
   -- a part is the front without what is before it
   pub part-front : (l : List A) (a c : ℕ) → a ≤ length l → take c (drop a l) ≡ drop a (take (a + c) l)
   part-front l a c h = sym (ap (drop a) (take-add a c l) ∙ drop-at (take a l) (take c (drop a l)) a (length-take-le a l h))
+
+  -- of c elements from `at` on, those from the k-th on
+  pub part-rest : (l : List A) (at c k : ℕ) → k ≤ c → at + c ≤ length l → take (at + c - (at + k)) (drop (at + k) l) ≡ drop k (take c (drop at l))
+  part-rest l at c k h g =
+      let width : at + c - (at + k) ≡ c - k = omega arith in
+      let all : k + (c - k) ≡ c = omega arith in
+      ap₂ (λ (n : ℕ) (r : List A). take n r) width (sym (drop-drop k at l))
+      ∙ part-front (drop at l) k (c - k) (omega (arith, length-drop at l)) ∙ ap (λ (n : ℕ). drop k (take n (drop at l))) all
 
   -- where a part of a list is replaced: a part before it, and the front of the new one
   part-before : (l new : List A) (at n a c : ℕ) → at ≤ length l → a + c ≤ at → take c (drop a (putMid at n l new)) ≡ take c (drop a l)

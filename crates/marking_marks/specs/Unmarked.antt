@@ -4,7 +4,7 @@ use mathlib.Core.List.{List}
 use mathlib.Core.Path.{_≡_, refl, ap, _∙_}
 use Prim.Native.Nat.{ℕ, zero, suc, _+_, _-_, _<_}
 use native.Mathlib.Omega.{arith}
-use borrow.Author.Tests.{eq-eqb, eqb-false, ne-eqb}
+use borrow.Author.Tests.{eq-eqb, eqb-false, eqb-true, ne-eqb}
 use lib.Dec.{eqb}
 use lib.ListN.{getD}
 use Rattle.order.specs.Test.{by-test}
@@ -30,6 +30,15 @@ unmarked-later ms (suc n) at h e =
 pub unmarked-end : (ms : List ℕ) (n at : ℕ) → n ≡ 0 → nextUnmarked ms n at ≡ at
 unfolding nextUnmarked
 unmarked-end ms n at e = rw e
+
+-- one that is found among them is not marked
+pub unmarked-is : (ms : List ℕ) (n at : ℕ) → nextUnmarked ms n at < at + n → getD ms (nextUnmarked ms n at) 0 ≡ 0
+unfolding nextUnmarked
+unmarked-is ms zero at h = absurd (omega arith)
+unmarked-is ms (suc n) at h =
+    by-test (eqb (getD ms at 0) 0)
+    (λ e. rw e (eqb-true (getD ms at 0) 0 e))
+    (λ e. let less = rw e at h in rw e (unmarked-is ms n (at + 1) (omega arith)))
 
 -- what marked positions keep holds there, if it holds at the first
 pub unmarked-keeps : (ms : List ℕ) (Q : ℕ → Type 0) (n at : ℕ) → ((k : ℕ) → k < at + n → (getD ms k 0 ≡ 0 → ⊥) → Q k → Q (k + 1)) → Q at

@@ -3,3 +3,5 @@ pub mod Entries
 pub mod Progress
 -- what it says of itself in the end
 pub mod Walked
+-- the front of an array, lent and come back
+pub mod Lent

@@ -19,7 +19,6 @@ use Rattle.network.specs.PlanList.{costsOf, headSize, planSize, planSlots}
 use Rattle.network.specs.NetworkFine.{NetworkFine, graph-sound}
 use Rattle.network.specs.Network.{Network}
 use Rattle.planlist_insertion.specs.Stored.{Holds, Padded, absent, costs-padded, holds-inserted, holds-level, holds-none, holds-rise}
-use Rattle.marking_values.specs.Slots.{rank-count}
 use Rattle.marking_marks.specs.Unmarked.{nextUnmarked, unmarked-keeps}
 use Rattle.walk_visit.specs.Answered.{recordsIn}
 use Rattle.walk_visit.specs.Visit.{bestAt}
@@ -53,7 +52,7 @@ module _ (net : Network) where
   Recorded count bs l = Holds (yard net) (costsOf net) (λ ts. ts) (absent net) (planSize planSlots (treeSize net)) count (drop headSize bs) l
 
   padded : NetworkFine net → (ts : List ℕ) → Padded (yard net) (costsOf net) (λ ts. ts) (absent net) ts
-  padded fine ts = costs-padded net ts (omega (arith, rank-count net fine, fine .few-ceilings))
+  padded fine ts = costs-padded net ts (omega (arith, fine .rank-count, fine .few-ceilings))
 
   -- the marks, the records and the counts when the entries es have been solved
   pub record Reached (es : List (Entry ℤ (List ℕ))) (ms bs : List ℕ) (count done : ℕ) : Type 0 where

@@ -1,20 +1,19 @@
 // The walk over all positions.
 use kruskal_order::order_links;
 use marking_grid::Grid;
-use marking_grid::put_places;
 use marking_marks::mark::next_unmarked;
 use network::Shape;
 use network::capacities::CEILINGS_HELD;
 use network::capacities::PLANS_HELD;
 use network::capacities::TREE_HELD;
 use solver::question::solve;
-use walk_visit::visit::put_bounds;
+use walk_visit::visit::put_position;
 use walk_visit::visit::settle;
 use walk_visit::visit::take_in;
 ghost use Prim.Native.Nat.{_≤_};
 ghost use lib.ListN.{length};
-ghost use Rattle.network.specs.Capacities.{linksHeld};
 ghost use Rattle.network.specs.PlanList.{bufferNeed};
+ghost use Rattle.network.specs.Shaped.{netOf};
 ghost use Rattle.walk_visit.specs.Visit.{Ready};
 ghost use Rattle.walk_positions.specs.Walked.{Outcome};
 
@@ -35,13 +34,16 @@ pub fn visit_all(
     grid: Grid,
     allowance: u32,
     out: &mut [u8],
-) -> Walked {
+) -> Walked
+    requires { ⌜ Ready shape (now ends) (now sums) (now costs) (now values) grid
+        × (bufferNeed (netOf shape (now ends) (now sums) (now costs)) ≤ length (now out)) ⌝ }
+    ensures { λ r. ⌜ Outcome (netOf shape (now (ends .entry)) (now (sums .entry)) (now (costs .entry))) allowance (now (out .exit)) r ⌝ }
+{
     let p = shape.p as usize;
     let m = shape.m;
     let t = shape.t as usize;
     let total = grid.total;
     let order = order_links(sums);
-    let strides = grid.strides;
     let mut places = [0usize; CEILINGS_HELD];
     let mut bounds = [0i16; CEILINGS_HELD];
     let mut tree = [0u8; TREE_HELD];
@@ -50,36 +52,31 @@ pub fn visit_all(
     let mut plans = 0;
     let mut solved: u32 = 0;
     while n < total {
-        if marks[n] == 0 {
-            if solved == allowance {
-                return Walked {
-                    spent: true,
-                    plans: plans,
-                    solved: solved,
-                };
-            }
-            put_places(n, &strides[..p], &mut places[..p]);
-            put_bounds(values, m, &places[..p], &mut bounds[..p]);
-            let answer = solve(
-                shape,
-                ends,
-                sums,
-                costs,
-                &order[..m],
-                &bounds[..p],
-                &mut tree,
-            );
-            settle(&mut marks, n, shape, values, grid, &places[..p], answer);
-            plans = take_in(out, plans, answer, &tree[..t]);
-            solved += 1;
-            n += 1;
-        } else {
-            n = next_unmarked(&marks, n + 1, total);
+        if solved == allowance {
+            return Walked {
+                spent: true,
+                plans,
+                solved,
+            };
         }
+        put_position(n, shape, values, grid, &mut places[..p], &mut bounds[..p]);
+        let answer = solve(
+            shape,
+            ends,
+            sums,
+            costs,
+            &order[..m],
+            &bounds[..p],
+            &mut tree,
+        );
+        settle(&mut marks, n, shape, values, grid, &places[..p], answer);
+        plans = take_in(out, plans, answer, &tree[..t]);
+        solved += 1;
+        n = next_unmarked(&marks, n + 1, total);
     }
     Walked {
         spent: false,
-        plans: plans,
-        solved: solved,
+        plans,
+        solved,
     }
 }

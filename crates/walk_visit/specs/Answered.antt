@@ -1,65 +1,55 @@
 -- What an answer at a position does to the marks and to the records of plans, by its costs alone.
-use mathlib.Core.List.{List}
-use mathlib.Core.Path.{_≡_, sym, ap, ap₂, _∙_, subst}
-use Prim.Native.Nat.{ℕ, _+_, _*_, _-_, _/_, _%_, _≤_, _<_}
+use mathlib.Core.List.{List, [], _∷_}
+use mathlib.Core.Path.{_≡_, sym, ap, _∙_, subst}
+use Prim.Native.Nat.{ℕ, _+_, _*_, _≤_}
 use native.Mathlib.Omega.{arith}
 use lib.IntN.{ℤ}
-use lib.ListN.{drop, length}
+use lib.ListN.{drop, length, take}
+use Rattle.network.specs.Capacities.{ceilingsHeld}
 use Rattle.network.specs.PlanList.{headSize, planBytes, planSize, planSlots}
 use Rattle.network.specs.declared.Answer.{Answer}
 use Rattle.network.specs.declared.Answer.the-variants.{Plan, Refused}
 use Rattle.network.specs.declared.Costs.{Costs}
 use Rattle.network.specs.declared.Refusal.{Refusal}
+use Rattle.network.specs.declared.Shape.{Shape}
 use Rattle.encoding_blocks.specs.Blocks.{blocks}
 use Rattle.planlist_insertion.specs.Insertion.{RecordsRise, insertRecord}
 use Rattle.planlist_insertion.specs.Level.{Level}
 use Rattle.planlist_costs.specs.Held.{Writable}
-use Rattle.marking_values.specs.Place.{placeIn}
-use Rattle.marking_marks.specs.Paint.{paint, through}
+use Rattle.marking_marks.specs.Paint.{paint}
+use Rattle.marking_marks.specs.Sides.{Inside, runs}
+use Rattle.marking_grid.specs.declared.Grid.{Grid}
+use Rattle.walk_visit.specs.Found.{Parted, Placed, lastSides, ownSides}
 
 -- ---- marks
 
--- the last place that an answer settles among the values v of a ceiling whose cost is y: that of a plan's own cost, or else the last of all
-unfoldable pub lastPlace : (Costs → ℤ) → List ℤ → Answer → ℕ
-lastPlace y v (Plan costs) = placeIn (y costs) v
-lastPlace y v (Refused r) = length v - 1
-
--- the same of the first and of the second ceiling
-abbrev pub last1 : List ℤ → Answer → ℕ
-last1 = lastPlace (λ costs. costs .y1)
-
-abbrev pub last2 : List ℤ → Answer → ℕ
-last2 = lastPlace (λ costs. costs .y2)
+-- the sides of the box that an answer settles from some places on
+unfoldable pub sidesBy : Shape → List ℤ → Grid → List ℕ → Answer → List ℕ
+sidesBy shape values grid places (Plan v) = ownSides (shape .m) values (take (shape .p) (grid .counts)) places (take (shape .p) (v .y1 ∷ v .y2 ∷ []))
+sidesBy shape values grid places (Refused r) = lastSides (take (shape .p) (grid .counts)) places
 
 -- the marks ms and those that an answer at position n sets
-unfoldable pub settledBy : List ℤ → List ℤ → ℕ → Answer → List ℕ → List ℕ
-settledBy v1 v2 n a ms = paint (through (length v2) n (last1 v1 a) (last2 v2 a)) n ms
+unfoldable pub settledBy : Shape → List ℤ → Grid → List ℕ → ℕ → Answer → List ℕ → List ℕ
+settledBy shape values grid places n a ms = paint (runs (take (shape .p) (grid .strides)) (sidesBy shape values grid places a)) n ms
 
--- the last places are in range and no earlier than those of position n, and `size` marks have room for them
-pub record Reaches (v1 v2 : List ℤ) (n : ℕ) (a : Answer) (size : ℕ) : Type 0 where
-  pub row : n / length v2 ≤ last1 v1 a
-  pub column : n % length v2 ≤ last2 v2 a
-  pub inside : (last1 v1 a < length v1) × (last2 v2 a < length v2)
-  pub room : (last1 v1 a + 1) * length v2 ≤ size
+-- what setting them asks: places in the ceilings of a grid, and a box that lies inside `size` marks
+pub record Reaches (shape : Shape) (values : List ℤ) (grid : Grid) (places : List ℕ) (n : ℕ) (a : Answer) (size : ℕ) : Type 0 where
+  pub ceilings : shape .p ≤ ceilingsHeld
+  pub held : (length (grid .counts) ≡ ceilingsHeld) × (length (grid .strides) ≡ ceilingsHeld)
+  pub placed : Placed (take (shape .p) (grid .counts)) places
+  pub parted : Parted (shape .m) values (take (shape .p) (grid .counts))
+  pub inside : Inside (take (shape .p) (grid .strides)) (sidesBy shape values grid places a) n size
 
--- a plan's, and those where there is none
-pub last-plan : (y : Costs → ℤ) (v : List ℤ) {a : Answer} {costs : Costs} → a ≡ Plan costs → lastPlace y v a ≡ placeIn (y costs) v
-unfolding lastPlace
-last-plan y v e = ap (lastPlace y v) e
+-- the sides where there is no plan, and where there is one
+module _ (shape : Shape) (values : List ℤ) (grid : Grid) (places : List ℕ) {a : Answer} where
+  pub sides-none : {r : Refusal} → a ≡ Refused r → lastSides (take (shape .p) (grid .counts)) places ≡ sidesBy shape values grid places a
+  unfolding sidesBy
+  sides-none e = sym (ap (sidesBy shape values grid places) e)
 
-pub last-none : (y : Costs → ℤ) (v : List ℤ) {a : Answer} {r : Refusal} → a ≡ Refused r → lastPlace y v a ≡ length v - 1
-unfolding lastPlace
-last-none y v e = ap (lastPlace y v) e
-
--- where they are k1 and k2, the box through these has room, and is what is marked
-module _ (v1 v2 : List ℤ) (n : ℕ) (a : Answer) {k1 k2 : ℕ} (e1 : last1 v1 a ≡ k1) (e2 : last2 v2 a ≡ k2) where
-  pub box-fits : {size : ℕ} → Reaches v1 v2 n a size
-      → (k2 < length v2) × (n / length v2 ≤ k1) × (n % length v2 ≤ k2) × ((k1 + 1) * length v2 ≤ size)
-  box-fits r = rw (← e1, ← e2) (r .inside .1, r .row, r .column, r .room)
-
-  pub box-marks : (ms : List ℕ) → paint (through (length v2) n k1 k2) n ms ≡ settledBy v1 v2 n a ms
-  unfolding settledBy
-  box-marks ms = ap₂ (λ (i j : ℕ). paint (through (length v2) n i j) n ms) (sym e1) (sym e2)
+  pub sides-plan : {v : Costs} → a ≡ Plan v
+      → ownSides (shape .m) values (take (shape .p) (grid .counts)) places (take (shape .p) (v .y1 ∷ v .y2 ∷ [])) ≡ sidesBy shape values grid places a
+  unfolding sidesBy
+  sides-plan e = sym (ap (sidesBy shape values grid places) e)
 
 -- ---- records
 

@@ -1,8 +1,12 @@
--- absent ceilings, for any number of ceilings
-pub mod Absent
+-- what the code finds at a position: its values, the sides of its box
+pub mod Tabulated
+pub mod Found
+-- the places of a position by strides
+pub mod Position
+pub mod Boxes
 -- what an answer does to the marks and to the records of plans
 pub mod Answered
--- one position, for the two ceilings of the code: its question, and what its answer settles
+-- one position: its question, and what its answer settles
 pub mod Visit
 -- what solving it asks of the records of plans, and what it leaves
 pub mod Visited

@@ -1,174 +1,204 @@
--- One position of the walk over the two ceilings that the code has: what it asks, and that what it marks is what the answer settles.
+-- One position of the walk, over the ceilings that there are: what it asks, and that what it marks is what the answer settles.
 use mathlib.Core.Bool.{true}
-use mathlib.Core.List.{List, [], _∷_, _++_}
+use mathlib.Core.List.{List, [], _∷_}
 use mathlib.Core.Option.{Option, none, some}
-use mathlib.Core.Path.{_≡_, refl, sym, ap, ap₂, _∙_, subst, subst⁻¹}
-use Prim.Native.Nat.{ℕ, suc, _+_, _*_, _-_, _/_, _%_, _≤_, _<_}
-use native.Mathlib.Nat.{mul-le-mul-right, mul-one}
+use mathlib.Core.Path.{_≡_, refl, sym, ap, ap₂, _∙_, subst}
+use Prim.Native.Nat.{ℕ, _*_, _≤_, _<_}
 use native.Mathlib.Omega.{arith}
-use borrow.Author.Tests.{leb-true}
 use lib.IntN.{ℤ, pos}
-use lib.ListN.{drop, getD, length, replicate, take}
+use lib.ListN.{drop, getD, length, length-map, take}
 use lib.Seq.{take-at}
-use Rattle.order.specs.Order.{orderℕ}
-use Rattle.frontier.specs.Dominance.{leAll, leAll-head, leAll-tail}
-use Rattle.frontier.specs.Frontier.{picks-length, product}
-use Rattle.frontier.specs.Places.{InRange, in-cons, pick, pick-picks, places, places-range}
-use Rattle.network.specs.Capacities.{ceilingsHeld, linksHeld, plansHeld}
-use Rattle.network.specs.Yard.{best, bounds, ceilingCosts, graph, ranks, treeSize, yard}
+use Rattle.order.specs.Lists.{getD-map}
+use Rattle.order.specs.Order.{orderℕ, orderℤ}
+use Rattle.frontier.specs.Best.{best-some}
+use Rattle.frontier.specs.Dominance.{leAll}
+use Rattle.frontier.specs.Frontier.{Picks, picks-length}
+use Rattle.frontier.specs.Places as by
+use Rattle.frontier.specs.Places.{AllFalling, InRange, pick, places-number, places-range}
+use Rattle.planning.specs.Graph.{Sound}
+use Rattle.planning.specs.Grid.{all-fall, on-grid}
+use Rattle.network.specs.Yard.{best, ceilingCosts, graph, yard}
 use Rattle.network.specs.Walk.{positionCount, positions, values}
-use Rattle.network.specs.PlanList.{bufferNeed, costsOf, headSize, planSize, planSlots}
+use Rattle.network.specs.PlanList.{costsOf}
 use Rattle.network.specs.NetworkFine.{NetworkFine, graph-sound}
-use Rattle.network.specs.declared.Answer.{Answer}
 use Rattle.network.specs.Network.{Network}
-use Rattle.kruskal_order.specs.ByCost.{linkOrder}
+use Rattle.network.specs.Shaped.{Plannable, netOf}
+use Rattle.network.specs.declared.Answer.{Answer}
+use Rattle.network.specs.declared.Shape.{Shape}
 use Rattle.planlist_insertion.specs.Stored.{absent, costs-padded}
 use Rattle.solver.specs.Question.{answerOf}
-use Rattle.marking_values.specs.Place.{placesOf}
-use Rattle.marking_values.specs.Slots.{ceilingValues, rank-count, value-count}
-use Rattle.marking_marks.specs.Paint.{Run, paint, run, through}
+use Rattle.marking_values.specs.Place.{places-of, placesOf}
+use Rattle.marking_marks.specs.Paint.{Run, paint}
 use Rattle.marking_marks.specs.Box.{sides}
-use Rattle.marking_marks.specs.Settle.{Settled, lasts, position-at}
-use Rattle.walk_visit.specs.Absent.{ends, ends-later, ends-marked, ends-range, position-wide, product-wide, wide}
-use Rattle.walk_visit.specs.Answered.{Reaches, last1, last2, lastPlace, settledBy}
+use Rattle.marking_marks.specs.Settle.{Settled, lasts, lasts-le, lasts-range, own-later, position-at, settled-none, settled-some}
+use Rattle.marking_marks.specs.Sides.{runs}
+use Rattle.marking_grid.specs.Digits.{Steps, digitsBy, sizes, weights}
+use Rattle.marking_grid.specs.Gridded.{Gridded, grid-places, grid-steps, value-count}
+use Rattle.marking_grid.specs.declared.Grid.{Grid}
+use Rattle.walk_visit.specs.Found.{Within, boundsAt, lastSides, ownSides}
+use Rattle.walk_visit.specs.Boxes.{bounds-are, box-inside, box-sides, last-sides, lengths, own-sides, range-at, range-length}
+use Rattle.walk_visit.specs.Position.{Locatable, placesAt}
+use Rattle.walk_visit.specs.Answered.{Reaches, settledBy, sidesBy}
 
 -- the best tree at position n
 abbrev pub bestAt : Network → ℕ → Option (List ℕ)
 bestAt net n = best net (getD (positions net) n [])
 
--- two slots, filled from a list and then with d
-two-slots : {A : Type 0} (d : A) (l : List A) → length l ≤ ceilingsHeld → getD l 0 d ∷ getD l 1 d ∷ [] ≡ l ++ replicate (ceilingsHeld - length l) d
-two-slots d [] h = refl
-two-slots d (x ∷ []) h = refl
-two-slots d (x ∷ y ∷ []) h = refl
-two-slots d (x ∷ y ∷ z ∷ l) h = absurd (omega arith)
+-- ---- the last places that an answer settles
 
--- places in two lists
-two-in : {i j : ℕ} {v w : List ℤ} → InRange (i ∷ j ∷ []) (v ∷ w ∷ []) → (i < length v) × (j < length w)
-two-in (in-cons a (in-cons b p)) = (a, b)
+module _ (net : Network) (sound : Sound (graph net)) (n : ℕ) (h : n < positionCount net) where
+  abbrev here : List ℕ
+  here = by.places (values net) n
 
--- what the walk sets out with: a network, its links in order, and the values of its two ceilings
-pub record Ready (net : Network) (order : List ℕ) (v1 v2 : List ℤ) : Type 0 where
-  pub fine : NetworkFine net
-  pub ordered : take (net .m) order ≡ linkOrder (net .sums) (net .m)
-  pub first : v1 ≡ ceilingValues net 0
-  pub second : v2 ≡ ceilingValues net 1
+  from : InRange here (values net)
+  from = places-range (values net) n h
 
-module _ {net : Network} {order : List ℕ} {v1 v2 : List ℤ} (ready : Ready net order v1 v2) where
-  open Ready ready using (fine, first, second)
+  falls : AllFalling orderℤ (values net)
+  falls = all-fall (graph net) 0 (net .k)
 
-  -- how many ceilings are absent
-  abbrev missing : ℕ
-  missing = ceilingsHeld - length (ranks net)
+  -- those of a tree's own costs, or the last of all
+  abbrev lastPlaces : Option (List ℕ) → List ℕ
+  lastPlaces none = lasts (values net)
+  lastPlaces (some ts) = placesOf (ceilingCosts net ts) (values net)
 
-  few : length (ranks net) ≤ ceilingsHeld
-  few = omega (arith, rank-count net fine, fine .few-ceilings)
+  -- the costs of the best tree are among the values, and at most those of the position
+  module _ (ts : List ℕ) (found : bestAt net n ≡ some ts) where
+    pub own-picks : Picks (ceilingCosts net ts) (values net)
+    own-picks = on-grid (graph net) sound ts (best-some (yard net) (getD (positions net) n []) ts found .member)
 
-  -- both lists of values
-  both : v1 ∷ v2 ∷ [] ≡ wide (graph net) missing
-  unfolding ceilingValues
-  both =
-      ap₂ (λ (a b : List ℤ). a ∷ b ∷ []) first second
-      ∙ two-slots (pos 0 ∷ []) (values net) (omega (arith, value-count net fine, few))
-      ∙ ap (λ (k : ℕ). wide (graph net) (ceilingsHeld - k)) (value-count net fine)
+    own-below : leAll orderℤ (ceilingCosts net ts) (pick (pos 0) here (values net)) ≡ true
+    own-below =
+        ap (leAll orderℤ (ceilingCosts net ts)) (sym (position-at (yard net) (pos 0) n h)) ∙ best-some (yard net) (getD (positions net) n []) ts found .passes
 
-  -- the number of positions
-  pub count-is : positionCount net ≡ length v1 * length v2
-  count-is =
-      sym (product-wide (pos 0) missing (values net)) ∙ ap product (sym both) ∙ ap (λ (k : ℕ). length v1 * k) (mul-one (length v2))
+  -- they are in range, no earlier than the position's, and the box through them is what the answer settles
+  record LastPlaces (o : Option (List ℕ)) : Type 0 where
+    range : InRange (lastPlaces o) (values net)
+    later : leAll orderℕ here (lastPlaces o) ≡ true
+    marked : (ms : List ℕ) → positionCount net ≤ length ms → Settled (yard net) n o ms (paint (sides here (lastPlaces o) (values net)) n ms)
 
-  -- so what the list buffer needs
-  pub need-is : (m1 m2 : ℕ) → length v1 ≡ m1 → length v2 ≡ m2 → headSize + m1 * m2 * planSize planSlots (treeSize net) ≡ bufferNeed net
-  need-is m1 m2 e f = rw (← e, ← f) (ap (λ (k : ℕ). headSize + k * planSize planSlots (treeSize net)) (sym count-is))
+  last-places : (o : Option (List ℕ)) → bestAt net n ≡ o → LastPlaces o
+  last-places none e = record { range = lasts-range from; later = lasts-le from; marked = settled-none (yard net) (pos 0) n h falls }
+  last-places (some ts) e =
+      let own = places-of (pos 0) (own-picks ts e) falls in
+      record {
+        range = own .0;
+        later = own-later (yard net) (pos 0) n h falls (own .0) ts (own .1) e;
+        marked = settled-some (yard net) (pos 0) n h falls (own .0) ts (own .1);
+      }
 
-  pub count-limit : length v1 ≤ linksHeld → length v2 ≤ linksHeld → positionCount net ≤ plansHeld
-  count-limit h k = omega (arith, count-is, mul-le-mul-right (length v2) h)
+-- ---- a network with its grid
 
-  -- both costs of a tree
-  costs-two : (ts : List ℕ) → costsOf net ts .y1 ∷ costsOf net ts .y2 ∷ [] ≡ ceilingCosts net ts ++ absent net
-  costs-two ts = ap (drop 1) (costs-padded net ts few)
+-- what the walk sets out with: a network that can be planned, and the grid of its ceilings with their values in an array
+pub record Ready (shape : Shape) (ends sums : List ℕ) (costs array : List ℤ) (grid : Grid) : Type 0 where
+  pub plannable : Plannable shape ends sums costs
+  pub gridded : Gridded (values (netOf shape ends sums costs)) (shape .m) array grid
 
-  -- the last places that an answer settles, of both ceilings
-  ends-two : (o : Option (List ℕ)) → ends (graph net) missing o ≡ last1 v1 (answerOf net o) ∷ last2 v2 (answerOf net o) ∷ []
-  unfolding lastPlace answerOf
-  ends-two none = ap lasts (sym both)
-  ends-two (some ts) = sym (ap₂ (λ (v : List ℤ) (ls : List (List ℤ)). placesOf v ls) (costs-two ts) both)
+module _ {shape : Shape} {ends sums : List ℕ} {costs array : List ℤ} {grid : Grid} (ready : Ready shape ends sums costs array grid) where
+  open Ready ready using (gridded)
 
+  abbrev net : Network
+  net = netOf shape ends sums costs
+
+  fine : NetworkFine net
+  fine = ready .plannable .fine
+
+  -- one list of values for each ceiling
+  pub ceiling-count : length (values net) ≡ shape .p
+  ceiling-count = value-count net ∙ fine .rank-count
+
+  counts-are : take (shape .p) (grid .counts) ≡ sizes (values net)
+  counts-are = ap (λ (k : ℕ). take k (grid .counts)) (sym ceiling-count) ∙ gridded .counts
+
+  strides-are : take (shape .p) (grid .strides) ≡ weights (sizes (values net))
+  strides-are = ap (λ (k : ℕ). take k (grid .strides)) (sym ceiling-count) ∙ gridded .strides
+
+  -- Position n
   module _ (n : ℕ) (h : n < positionCount net) where
-    stride : length v2 * 1 ≡ length v2
-    stride = mul-one (length v2)
+    steps : Steps (take (shape .p) (grid .strides))
+    steps = subst (λ (k : ℕ). Steps (take k (grid .strides))) ceiling-count (grid-steps gridded n h)
 
-    -- the places of position n
-    places-two : places (v1 ∷ v2 ∷ []) n ≡ n / length v2 ∷ n % length v2 ∷ []
-    places-two =
-        let one : n % length v2 / 1 ≡ n % length v2 = omega arith in
-        rw stride (ap (λ (k : ℕ). n / length v2 ∷ k ∷ []) one)
+    -- its places
+    module _ {places : List ℕ} (found : places ≡ placesAt shape grid n) where
+      places-are : places ≡ by.places (values net) n
+      places-are = found ∙ ap (λ (k : ℕ). digitsBy (take k (grid .strides)) n) (sym ceiling-count) ∙ grid-places gridded n
 
-    range-two : InRange (n / length v2 ∷ n % length v2 ∷ []) (v1 ∷ v2 ∷ [])
-    range-two =
-        let inside : n < product (v1 ∷ v2 ∷ []) = omega (arith, count-is, ap (λ (k : ℕ). length v1 * k) stride) in
-        rw (← places-two) (places-range (v1 ∷ v2 ∷ []) n inside)
+      there : InRange places (values net)
+      there = rw places-are (places-range (values net) n h)
 
-    pub places-in : (n / length v2 < length v1) × (n % length v2 < length v2)
-    places-in = two-in range-two
+      places-length : length places ≡ length (values net)
+      places-length = range-length there
 
-    -- THE QUESTION: the bounds are the values of position n
-    pub asked : bounds net (getD v1 (n / length v2) (pos 0)) (getD v2 (n % length v2) (pos 0)) ≡ getD (positions net) n []
-    asked =
-        let b = getD (positions net) n [] in
-        let size : length b ≡ net .p =
-        ap length (position-at (yard net) (pos 0) n h) ∙ picks-length (pick-picks (pos 0) (places-range (values net) n h))
-        ∙ value-count net fine ∙ rank-count net fine in
-        ap (take (net .p))
-        (ap (λ (is : List ℕ). pick (pos 0) is (v1 ∷ v2 ∷ [])) (sym places-two)
-        ∙ ap (λ (ls : List (List ℤ)). pick (pos 0) (places ls n) ls) both ∙ position-wide (graph net) missing n h)
-        ∙ take-at b (replicate missing (pos 0)) (net .p) size
+      within : Within (shape .m) array places
+      within = record {
+        room = omega (arith, gridded .room, ap (λ (k : ℕ). k * shape .m) places-length);
+        low = λ i g. let k : i < length (values net) = omega (arith, places-length) in omega (arith, range-at there i k, gridded .few i k);
+      }
 
-    -- the box from it through the places k1 and k2
-    same-sides : (k1 k2 : ℕ) → sides (places (v1 ∷ v2 ∷ []) n) (k1 ∷ k2 ∷ []) (v1 ∷ v2 ∷ []) ≡ through (length v2) n k1 k2
-    same-sides k1 k2 =
-        let e1 : suc k1 - n / length v2 ≡ k1 + 1 - n / length v2 = omega arith in
-        let e2 : suc k2 - n % length v2 ≡ k2 + 1 - n % length v2 = omega arith in
-        ap (λ (is : List ℕ). sides is (k1 ∷ k2 ∷ []) (v1 ∷ v2 ∷ [])) places-two ∙ (λ i. run (stride i) (e1 i) ∷ run 1 (e2 i) ∷ [])
+      -- THE QUESTION: its values are the bounds
+      pub asked : boundsAt (shape .m) array places ≡ getD (positions net) n []
+      asked = bounds-are gridded there ∙ ap (λ (is : List ℕ). pick (pos 0) is (values net)) places-are ∙ sym (position-at (yard net) (pos 0) n h)
 
-    -- THE ANSWER a: the last places that it settles
-    module _ {a : Answer} (answered : a ≡ answerOf net (bestAt net n)) where
-      ends-are : ends (graph net) missing (bestAt net n) ≡ last1 v1 a ∷ last2 v2 a ∷ []
-      ends-are = ends-two (bestAt net n) ∙ ap (λ (b : Answer). last1 v1 b ∷ last2 v2 b ∷ []) (sym answered)
+      -- THE ANSWER a
+      module _ {a : Answer} (answered : a ≡ answerOf net (bestAt net n)) where
+        sound : Sound (graph net)
+        sound = graph-sound net fine
 
-      -- they are in range, and no earlier than the position's
-      ends-in : InRange (last1 v1 a ∷ last2 v2 a ∷ []) (v1 ∷ v2 ∷ [])
-      ends-in =
-          subst⁻¹ (λ (ls : List (List ℤ)). InRange (last1 v1 a ∷ last2 v2 a ∷ []) ls) both
-          (subst (λ (is : List ℕ). InRange is (wide (graph net) missing)) ends-are
-          (ends-range (graph net) missing n h (graph-sound net fine) (bestAt net n) refl))
+        -- the sides of its box
+        own-costs : (ts : List ℕ) → bestAt net n ≡ some ts → take (shape .p) (costsOf net ts .y1 ∷ costsOf net ts .y2 ∷ []) ≡ ceilingCosts net ts
+        own-costs ts e =
+            let few = fine .few-ceilings in
+            ap (λ (v : List ℤ). take (shape .p) (drop 1 v)) (costs-padded net ts (omega (arith, fine .rank-count)))
+            ∙ take-at (ceilingCosts net ts) (absent net) (shape .p) (picks-length (own-picks net sound n h ts e) ∙ ceiling-count)
 
-      ends-after : leAll orderℕ (n / length v2 ∷ n % length v2 ∷ []) (last1 v1 a ∷ last2 v2 a ∷ []) ≡ true
-      ends-after =
-          ap₂ (leAll orderℕ) (sym places-two ∙ ap (λ (ls : List (List ℤ)). places ls n) both) (sym ends-are)
-          ∙ ends-later (graph net) missing n h (graph-sound net fine) (bestAt net n) refl
+        sides-are : sidesBy shape array grid places a ≡ lengths (by.places (values net) n) (lastPlaces net sound n h (bestAt net n))
+        unfolding sidesBy answerOf
+        sides-are =
+            ap₂ (sidesBy shape array grid) places-are answered ∙ go (bestAt net n) refl
+          where
+            is : List ℕ
+            is = by.places (values net) n
 
-      pub reaches : {size : ℕ} → positionCount net ≤ size → Reaches v1 v2 n a size
-      reaches room =
-          let i = n / length v2 in
-          let j = n % length v2 in
-          let k1 = last1 v1 a in
-          let k2 = last2 v2 a in
-          let w = two-in ends-in in
-          let rows : k1 + 1 ≤ length v1 = omega arith in
-          record {
-            row = leb-true i k1 (leAll-head orderℕ i k1 (j ∷ []) (k2 ∷ []) ends-after);
-            column = leb-true j k2 (leAll-head orderℕ j k2 [] [] (leAll-tail orderℕ i k1 (j ∷ []) (k2 ∷ []) ends-after));
-            inside = w;
-            room = omega (arith, count-is, mul-le-mul-right (length v2) rows);
-          }
+            go : (o : Option (List ℕ)) → bestAt net n ≡ o → sidesBy shape array grid is (answerOf net o) ≡ lengths is (lastPlaces net sound n h o)
+            go none e = ap (λ (cs : List ℕ). lastSides cs is) counts-are ∙ last-sides (from net sound n h)
+            go (some ts) e =
+                ap₂ (λ (cs : List ℕ) (y : List ℤ). ownSides (shape .m) array cs is y) counts-are (own-costs ts e)
+                ∙ own-sides gridded (from net sound n h) (own-picks net sound n h ts e) (falls net sound n h) (own-below net sound n h ts e)
 
-      -- and the marks that it sets are what it settles
-      pub settles : (ms : List ℕ) → positionCount net ≤ length ms → Settled (yard net) n (bestAt net n) ms (settledBy v1 v2 n a ms)
-      unfolding settledBy
-      settles ms room =
-          subst (λ (rs : List Run). Settled (yard net) n (bestAt net n) ms (paint rs n ms)) (same-sides (last1 v1 a) (last2 v2 a))
-          (subst (λ (is : List ℕ). Settled (yard net) n (bestAt net n) ms (paint (sides (places (v1 ∷ v2 ∷ []) n) is (v1 ∷ v2 ∷ [])) n ms)) ends-are
-          (subst⁻¹ (λ (ls : List (List ℤ)). Settled (yard net) n (bestAt net n) ms
-          (paint (sides (places ls n) (ends (graph net) missing (bestAt net n)) ls) n ms)) both
-          (ends-marked (graph net) missing n h (graph-sound net fine) (bestAt net n) refl ms room)))
+        -- it lies inside the marks
+        pub reaches : {size : ℕ} → positionCount net ≤ size → Reaches shape array grid places n a size
+        reaches {size} room =
+            let last = last-places net sound n h (bestAt net n) refl in
+            let box = box-inside (from net sound n h) (last .range) (last .later) room in
+            record {
+              ceilings = omega (arith, gridded .ceilings, ceiling-count);
+              held = gridded .held;
+              placed = rw counts-are (record {
+                alike = places-length ∙ sym (length-map (values net) length);
+                low = λ i g. let k : i < length (values net) = omega (arith, length-map (values net) length) in
+                    rw (getD-map length (values net) i [] 0 k) (range-at there i k);
+              });
+              parted = rw counts-are (record {
+                room = omega (arith, gridded .room, ap (λ (k : ℕ). k * shape .m) (length-map (values net) length));
+                few = λ i g. let k : i < length (values net) = omega (arith, length-map (values net) length) in
+                    rw (getD-map length (values net) i [] 0 k) (gridded .few i k);
+              });
+              inside = rw (strides-are, sides-are) (rw (places-number (values net) n h) at box);
+            }
+
+        -- and the marks that it sets are what it settles
+        pub settles : (ms : List ℕ) → positionCount net ≤ length ms → Settled (yard net) n (bestAt net n) ms (settledBy shape array grid places n a ms)
+        unfolding settledBy
+        settles ms room =
+            let last = last-places net sound n h (bestAt net n) refl in
+            let same = ap₂ runs strides-are sides-are ∙ box-sides (from net sound n h) (last .range) in
+            subst (λ (rs : List Run). Settled (yard net) n (bestAt net n) ms (paint rs n ms)) (sym same) (last .marked ms room)
+
+    -- its places and values can be found
+    pub locatable : Locatable shape array grid n
+    locatable =
+        record {
+          ceilings = omega (arith, gridded .ceilings, ceiling-count);
+          held = gridded .held .1;
+          steps = steps;
+          within = within refl;
+        }

@@ -1,5 +1,6 @@
 // One position of the walk.
 use marking_grid::Grid;
+use marking_grid::put_places;
 use marking_marks::mark::mark_box;
 use marking_values::place::place_of;
 use network::Answer;
@@ -7,18 +8,16 @@ use network::Shape;
 use network::capacities::CEILINGS_HELD;
 use planlist_insertion::insert_plan;
 ghost use mathlib.Core.Path.{_≡_};
-ghost use Prim.Native.Nat.{_≤_, _<_};
 ghost use lib.ListN.{length};
-ghost use Rattle.network.specs.Calls.{treeWith};
-ghost use Rattle.network.specs.Walk.{positionCount};
-ghost use Rattle.network.specs.Yard.{treeSize};
-ghost use Rattle.solver.specs.Question.{answerOf};
+ghost use Rattle.walk_visit.specs.Found.{Parted, Placed, Within, boundsAt, lastSides, ownSides};
+ghost use Rattle.walk_visit.specs.Position.{Locatable, placesAt};
 ghost use Rattle.walk_visit.specs.Answered.{Reaches, Taken, Takes, settledBy};
-ghost use Rattle.walk_visit.specs.Visit.{Ready, bestAt};
-ghost use Rattle.walk_visit.specs.Visited.{Prepared, Visited};
 
 // The values at some places, each in the ceiling's part of `values`, which holds m for each.
-pub fn put_bounds(values: &[i16], m: usize, places: &[usize], bounds: &mut [i16]) {
+fn put_bounds(values: &[i16], m: usize, places: &[usize], bounds: &mut [i16])
+    requires { ⌜ Within m (now values) (now places) × (length (now bounds) ≡ length (now places)) ⌝ }
+    ensures { λ _. ⌜ now (bounds .exit) ≡ boundsAt m (now (values .entry)) (now (places .entry)) ⌝ }
+{
     let mut from = 0;
     for i in 0..places.len() {
         bounds[i] = values[from + places[i]];
@@ -26,8 +25,30 @@ pub fn put_bounds(values: &[i16], m: usize, places: &[usize], bounds: &mut [i16]
     }
 }
 
+// The places of position n, and the values there.
+pub fn put_position(
+    n: usize,
+    shape: Shape,
+    values: &[i16],
+    grid: Grid,
+    places: &mut [usize],
+    bounds: &mut [i16],
+)
+    requires { ⌜ Locatable shape (now values) grid n × (length (now places) ≡ shape .p) × (length (now bounds) ≡ shape .p) ⌝ }
+    ensures { λ _. ⌜ (now (places .exit) ≡ placesAt shape grid n)
+        × (now (bounds .exit) ≡ boundsAt (shape .m) (now (values .entry)) (placesAt shape grid n)) ⌝ }
+{
+    let p = shape.p as usize;
+    let strides = grid.strides;
+    put_places(n, &strides[..p], places);
+    put_bounds(values, shape.m, places, bounds);
+}
+
 // The sides of the box from some places to the last ones.
-fn put_last_sides(counts: &[usize], places: &[usize], sides: &mut [usize]) {
+fn put_last_sides(counts: &[usize], places: &[usize], sides: &mut [usize])
+    requires { ⌜ Placed (now counts) (now places) × (length (now sides) ≡ length (now counts)) ⌝ }
+    ensures { λ _. ⌜ now (sides .exit) ≡ lastSides (now (counts .entry)) (now (places .entry)) ⌝ }
+{
     for i in 0..counts.len() {
         sides[i] = counts[i] - places[i];
     }
@@ -41,7 +62,11 @@ fn put_own_sides(
     places: &[usize],
     y: &[i16],
     sides: &mut [usize],
-) {
+)
+    requires { ⌜ Parted m (now values) (now counts) × Placed (now counts) (now places) × (length (now y) ≡ length (now counts))
+        × (length (now sides) ≡ length (now counts)) ⌝ }
+    ensures { λ _. ⌜ now (sides .exit) ≡ ownSides m (now (values .entry)) (now (counts .entry)) (now (places .entry)) (now (y .entry)) ⌝ }
+{
     let mut from = 0;
     for i in 0..counts.len() {
         let to = from + counts[i];
@@ -59,7 +84,10 @@ pub fn settle(
     grid: Grid,
     places: &[usize],
     answer: Answer,
-) {
+)
+    requires { ⌜ Reaches shape (now values) grid (now places) n answer (length (now marks)) ⌝ }
+    ensures { λ _. ⌜ now (marks .exit) ≡ settledBy shape (now (values .entry)) grid (now (places .entry)) n answer (now (marks .entry)) ⌝ }
+{
     let p = shape.p as usize;
     let counts = grid.counts;
     let strides = grid.strides;

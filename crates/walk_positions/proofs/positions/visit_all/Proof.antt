@@ -1,154 +1,374 @@
--- `walk_positions::positions::visit_all` meets its contract. The invariant: marks, records and counts are those of the entries that the walk has
--- solved among the first n positions, and no more are solved than allowed.
-use mathlib.Core.Path.{_≡_, refl, subst⁻¹}
+-- `walk_positions::positions::visit_all` meets its contract. The invariant: position n is not marked, or there is none; marks, records and counts are those
+-- of the entries that the walk has solved among the positions before it, and no more are solved than allowed.
+use mathlib.Core.List.{List, [], _++_}
+use mathlib.Core.Path.{_≡_, refl, sym, ap, _∙_, subst, subst⁻¹}
 use Prim.Native.Nat.{ℕ, _+_, _*_, _-_, _≤_, _<_}
 use native.Mathlib.Nat.{mul-le-mul-right}
 use native.Mathlib.Omega.{arith}
-use lib.ListN.{length, length-replicate}
-use Rattle.network.specs.Capacities.{plansHeld}
+use borrow.Author.Needs.{needs}
+use lib.IntN.{ℤ}
+use lib.ListN.{drop, getD, length, take}
+use lib.Seq.{length-take-le}
+use Rattle.network.specs.Calls.{treeWith}
+use Rattle.network.specs.Capacities.{ceilingsHeld, linksHeld, plansHeld, treeHeld}
+use Rattle.network.specs.Network.{Network}
 use Rattle.network.specs.PlanList.{headSize, planSize, planSlots}
-use Rattle.network.specs.Walk.{positionCount}
-use Rattle.network.specs.Yard.{treeSize}
-use Rattle.walk_visit.specs.Visit.{count-is, count-limit}
-use Rattle.walk_positions.specs.Progress.{Progress, finish, prepared, skip, skip-all, spent, start, step}
+use Rattle.network.specs.Shaped.{netOf}
+use Rattle.network.specs.Walk.{positionCount, positions}
+use Rattle.network.specs.Yard.{best, treeSize, yard}
+use Rattle.kruskal_order.specs.ByCost.{linkOrder, order-length}
+use Rattle.solver.specs.Question.{answerOf}
+use Rattle.marking_marks.specs.Settle.{Settled}
+use Rattle.marking_marks.specs.Unmarked.{unmarked-is}
+use Rattle.walk_visit.specs.Answered.{Taken, Takes, settledBy}
+use Rattle.walk_visit.specs.Position.{placesAt}
+use Rattle.walk_visit.specs.Visit.{asked, bestAt, locatable, reaches, settles}
+use Rattle.walk_visit.specs.Visited.{takes, visited}
+use Rattle.walk_positions.specs.Lent.{lent-back}
+use Rattle.walk_positions.specs.Progress.{Progress, finish, prepared, skip-all, spent, start, step}
 use Rattle.walk_positions.specs.Walked.{ended-outcome, spent-outcome}
 use Rattle.walk_positions.proofs.positions.visit_all.Statement.{statement}
 use Rattle.walk_positions.proofs.positions.visit_all.Tie as tie
 
 abbrev Inv-loop : tie.InvT-loop
-Inv-loop net order v1 v2 allowance out₀ total marks₀ n₀ plans₀ solved₀ out marks n plans solved =
-    (length marks ≡ plansHeld) × (length out ≡ length out₀) × (n ≤ positionCount net) × (plans ≤ n) × (solved ≤ n) × (solved ≤ allowance)
-    × Progress net n marks out plans solved
+Inv-loop shape ends sums costs values grid allowance out₀ p m t total order places₀ bounds₀ tree₀ marks₀ n₀ plans₀ solved₀ out places bounds tree marks n plans solved =
+    (length places ≡ ceilingsHeld) × (length bounds ≡ ceilingsHeld) × (length tree ≡ treeHeld) × (length marks ≡ plansHeld)
+    × (length out ≡ length out₀) × (n ≤ total) × (plans ≤ n) × (solved ≤ n) × (solved ≤ allowance)
+    × (n < total → getD marks n 0 ≡ 0) × Progress (netOf shape ends sums costs) n marks out plans solved
 
 abbrev μ-loop : tie.MeasureT-loop
-μ-loop net order v1 v2 allowance out₀ total marks₀ n₀ plans₀ solved₀ out marks n plans solved = positionCount net - n
+μ-loop shape ends sums costs values grid allowance out₀ p m t total order places₀ bounds₀ tree₀ marks₀ n₀ plans₀ solved₀ out places bounds tree marks n plans solved = total - n
 
--- as many positions as places of both ceilings, and the marks have room for them
-sizes : (s : tie.Start Inv-loop μ-loop)
-    → (positionCount (s .args .net) ≡ length (s .args .v1 .now) * length (s .args .v2 .now)) × (positionCount (s .args .net) ≤ plansHeld)
-sizes s = (count-is (s .pre .0), count-limit (s .pre .0) (s .pre .1) (s .pre .2))
+-- the network of a call
+abbrev network : tie.Start Inv-loop μ-loop → Network
+network s = let a = s .args in netOf (a .shape) (a .ends .now) (a .sums .now) (a .costs .now)
+
+-- as many positions as the grid has, and the marks have room for them
+counted : (s : tie.Start Inv-loop μ-loop) → (s .args .grid .total ≡ positionCount (network s)) × (positionCount (network s) ≤ plansHeld)
+counted s = (s .pre .0 .gridded .total, s .pre .0 .plannable .fine .few-positions)
+
+-- a tree has room in its array
+tree-room : (s : tie.Start Inv-loop μ-loop) → s .args .shape .t ≤ treeHeld
+tree-room s = let can = s .pre .0 .plannable in omega (arith, can .tree, can .fine .few-stations)
+
+-- the links stand in order at the front of their array
+ordered : (c : tie.After-order-links Inv-loop μ-loop)
+    → let a = c .before .before .before .before .before .before .args in take (a .shape .m) (c .order-links .result) ≡ linkOrder (a .sums .now)
+ordered c = rw (c .before .before .before .before .before .before .pre .0 .plannable .fine .sum-count) at (c .order-links .ensures)
 
 -- ---- a turn
 
 abbrev entry : tie.In-loop Inv-loop μ-loop → tie.Start Inv-loop μ-loop
-entry c = c .before .before .before .before
+entry c = c .before .before .before .before .before .before .before .before
 
 -- its position is one of them
-inside : (c : tie.In-loop Inv-loop μ-loop) → c .before .loop .n < positionCount (entry c .args .net)
-inside c = omega (arith, sizes (entry c))
+inside : (c : tie.In-loop Inv-loop μ-loop) → c .before .loop .n < positionCount (network (entry c))
+inside c = omega (arith, c .loop-test .taken, counted (entry c) .0)
 
--- and the list buffer has room for one more plan
+-- the list buffer has room for one more plan
 room : (c : tie.In-loop Inv-loop μ-loop)
-    → headSize + (c .before .loop .plans + 1) * planSize planSlots (treeSize (entry c .args .net)) ≤ length (c .before .loop .out)
+    → headSize + (c .before .loop .plans + 1) * planSize planSlots (treeSize (network (entry c))) ≤ length (c .before .loop .out)
 room c =
-    let fewer : c .before .loop .plans + 1 ≤ positionCount (entry c .args .net) = omega (arith, inside c) in
-    omega (arith, mul-le-mul-right (planSize planSlots (treeSize (entry c .args .net))) fewer, entry c .pre .3)
+    let l = c .before .loop in
+    let fewer : l .plans + 1 ≤ positionCount (network (entry c)) = omega (arith, inside c, l .inv .6) in
+    omega (arith, mul-le-mul-right (planSize planSlots (treeSize (network (entry c)))) fewer, entry c .pre .1, l .inv .4)
 
-mul-total : tie.Need-mul-total Inv-loop μ-loop
-mul-total c = omega (arith, sizes (c .before .before))
+-- a place and a bound for each ceiling
+ceilings : (c : tie.In-loop Inv-loop μ-loop) → (length (take (entry c .args .shape .p) (c .before .loop .places)) ≡ entry c .args .shape .p)
+    × (length (take (entry c .args .shape .p) (c .before .loop .bounds)) ≡ entry c .args .shape .p)
+ceilings c =
+    let few = entry c .pre .0 .plannable .fine .few-ceilings in
+    let l = c .before .loop in
+    (length-take-le _ _ (omega (arith, l .inv .0)), length-take-le _ _ (omega (arith, l .inv .1)))
+
+-- its places and bounds were found
+abbrev located : tie.After-put-position Inv-loop μ-loop → tie.In-loop Inv-loop μ-loop
+located c = c .before .before .before .before
+
+places-size : (c : tie.After-put-position Inv-loop μ-loop) → length (c .put-position .last .1 .1 .1 .1 .0) ≡ entry (located c) .args .shape .p
+places-size c = c .put-position .kept .1 .1 .1 .1 .0 ∙ ceilings (located c) .0
+
+bounds-size : (c : tie.After-put-position Inv-loop μ-loop) → length (c .put-position .last .1 .1 .1 .1 .1 .0) ≡ entry (located c) .args .shape .p
+bounds-size c = c .put-position .kept .1 .1 .1 .1 .1 .0 ∙ ceilings (located c) .1
+
+-- they stand at the fronts of their arrays
+places-front : (c : tie.After-put-position Inv-loop μ-loop)
+    → let p = entry (located c) .args .shape .p in
+    let l = c .put-position .last .1 .1 .1 .1 .0 in
+    let array = l ++ drop p (located c .before .loop .places) in
+    (take p array ≡ l) × (length (take p array) ≡ p) × (p ≤ length array) × (length array ≡ ceilingsHeld)
+places-front c =
+    let l = c .put-position .last .1 .1 .1 .1 .0 in
+    let turn = located c in
+    lent-back l (turn .before .loop .places) _ (places-size c) (turn .before .loop .inv .0) (entry turn .pre .0 .plannable .fine .few-ceilings)
+
+bounds-front : (c : tie.After-put-position Inv-loop μ-loop)
+    → let p = entry (located c) .args .shape .p in
+    let l = c .put-position .last .1 .1 .1 .1 .1 .0 in
+    let array = l ++ drop p (located c .before .loop .bounds) in
+    (take p array ≡ l) × (length (take p array) ≡ p) × (p ≤ length array) × (length array ≡ ceilingsHeld)
+bounds-front c =
+    let l = c .put-position .last .1 .1 .1 .1 .1 .0 in
+    let turn = located c in
+    lent-back l (turn .before .loop .bounds) _ (bounds-size c) (turn .before .loop .inv .1) (entry turn .pre .0 .plannable .fine .few-ceilings)
+
+bounds-are : (c : tie.After-put-position Inv-loop μ-loop)
+    → c .put-position .last .1 .1 .1 .1 .1 .0 ≡ getD (positions (network (entry (located c)))) (located c .before .loop .n) []
+bounds-are c =
+    let turn = located c in
+    c .put-position .ensures .1 ∙ asked (entry turn .pre .0) (turn .before .loop .n) (inside turn) refl
+
+-- the question was answered
+abbrev solved-at : tie.After-solve Inv-loop μ-loop → tie.After-put-position Inv-loop μ-loop
+solved-at c = c .before .before .before .before .before .before
+
+-- by the best tree under the position's values
+answered : (c : tie.After-solve Inv-loop μ-loop)
+    → let turn = located (solved-at c) in
+    let net = network (entry turn) in
+    let o = bestAt net (turn .before .loop .n) in
+    (c .solve .result ≡ answerOf net o) × (c .solve .last .1 .1 .1 .1 .1 .1 .0 ≡ treeWith o (turn .before .loop .tree))
+answered c =
+    let found = solved-at c in
+    let turn = located found in
+    let net = network (entry turn) in
+    let values = bounds-front found .0 ∙ bounds-are found in
+    subst (λ (bs : List ℤ). (c .solve .result ≡ answerOf net (best net bs))
+    × (c .solve .last .1 .1 .1 .1 .1 .1 .0 ≡ treeWith (best net bs) (turn .before .loop .tree))) values (c .solve .ensures)
+
+-- the tree's array is as long as it was, and has its t links at the front
+tree-size : (c : tie.After-solve Inv-loop μ-loop)
+    → length (c .solve .last .1 .1 .1 .1 .1 .1 .0) ≡ treeHeld
+tree-size c = c .solve .kept .1 .1 .1 .1 .1 .1 .0 ∙ located (solved-at c) .before .loop .inv .2
+
+links-room : (c : tie.After-solve Inv-loop μ-loop)
+    → treeSize (network (entry (located (solved-at c)))) ≤ length (c .solve .last .1 .1 .1 .1 .1 .1 .0)
+links-room c =
+    let s = entry (located (solved-at c)) in
+    omega (arith, tree-size c, tree-room s, s .pre .0 .plannable .tree)
+
+-- the marks were set
+abbrev settled-at : tie.After-settle Inv-loop μ-loop → tie.After-solve Inv-loop μ-loop
+settled-at c = c .before .before .before .before
+
+marked : (c : tie.After-settle Inv-loop μ-loop)
+    → let turn = located (solved-at (settled-at c)) in
+    Settled (yard (network (entry turn))) (turn .before .loop .n) (bestAt (network (entry turn)) (turn .before .loop .n)) (turn .before .loop .marks)
+    (c .settle .last .0)
+marked c =
+    let asking = settled-at c in
+    let found = solved-at asking in
+    let turn = located found in
+    let l = turn .before .loop in
+    let s = entry turn in
+    let front = places-front found .0 ∙ found .put-position .ensures .0 in
+    let set = c .settle .ensures ∙ ap (λ (ps : List ℕ). settledBy (s .args .shape) (s .args .values .now) (s .args .grid) ps (l .n) (asking .solve .result) (l .marks)) front in
+    let all : positionCount (network s) ≤ length (l .marks) = omega (arith, counted s .1, l .inv .3) in
+    subst⁻¹ (Settled (yard (network s)) (l .n) (bestAt (network s) (l .n)) (l .marks)) set
+    (settles (s .pre .0) (l .n) (inside turn) refl (answered asking .0) (l .marks) all)
+
+-- the plan was taken in
+abbrev taken-at : tie.After-take-in Inv-loop μ-loop → tie.After-settle Inv-loop μ-loop
+taken-at c = c .before .before .before .before
+
+-- so the position is visited
+gone : (c : tie.After-take-in Inv-loop μ-loop)
+    → let turn = located (solved-at (settled-at (taken-at c))) in
+    let l = turn .before .loop in
+    Progress (network (entry turn)) (l .n + 1) (taken-at c .settle .last .0) (c .take-in .last .0) (c .take-in .result) (l .solved + 1)
+gone c =
+    let marking = taken-at c in
+    let asking = settled-at marking in
+    let turn = located (solved-at asking) in
+    let l = turn .before .loop in
+    let s = entry turn in
+    let net = network s in
+    let can = s .pre .0 .plannable in
+    let taken = subst (λ (t : ℕ). Taken (asking .solve .result) (take t (asking .solve .last .1 .1 .1 .1 .1 .1 .0)) (l .plans) (c .take-in .result) (l .out)
+    (c .take-in .last .0)) (can .tree) (c .take-in .ensures) in
+    step net (l .n) (inside turn) (l .inv .10) (l .inv .9 (turn .loop-test .taken)) (can .fine)
+    (visited net (l .n) (answered asking .0) (l .tree) (answered asking .1) (links-room asking) (marked marking) taken)
+
+cast-p : tie.Need-cast-p Inv-loop μ-loop
+cast-p c = search needs
+
+cast-t : tie.Need-cast-t Inv-loop μ-loop
+cast-t c = search needs
+
+order-links-requires : tie.Need-order-links-requires Inv-loop μ-loop
+order-links-requires c κs = 
+    let fine = c .before .before .before .before .before .pre .0 .plannable .fine in
+    (omega (arith, fine .sum-count, fine .few-links), λ e h. fine .cheap e (omega (arith, fine .sum-count)))
 
 loop-holds : tie.Need-loop-holds Inv-loop μ-loop
-loop-holds c =
-    let s = c .before .before in (
-      length-replicate {A = ℕ} plansHeld 0,
+loop-holds c = 
+    let s = c .before .before .before .before .before .before in (
+      refl,
+      refl,
+      refl,
+      refl,
       refl,
       omega arith,
       omega arith,
       omega arith,
       omega arith,
-      start (s .args .net) plansHeld (s .args .out .now) (sizes s .1),
+      λ h. refl,
+      start (network s) plansHeld (s .args .out .now) (counted s .1),
     )
-
-array-read-if1 : tie.Need-array-read-if1 Inv-loop μ-loop
-array-read-if1 c = omega (arith, inside c, sizes (entry c))
 
 same-length : tie.Need-same-length Inv-loop μ-loop
 same-length c = omega arith
 
 returns : tie.Need-returns Inv-loop μ-loop
-returns c =
-    let turn = c .before .before in
+returns c = 
+    let turn = c .before in
     let l = turn .before .loop in
-    let net = entry turn .args .net in
-    let more = spent net (l .n) (inside turn) (l .inv .6) (c .before .if1 .taken) in
-    spent-outcome net (omega arith) (c .if2 .taken) more
+    let net = network (entry turn) in
+    let more = spent net (l .n) (inside turn) (l .inv .10) (l .inv .9 (turn .loop-test .taken)) in
+    spent-outcome net (omega (arith, inside turn, l .inv .6)) (c .if1 .taken) more
 
-slice-aggregate-solve-at : tie.Need-slice-aggregate-solve-at Inv-loop μ-loop
-slice-aggregate-solve-at c = omega arith
+array-borrow-prefix-places : tie.Need-array-borrow-prefix-places Inv-loop μ-loop
+array-borrow-prefix-places c = omega (arith, entry (c .before) .pre .0 .plannable .fine .few-ceilings, c .before .before .loop .inv .0)
 
-solve-at-requires : tie.Need-solve-at-requires Inv-loop μ-loop
-solve-at-requires c κs =
-    let turn = c .before .before .before .before in
+slice-aggregate-put-position : tie.Need-slice-aggregate-put-position Inv-loop μ-loop
+slice-aggregate-put-position c = sym (ceilings (c .before .before) .0)
+
+array-borrow-prefix-bounds : tie.Need-array-borrow-prefix-bounds Inv-loop μ-loop
+array-borrow-prefix-bounds c = omega (arith, entry (c .before .before) .pre .0 .plannable .fine .few-ceilings, c .before .before .before .loop .inv .1)
+
+slice-aggregate-put-position-2 : tie.Need-slice-aggregate-put-position-2 Inv-loop μ-loop
+slice-aggregate-put-position-2 c = sym (ceilings (c .before .before .before) .1)
+
+put-position-requires : tie.Need-put-position-requires Inv-loop μ-loop
+put-position-requires c κs = 
+    let turn = c .before .before .before in
+    (locatable (entry turn .pre .0) (turn .before .loop .n) (inside turn), ceilings turn .0, ceilings turn .1)
+
+array-share-prefix-order : tie.Need-array-share-prefix-order Inv-loop μ-loop
+array-share-prefix-order c = 
+    let size : length (c .before .before .before .before .before .before .before .before .order-links .result) ≡ linksHeld = search needs in
+    omega (arith, c .before .before .before .before .before .before .before .before .before .before .before .before .before .before .pre .0 .plannable .fine .few-links)
+
+slice-aggregate-solve : tie.Need-slice-aggregate-solve Inv-loop μ-loop
+slice-aggregate-solve c = 
+    sym (ap length (ordered (c .before .before .before .before .before .before .before .before .before)) ∙ order-length _ ∙ c .before .before .before .before .before .before .before .before .before .before .before .before .before .before .before .pre .0 .plannable .fine .sum-count)
+
+array-share-prefix-bounds : tie.Need-array-share-prefix-bounds Inv-loop μ-loop
+array-share-prefix-bounds c = let found = c .before .before .before in bounds-front found .2
+
+slice-aggregate-solve-2 : tie.Need-slice-aggregate-solve-2 Inv-loop μ-loop
+slice-aggregate-solve-2 c = let found = c .before .before .before .before in sym (bounds-front found .1)
+
+slice-aggregate-solve-3 : tie.Need-slice-aggregate-solve-3 Inv-loop μ-loop
+slice-aggregate-solve-3 c = sym (c .before .before .before .before .before .before .before .before .before .before .loop .inv .2)
+
+solve-requires : tie.Need-solve-requires Inv-loop μ-loop
+solve-requires c κs = 
+    let found = c .before .before .before .before .before in
+    let turn = located found in
     let s = entry turn in
+    (s .pre .0 .plannable, ordered (turn .before .before), bounds-front found .1,
+    omega (arith, tree-room s, turn .before .loop .inv .2))
+
+slice-aggregate-settle : tie.Need-slice-aggregate-settle Inv-loop μ-loop
+slice-aggregate-settle c = sym (c .before .before .before .before .before .before .before .before .before .before .before .before .before .loop .inv .3)
+
+array-share-prefix-places : tie.Need-array-share-prefix-places Inv-loop μ-loop
+array-share-prefix-places c = let found = c .before .before .before .before .before .before .before .before in places-front found .2
+
+slice-aggregate-settle-2 : tie.Need-slice-aggregate-settle-2 Inv-loop μ-loop
+slice-aggregate-settle-2 c = let found = c .before .before .before .before .before .before .before .before .before in sym (places-front found .1)
+
+settle-requires : tie.Need-settle-requires Inv-loop μ-loop
+settle-requires c κs = 
+    let asking = c .before .before .before in
+    let found = solved-at asking in
+    let turn = located found in
+    let s = entry turn in
+    rw (places-front found .0, found .put-position .ensures .0) (reaches (s .pre .0) (turn .before .loop .n) (inside turn) refl (answered asking .0) (omega (arith, counted s .1, turn .before .loop .inv .3)))
+
+array-share-prefix-tree : tie.Need-array-share-prefix-tree Inv-loop μ-loop
+array-share-prefix-tree c = let asking = c .before .before .before .before .before .before in omega (arith, tree-size asking, tree-room (entry (located (solved-at asking))))
+
+slice-aggregate-take-in : tie.Need-slice-aggregate-take-in Inv-loop μ-loop
+slice-aggregate-take-in c = let asking = c .before .before .before .before .before .before .before in sym (length-take-le _ _ (omega (arith, tree-size asking, tree-room (entry (located (solved-at asking))))))
+
+take-in-requires : tie.Need-take-in-requires Inv-loop μ-loop
+take-in-requires c κs = 
+    let asking = c .before .before .before .before .before .before .before in
+    let turn = located (solved-at asking) in
     let l = turn .before .loop in
-    let can = prepared (s .args .net) (l .n) (inside turn) (l .inv .6) (s .pre .0 .fine) (room turn) in
-    (s .pre .0, inside turn, omega (arith, sizes s), can)
+    let s = entry turn in
+    let net = network s in
+    let can = s .pre .0 .plannable in
+    subst⁻¹ (λ (t : ℕ). Takes (asking .solve .result) (take t (asking .solve .last .1 .1 .1 .1 .1 .1 .0)) (l .plans) (l .out)) (can .tree)
+    (takes net (l .n) (answered asking .0) (l .tree) (answered asking .1) (links-room asking)
+    (prepared net (l .n) (inside turn) (l .inv .10) (can .fine) (room turn)))
 
 add-solved : tie.Need-add-solved Inv-loop μ-loop
-add-solved c = omega (arith, sizes (entry (c .before .before .before .before .before .before .before .before)))
-
-add-n : tie.Need-add-n Inv-loop μ-loop
-add-n c = omega (arith, sizes (entry (c .before .before .before .before .before .before .before .before)))
-
-loop-less : tie.Need-loop-less Inv-loop μ-loop
-loop-less c = omega (arith, inside (c .before .before .before .before .before .before .before .before))
-
-loop-again : tie.Need-loop-again Inv-loop μ-loop
-loop-again c =
-    let turn = c .before .before .before .before .before .before .before .before in
-    let s = entry turn in
-    let l = turn .before .loop in
-    let unmarked = c .before .before .before .before .before .before .before .if1 .taken in
-    let new = c .before .before .before .solve-at in (
-      omega (arith, new .kept),
-      omega (arith, new .kept),
-      omega (arith, inside turn),
-      omega (arith, new .ensures .bounded),
-      omega (arith, l .inv .4),
-      omega (arith, l .inv .5, c .before .before .before .before .before .before .if2 .left),
-      step (s .args .net) (l .n) (inside turn) (l .inv .6) unmarked (s .pre .0 .fine) (new .ensures),
-    )
+add-solved c = 
+    let turn = c .before .before .before .before .before .before .before .before .before .before .before .before .before .before .before .before .before .before .before .before in
+    omega (arith, inside turn, counted (entry turn) .1, turn .before .loop .inv .7)
 
 slice-aggregate-next-unmarked : tie.Need-slice-aggregate-next-unmarked Inv-loop μ-loop
-slice-aggregate-next-unmarked c = omega arith
+slice-aggregate-next-unmarked c = 
+    let marking = c .before .before .before .before .before .before .before in
+    sym (marking .settle .kept .0 ∙ located (solved-at (settled-at marking)) .before .loop .inv .3)
 
 add-next-unmarked : tie.Need-add-next-unmarked Inv-loop μ-loop
-add-next-unmarked c = omega (arith, inside (c .before .before), sizes (entry (c .before .before)))
+add-next-unmarked c = 
+    let turn = c .before .before .before .before .before .before .before .before .before .before .before .before .before .before .before .before .before .before .before .before .before in
+    omega (arith, inside turn, counted (entry turn) .1)
 
 next-unmarked-requires : tie.Need-next-unmarked-requires Inv-loop μ-loop
-next-unmarked-requires c κs = let turn = c .before .before in let all = sizes (entry turn) in (omega arith, omega arith)
+next-unmarked-requires c κs = 
+    let marking = c .before .before .before .before .before .before .before in
+    let turn = located (solved-at (settled-at marking)) in
+    let all = counted (entry turn) in
+    (omega (arith, turn .loop-test .taken), omega (arith, all, marking .settle .kept .0, turn .before .loop .inv .3))
 
-loop-less-2 : tie.Need-loop-less-2 Inv-loop μ-loop
-loop-less-2 c = omega (arith, inside (c .before .before .before), c .next-unmarked .ensures .0)
+loop-less : tie.Need-loop-less Inv-loop μ-loop
+loop-less c = 
+    let turn = c .before .before .before .before .before .before .before .before .before .before .before .before .before .before .before .before .before .before .before .before .before .before in
+    omega (arith, turn .loop-test .taken, c .next-unmarked .ensures .0)
 
-loop-again-2 : tie.Need-loop-again-2 Inv-loop μ-loop
-loop-again-2 c =
-    let turn = c .before .before .before in
-    let a = entry turn .args in
+loop-again : tie.Need-loop-again Inv-loop μ-loop
+loop-again c = 
+    let taking = c .before .before .before .before in
+    let marking = taken-at taking in
+    let asking = settled-at marking in
+    let found = solved-at asking in
+    let turn = located found in
     let l = turn .before .loop in
-    let all = sizes (entry turn) in
-    let new = c .next-unmarked .ensures in
-    let total = length (a .v1 .now) * length (a .v2 .now) in
-    let next = skip (a .net) (l .n) (inside turn) (l .inv .6) (c .before .before .if1 .left) in (
-      omega arith,
-      omega arith,
-      omega (arith, new .1),
-      omega (arith, new .0),
-      omega (arith, new .0),
-      omega arith,
-      subst⁻¹ (λ (k : ℕ). Progress (a .net) k (l .marks) (l .out) (l .plans) (l .solved)) (new .2)
-          (skip-all (a .net) (total - (l .n + 1)) (l .n + 1) (omega arith) next),
+    let s = entry turn in
+    let total = s .args .grid .total in
+    let next = c .next-unmarked .ensures in
+    let below = turn .loop-test .taken in
+    let few = taking .take-in .ensures .bounded in
+    let marks = marking .settle .last .0 in (
+      places-front found .3,
+      bounds-front found .3,
+      tree-size asking,
+      marking .settle .kept .0 ∙ l .inv .3,
+      taking .take-in .kept .0 ∙ l .inv .4,
+      next .1,
+      omega (arith, next .0, few, l .inv .6),
+      omega (arith, next .0, l .inv .7),
+      omega (arith, l .inv .8, c .before .before .before .before .before .before .before .before .before .before .before .before .before .before .before .before .before .before .before .before .before .if1 .left),
+      λ h. subst⁻¹ (λ (k : ℕ). getD marks k 0 ≡ 0) (next .2) (unmarked-is marks (total - (l .n + 1)) (l .n + 1) (omega (arith, next .2))),
+      subst⁻¹ (λ (k : ℕ). Progress (network s) k marks (taking .take-in .last .0) (taking .take-in .result) (l .solved + 1)) (next .2)
+          (skip-all (network s) (total - (l .n + 1)) (l .n + 1) (omega (arith, counted s .0)) (gone taking)),
     )
 
 same-length-2 : tie.Need-same-length-2 Inv-loop μ-loop
 same-length-2 c = omega arith
 
 returns-2 : tie.Need-returns-2 Inv-loop μ-loop
-returns-2 c =
-    let s = c .before .before .before .before in
+returns-2 c = 
+    let s = c .before .before .before .before .before .before .before .before in
     let l = c .before .loop in
-    ended-outcome (s .args .net) (omega arith) (l .inv .5)
-    (finish (s .args .net) (s .pre .0 .fine) (l .n) (omega (arith, sizes s)) (l .inv .6))
+    ended-outcome (network s) (omega (arith, counted s .0, l .inv .5, l .inv .6)) (l .inv .8)
+    (finish (network s) (s .pre .0 .plannable .fine) (l .n) (omega (arith, counted s .0)) (l .inv .10))
 
 pub visit-all-spec : {M : Type 1} → statement M
 visit-all-spec =
@@ -156,21 +376,35 @@ visit-all-spec =
     (tie.spec
     Inv-loop
     μ-loop
-    mul-total
+    cast-p
+    cast-t
+    order-links-requires
     loop-holds
-    array-read-if1
     same-length
     returns
-    slice-aggregate-solve-at
-    solve-at-requires
+    array-borrow-prefix-places
+    slice-aggregate-put-position
+    array-borrow-prefix-bounds
+    slice-aggregate-put-position-2
+    put-position-requires
+    array-share-prefix-order
+    slice-aggregate-solve
+    array-share-prefix-bounds
+    slice-aggregate-solve-2
+    slice-aggregate-solve-3
+    solve-requires
+    slice-aggregate-settle
+    array-share-prefix-places
+    slice-aggregate-settle-2
+    settle-requires
+    array-share-prefix-tree
+    slice-aggregate-take-in
+    take-in-requires
     add-solved
-    add-n
-    loop-less
-    loop-again
     slice-aggregate-next-unmarked
     add-next-unmarked
     next-unmarked-requires
-    loop-less-2
-    loop-again-2
+    loop-less
+    loop-again
     same-length-2
     returns-2)

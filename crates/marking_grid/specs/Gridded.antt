@@ -20,6 +20,10 @@ use Rattle.marking_grid.specs.Digits.{Few, Steps, digits-places, digitsB
 use Rattle.marking_grid.specs.Parts.{Filled, ceilingValues, columnValues, parts-apart}
 use Rattle.marking_grid.specs.declared.Grid.{Grid}
 
+-- the arrays of a grid are as long as they are declared
+abbrev pub Held : Grid → Type 0
+Held grid = (length (grid .counts) ≡ ceilingsHeld) × (length (grid .strides) ≡ ceilingsHeld)
+
 -- The grid of the ceilings with these values, in an array with m places for each.
 pub record Gridded (lists : List (List ℤ)) (m : ℕ) (array : List ℤ) (grid : Grid) : Type 0 where
   -- the values of a ceiling are at the front of its part
@@ -32,7 +36,7 @@ pub record Gridded (lists : List (List ℤ)) (m : ℕ) (array : List ℤ) (grid 
   pub total : grid .total ≡ product lists
   -- it is held
   pub ceilings : length lists ≤ ceilingsHeld
-  pub held : (length (grid .counts) ≡ ceilingsHeld) × (length (grid .strides) ≡ ceilingsHeld)
+  pub held : Held grid
 
 -- what finding it asks: columns of p ceilings and m links, an array as long, and that they are held
 pub record Griddable (p m : ℕ) (costs array : List ℤ) : Type 0 where

@@ -11,19 +11,19 @@ use planlist_ending::finish;
 use walk_positions::positions::Walked;
 use walk_positions::positions::visit_all;
 ghost use mathlib.Core.Path.{_≡_};
-ghost use Prim.Native.Nat.{_+_, _-_, _*_, _≤_, _<_};
+ghost use Prim.Native.Nat.{_+_, _*_, _≤_};
 ghost use lib.ListN.{length};
 ghost use Rattle.network.specs.Calls.{plansAfter, plansChecked, status};
+ghost use Rattle.network.specs.Capacities.{plansHeld};
 ghost use Rattle.network.specs.Checked.{refuseIf};
-ghost use Rattle.network.specs.Capacities.{linksHeld, plansHeld};
-ghost use Rattle.network.specs.NetworkFine.{NetworkFine};
 ghost use Rattle.network.specs.PlanList.{headSize, planSize, planSlots};
+ghost use Rattle.network.specs.Shaped.{Plannable, netOf};
 ghost use Rattle.walk.specs.Concluded.{concluded};
 
 // What a list buffer needs, by the numbers of positions and of links of a tree.
 fn need(total: usize, t: u8) -> usize
-    requires { ⌜ (m1 ≤ linksHeld) × (m2 ≤ linksHeld) × (0 < n) ⌝ }
-    ensures { λ r. ⌜ r ≡ headSize + m1 * m2 * planSize planSlots (n - 1) ⌝ }
+    requires { ⌜ total ≤ plansHeld ⌝ }
+    ensures { λ r. ⌜ r ≡ headSize + total * planSize planSlots t ⌝ }
 {
     HEAD_SIZE + total * (COSTS_SIZE + t as usize)
 }
@@ -56,7 +56,13 @@ pub fn list_plans(
     costs: &[i16],
     allowance: u32,
     out: &mut [u8],
-) -> Status {
+) -> Status
+    requires { ⌜ Plannable shape (now ends) (now sums) (now costs) ⌝ }
+    ensures { λ r. ⌜
+        (r ≡ status (plansChecked (netOf shape (now (ends .entry)) (now (sums .entry)) (now (costs .entry))) allowance (length (now (out .entry)))))
+        × (now (out .exit)
+            ≡ plansAfter (netOf shape (now (ends .entry)) (now (sums .entry)) (now (costs .entry))) allowance (now (out .entry))) ⌝ }
+{
     let size = costs.len();
     let mut values = [0i16; CEILINGS_HELD * LINKS_HELD];
     let grid = grid_of(shape, costs, &mut values[..size]);

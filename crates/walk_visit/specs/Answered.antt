@@ -1,10 +1,11 @@
 -- What an answer at a position does to the marks and to the records of plans, by its costs alone.
-use mathlib.Core.List.{List, [], _∷_}
+use mathlib.Core.List.{List}
 use mathlib.Core.Path.{_≡_, sym, ap, _∙_, subst}
 use Prim.Native.Nat.{ℕ, _+_, _*_, _≤_}
 use native.Mathlib.Omega.{arith}
 use lib.IntN.{ℤ}
 use lib.ListN.{drop, length, take}
+use Rattle.network.specs.Calls.{costValues}
 use Rattle.network.specs.Capacities.{ceilingsHeld}
 use Rattle.network.specs.PlanList.{headSize, planBytes, planSize, planSlots}
 use Rattle.network.specs.declared.Answer.{Answer}
@@ -18,14 +19,19 @@ use Rattle.planlist_insertion.specs.Level.{Level}
 use Rattle.planlist_costs.specs.Held.{Writable}
 use Rattle.marking_marks.specs.Paint.{paint}
 use Rattle.marking_marks.specs.Sides.{Inside, runs}
+use Rattle.marking_grid.specs.Gridded.{Held}
 use Rattle.marking_grid.specs.declared.Grid.{Grid}
 use Rattle.walk_visit.specs.Found.{Parted, Placed, lastSides, ownSides}
 
 -- ---- marks
 
--- the sides of the box that an answer settles from some places on
+-- the ceiling costs of a plan, those of absent ceilings included
+abbrev pub planCosts : Costs → List ℤ
+planCosts v = drop 1 (costValues v)
+
+-- the sides of the box that an answer settles from some places on: through the places of a plan's own costs, or else to the last places
 unfoldable pub sidesBy : Shape → List ℤ → Grid → List ℕ → Answer → List ℕ
-sidesBy shape values grid places (Plan v) = ownSides (shape .m) values (take (shape .p) (grid .counts)) places (take (shape .p) (v .y1 ∷ v .y2 ∷ []))
+sidesBy shape values grid places (Plan v) = ownSides (shape .m) values (take (shape .p) (grid .counts)) places (take (shape .p) (planCosts v))
 sidesBy shape values grid places (Refused r) = lastSides (take (shape .p) (grid .counts)) places
 
 -- the marks ms and those that an answer at position n sets
@@ -35,7 +41,7 @@ settledBy shape values grid places n a ms = paint (runs (take (shape .p) (grid .
 -- what setting them asks: places in the ceilings of a grid, and a box that lies inside `size` marks
 pub record Reaches (shape : Shape) (values : List ℤ) (grid : Grid) (places : List ℕ) (n : ℕ) (a : Answer) (size : ℕ) : Type 0 where
   pub ceilings : shape .p ≤ ceilingsHeld
-  pub held : (length (grid .counts) ≡ ceilingsHeld) × (length (grid .strides) ≡ ceilingsHeld)
+  pub held : Held grid
   pub placed : Placed (take (shape .p) (grid .counts)) places
   pub parted : Parted (shape .m) values (take (shape .p) (grid .counts))
   pub inside : Inside (take (shape .p) (grid .strides)) (sidesBy shape values grid places a) n size
@@ -47,7 +53,7 @@ module _ (shape : Shape) (values : List ℤ) (grid : Grid) (places : List ℕ) {
   sides-none e = sym (ap (sidesBy shape values grid places) e)
 
   pub sides-plan : {v : Costs} → a ≡ Plan v
-      → ownSides (shape .m) values (take (shape .p) (grid .counts)) places (take (shape .p) (v .y1 ∷ v .y2 ∷ [])) ≡ sidesBy shape values grid places a
+      → ownSides (shape .m) values (take (shape .p) (grid .counts)) places (take (shape .p) (planCosts v)) ≡ sidesBy shape values grid places a
   unfolding sidesBy
   sides-plan e = sym (ap (sidesBy shape values grid places) e)
 

@@ -1,4 +1,4 @@
--- The sides of the box that an answer settles, as the code finds them: by counts and places, in an array with m values for each ceiling.
+-- What the code finds at a position by its places, in an array with room for m values of each ceiling: its bounds, and the sides of boxes from it.
 use mathlib.Core.List.{List}
 use mathlib.Core.Path.{_≡_}
 use Prim.Native.Nat.{ℕ, _+_, _*_, _-_, _≤_, _<_}
@@ -28,7 +28,7 @@ ownSide m values counts places y i = placeIn (getD y i (pos 0)) (drop (getD plac
 unfoldable pub ownSides : ℕ → List ℤ → List ℕ → List ℕ → List ℤ → List ℕ
 ownSides m values counts places y = tabulate (ownSide m values counts places y) (length counts)
 
--- places that the array has
+-- places that the array has room for
 pub record Within (m : ℕ) (values : List ℤ) (places : List ℕ) : Type 0 where
   pub room : length places * m ≤ length values
   pub low : (i : ℕ) → i < length places → getD places i 0 < m
@@ -38,7 +38,7 @@ pub record Placed (counts places : List ℕ) : Type 0 where
   pub alike : length places ≡ length counts
   pub low : (i : ℕ) → i < length counts → getD places i 0 < getD counts i 0
 
--- so many values that the array has
+-- numbers of values that the array has room for
 pub record Parted (m : ℕ) (values : List ℤ) (counts : List ℕ) : Type 0 where
   pub room : length counts * m ≤ length values
   pub few : (i : ℕ) → i < length counts → getD counts i 0 ≤ m

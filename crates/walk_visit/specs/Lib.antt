@@ -1,4 +1,4 @@
--- what the code finds at a position: its values, the sides of its box
+-- what the code finds at a position: its bounds, the sides of its box
 pub mod Tabulated
 pub mod Found
 -- the places of a position by strides

@@ -1,6 +1,6 @@
 -- One position of the walk, over the ceilings that there are: what it asks, and that what it marks is what the answer settles.
 use mathlib.Core.Bool.{true}
-use mathlib.Core.List.{List, [], _∷_}
+use mathlib.Core.List.{List, []}
 use mathlib.Core.Option.{Option, none, some}
 use mathlib.Core.Path.{_≡_, refl, sym, ap, ap₂, _∙_, subst}
 use Prim.Native.Nat.{ℕ, _*_, _≤_, _<_}
@@ -33,12 +33,13 @@ use Rattle.marking_marks.specs.Box.{sides}
 use Rattle.marking_marks.specs.Settle.{Settled, lasts, lasts-le, lasts-range, own-later, position-at, settled-none, settled-some}
 use Rattle.marking_marks.specs.Sides.{runs}
 use Rattle.marking_grid.specs.Digits.{Steps, digitsBy, sizes, weights}
-use Rattle.marking_grid.specs.Gridded.{Gridded, grid-places, grid-steps, value-count}
+use Rattle.marking_grid.specs.Gridded.{Griddable, Gridded, ceiling-values, grid-places, grid-steps, value-count}
+use Rattle.marking_grid.specs.Parts.{ceilingValues}
 use Rattle.marking_grid.specs.declared.Grid.{Grid}
 use Rattle.walk_visit.specs.Found.{Within, boundsAt, lastSides, ownSides}
 use Rattle.walk_visit.specs.Boxes.{bounds-are, box-inside, box-sides, last-sides, lengths, own-sides, range-at, range-length}
 use Rattle.walk_visit.specs.Position.{Locatable, placesAt}
-use Rattle.walk_visit.specs.Answered.{Reaches, settledBy, sidesBy}
+use Rattle.walk_visit.specs.Answered.{Reaches, planCosts, settledBy, sidesBy}
 
 -- the best tree at position n
 abbrev pub bestAt : Network → ℕ → Option (List ℕ)
@@ -93,6 +94,22 @@ pub record Ready (shape : Shape) (ends sums : List ℕ) (costs array : List ℤ)
   pub plannable : Plannable shape ends sums costs
   pub gridded : Gridded (values (netOf shape ends sums costs)) (shape .m) array grid
 
+-- it can be found, and is what `grid_of` finds
+module _ {shape : Shape} {ends sums : List ℕ} {costs array : List ℤ} (plannable : Plannable shape ends sums costs) where
+  pub griddable : length array ≡ length costs → Griddable (shape .p) (shape .m) costs array
+  griddable e = record {
+    costs-are = plannable .fine .cost-count;
+    array-is = e ∙ plannable .fine .cost-count;
+    links = plannable .fine .few-links;
+    ceilings = plannable .fine .few-ceilings;
+  }
+
+  pub ready-grid : {grid : Grid} → Gridded (ceilingValues (shape .p) (shape .m) costs) (shape .m) array grid → Ready shape ends sums costs array grid
+  ready-grid {grid} g = record {
+    plannable = plannable;
+    gridded = subst (λ (ls : List (List ℤ)). Gridded ls (shape .m) array grid) (ceiling-values (netOf shape ends sums costs) (plannable .fine .rank-count)) g;
+  }
+
 module _ {shape : Shape} {ends sums : List ℕ} {costs array : List ℤ} {grid : Grid} (ready : Ready shape ends sums costs array grid) where
   open Ready ready using (gridded)
 
@@ -117,7 +134,7 @@ module _ {shape : Shape} {ends sums : List ℕ} {costs array : List ℤ} {grid :
     steps : Steps (take (shape .p) (grid .strides))
     steps = subst (λ (k : ℕ). Steps (take k (grid .strides))) ceiling-count (grid-steps gridded n h)
 
-    -- its places
+    -- Its places
     module _ {places : List ℕ} (found : places ≡ placesAt shape grid n) where
       places-are : places ≡ by.places (values net) n
       places-are = found ∙ ap (λ (k : ℕ). digitsBy (take k (grid .strides)) n) (sym ceiling-count) ∙ grid-places gridded n
@@ -134,7 +151,7 @@ module _ {shape : Shape} {ends sums : List ℕ} {costs array : List ℤ} {grid :
         low = λ i g. let k : i < length (values net) = omega (arith, places-length) in omega (arith, range-at there i k, gridded .few i k);
       }
 
-      -- THE QUESTION: its values are the bounds
+      -- THE QUESTION: the values there are the position's
       pub asked : boundsAt (shape .m) array places ≡ getD (positions net) n []
       asked = bounds-are gridded there ∙ ap (λ (is : List ℕ). pick (pos 0) is (values net)) places-are ∙ sym (position-at (yard net) (pos 0) n h)
 
@@ -143,17 +160,17 @@ module _ {shape : Shape} {ends sums : List ℕ} {costs array : List ℤ} {grid :
         sound : Sound (graph net)
         sound = graph-sound net fine
 
-        -- the sides of its box
-        own-costs : (ts : List ℕ) → bestAt net n ≡ some ts → take (shape .p) (costsOf net ts .y1 ∷ costsOf net ts .y2 ∷ []) ≡ ceilingCosts net ts
+        -- a plan holds the costs of the ceilings that there are
+        own-costs : (ts : List ℕ) → bestAt net n ≡ some ts → take (shape .p) (planCosts (costsOf net ts)) ≡ ceilingCosts net ts
         own-costs ts e =
             let few = fine .few-ceilings in
             ap (λ (v : List ℤ). take (shape .p) (drop 1 v)) (costs-padded net ts (omega (arith, fine .rank-count)))
             ∙ take-at (ceilingCosts net ts) (absent net) (shape .p) (picks-length (own-picks net sound n h ts e) ∙ ceiling-count)
 
+        -- the sides of its box
         sides-are : sidesBy shape array grid places a ≡ lengths (by.places (values net) n) (lastPlaces net sound n h (bestAt net n))
         unfolding sidesBy answerOf
-        sides-are =
-            ap₂ (sidesBy shape array grid) places-are answered ∙ go (bestAt net n) refl
+        sides-are = ap₂ (sidesBy shape array grid) places-are answered ∙ go (bestAt net n) refl
           where
             is : List ℕ
             is = by.places (values net) n
@@ -164,7 +181,7 @@ module _ {shape : Shape} {ends sums : List ℕ} {costs array : List ℤ} {grid :
                 ap₂ (λ (cs : List ℕ) (y : List ℤ). ownSides (shape .m) array cs is y) counts-are (own-costs ts e)
                 ∙ own-sides gridded (from net sound n h) (own-picks net sound n h ts e) (falls net sound n h) (own-below net sound n h ts e)
 
-        -- it lies inside the marks
+        -- which lies inside the marks
         pub reaches : {size : ℕ} → positionCount net ≤ size → Reaches shape array grid places n a size
         reaches {size} room =
             let last = last-places net sound n h (bestAt net n) refl in
@@ -185,7 +202,7 @@ module _ {shape : Shape} {ends sums : List ℕ} {costs array : List ℤ} {grid :
               inside = rw (strides-are, sides-are) (rw (places-number (values net) n h) at box);
             }
 
-        -- and the marks that it sets are what it settles
+        -- and the marks that it sets are what the answer settles
         pub settles : (ms : List ℕ) → positionCount net ≤ length ms → Settled (yard net) n (bestAt net n) ms (settledBy shape array grid places n a ms)
         unfolding settledBy
         settles ms room =

@@ -1,151 +1,133 @@
--- `walk::list::list_plans` meets its contract: the links in order and the values of the two ceilings are what the walk sets out with.
-use mathlib.Core.List.{List}
-use mathlib.Core.Path.{_≡_, sym, _∙_}
-use Prim.Native.Nat.{_≤_}
+-- `walk::list::list_plans` meets its contract: the network and the grid of its ceilings are what the walk sets out with.
+use mathlib.Core.List.{_++_}
+use mathlib.Core.Path.{_≡_, refl, sym, ap, _∙_, subst, subst⁻¹}
+use Prim.Native.Nat.{ℕ, _+_, _*_, _≤_}
+use native.Mathlib.Nat.{mul-le-mul}
 use native.Mathlib.Omega.{arith}
 use borrow.Author.Needs.{needs}
-use lib.IntN.{ℤ}
-use lib.ListN.{length, take}
+use lib.IntN.{pos}
+use lib.ListN.{drop, length, replicate, take}
 use lib.Seq.{length-take-le}
-use Rattle.network.specs.Capacities.{linksHeld}
-use Rattle.network.specs.PlanList.{bufferNeed}
-use Rattle.walk_visit.specs.Visit.{Ready, count-limit, need-is}
+use Rattle.network.specs.Capacities.{ceilingsHeld, linksHeld}
+use Rattle.network.specs.Network.{Network}
+use Rattle.network.specs.PlanList.{bufferNeed, headSize, planSize, planSlots}
+use Rattle.network.specs.Shaped.{netOf}
+use Rattle.network.specs.Walk.{positionCount}
+use Rattle.walk_visit.specs.Visit.{Ready, griddable, ready-grid}
+use Rattle.walk_positions.specs.Lent.{lent-back}
 use Rattle.walk.specs.Call.{room-reply, short-reply}
-use Rattle.walk.specs.Concluded.{outcome-room}
+use Rattle.walk.specs.Concluded.{concluded, outcome-room}
 use Rattle.walk.proofs.list.list_plans.Statement.{statement}
 use Rattle.walk.proofs.list.list_plans.Tie as tie
 
--- ---- where the need is known, and with it what the walk sets out with
+-- the network of a call
+abbrev network : tie.Start → Network
+network s = let a = s .args in netOf (a .shape) (a .ends .now) (a .sums .now) (a .costs .now)
 
-abbrev start : tie.After-need → tie.Start
-start c = c .before .before .before .before .before .before .before .before .before .before .before
+-- the array of values has room for as many as there are costs
+few : (s : tie.Start) → length (s .args .costs .now) ≤ ceilingsHeld * linksHeld
+few s = let fine = s .pre .fine in omega (arith, fine .cost-count, mul-le-mul (fine .few-ceilings) (fine .few-links))
 
-abbrev values1 : tie.After-need → List ℤ
-values1 c = let r = c .before .before .before .before .before .ceiling-values in take (r .result) (r .last .1 .1 .0)
+values-size : (s : tie.Start) → length (take (length (s .args .costs .now)) (replicate (ceilingsHeld * linksHeld) (pos 0))) ≡ length (s .args .costs .now)
+values-size s = length-take-le (length (s .args .costs .now)) (replicate (ceilingsHeld * linksHeld) (pos 0)) (few s)
 
-abbrev values2 : tie.After-need → List ℤ
-values2 c = let r = c .before .before .ceiling-values2 in take (r .result) (r .last .1 .1 .0)
+-- ---- when the grid is known
 
-ready : (c : tie.After-need)
-    → Ready (start c .args .net) (c .before .before .before .before .before .before .before .order-links .result) (values1 c) (values2 c)
-ready c =
-    record {
-      fine = start c .pre;
-      ordered = c .before .before .before .before .before .before .before .order-links .ensures;
-      first = c .before .before .before .before .before .ceiling-values .ensures .1;
-      second = c .before .before .ceiling-values2 .ensures .1;
-    }
+abbrev start : tie.After-grid-of → tie.Start
+start c = c .before .before .before .before .before
 
--- as many values as were counted
-count1 : (c : tie.After-need) → length (values1 c) ≡ c .before .before .before .before .before .ceiling-values .result
-count1 c =
-    let r = c .before .before .before .before .before .ceiling-values in
-    let size : length (r .last .1 .1 .0) ≡ linksHeld = search needs in
-    length-take-le (r .result) (r .last .1 .1 .0) (omega (arith, r .ensures .0))
+-- the values stand at the front of their array
+front : (c : tie.After-grid-of)
+    → let n = length (start c .args .costs .now) in
+    let l = c .grid-of .last .1 .1 .0 in
+    let array = l ++ drop n (replicate (ceilingsHeld * linksHeld) (pos 0)) in
+    (take n array ≡ l) × (length (take n array) ≡ n) × (n ≤ length array) × (length array ≡ ceilingsHeld * linksHeld)
+front c =
+    lent-back (c .grid-of .last .1 .1 .0) (replicate (ceilingsHeld * linksHeld) (pos 0)) (length (start c .args .costs .now))
+    (c .grid-of .kept .1 .1 .0 ∙ values-size (start c)) refl (few (start c))
 
-count2 : (c : tie.After-need) → length (values2 c) ≡ c .before .before .ceiling-values2 .result
-count2 c =
-    let r = c .before .before .ceiling-values2 in
-    let size : length (r .last .1 .1 .0) ≡ linksHeld = search needs in
-    length-take-le (r .result) (r .last .1 .1 .0) (omega (arith, r .ensures .0))
+-- what the walk sets out with
+ready : (c : tie.After-grid-of)
+    → let a = start c .args in Ready (a .shape) (a .ends .now) (a .sums .now) (a .costs .now) (c .grid-of .last .1 .1 .0) (c .grid-of .result)
+ready c = ready-grid (start c .pre) (c .grid-of .ensures)
 
-few : (c : tie.After-need) → (length (values1 c) ≤ linksHeld) × (length (values2 c) ≤ linksHeld)
-few c =
-    let first = c .before .before .before .before .before .ceiling-values .ensures in
-    let second = c .before .before .ceiling-values2 .ensures in
-    (omega (arith, count1 c, first .0), omega (arith, count2 c, second .0))
+-- ---- when the need is known
+
+abbrev grown : tie.After-need → tie.After-grid-of
+grown c = c .before .before
 
 -- what was computed is what the list buffer needs
-need-known : (c : tie.After-need) → c .need .result ≡ bufferNeed (start c .args .net)
-need-known c = c .need .ensures ∙ need-is (ready c) _ _ (count1 c) (count2 c)
+need-known : (c : tie.After-need) → c .need .result ≡ bufferNeed (network (start (grown c)))
+need-known c =
+    let s = start (grown c) in
+    c .need .ensures
+    ∙ ap (λ (k : ℕ). headSize + k * planSize planSlots (s .args .shape .t)) (ready (grown c) .gridded .total)
+    ∙ ap (λ (t : ℕ). headSize + positionCount (network s) * planSize planSlots t) (s .pre .tree)
 
-slice-aggregate-order-links : tie.Need-slice-aggregate-order-links
-slice-aggregate-order-links c = search needs
+array-borrow-prefix-values : tie.Need-array-borrow-prefix-values
+array-borrow-prefix-values c = few (c .before .before .before)
 
-order-links-requires : tie.Need-order-links-requires
-order-links-requires c κs =
-    let fine = c .before .before .before .pre in
-    (fine .few-links, omega arith, fine .cheap)
+slice-aggregate-grid-of : tie.Need-slice-aggregate-grid-of
+slice-aggregate-grid-of c = sym (values-size (c .before .before .before .before))
 
-slice-aggregate-ceiling-values : tie.Need-slice-aggregate-ceiling-values
-slice-aggregate-ceiling-values c = search needs
-
-ceiling-values-requires : tie.Need-ceiling-values-requires
-ceiling-values-requires c κs = search needs
-
-slice-aggregate-ceiling-values-2 : tie.Need-slice-aggregate-ceiling-values-2
-slice-aggregate-ceiling-values-2 c = search needs
-
-ceiling-values-requires-2 : tie.Need-ceiling-values-requires-2
-ceiling-values-requires-2 c κs = search needs
+grid-of-requires : tie.Need-grid-of-requires
+grid-of-requires c κs = let s = c .before .before .before .before in griddable (s .pre) (values-size s)
 
 need-requires : tie.Need-need-requires
-need-requires c κs = search needs
+need-requires c κs = 
+    let known = c .before in
+    omega (arith, ready known .gridded .total, start known .pre .fine .few-positions)
 
 returns : tie.Need-returns
 returns c = let e = need-known (c .before) in short-reply _ _ _ (omega arith)
 
+array-share-prefix-values : tie.Need-array-share-prefix-values
+array-share-prefix-values c = front (grown (c .before)) .2
+
 slice-aggregate-visit-all : tie.Need-slice-aggregate-visit-all
-slice-aggregate-visit-all c = search needs
-
-array-share-prefix-v1 : tie.Need-array-share-prefix-v1
-array-share-prefix-v1 c = search needs
-
-slice-aggregate-visit-all-2 : tie.Need-slice-aggregate-visit-all-2
-slice-aggregate-visit-all-2 c = sym (count1 (c .before .before .before))
-
-array-share-prefix-v2 : tie.Need-array-share-prefix-v2
-array-share-prefix-v2 c = search needs
-
-slice-aggregate-visit-all-3 : tie.Need-slice-aggregate-visit-all-3
-slice-aggregate-visit-all-3 c = sym (count2 (c .before .before .before .before))
+slice-aggregate-visit-all c = sym (front (grown (c .before .before)) .1)
 
 visit-all-requires : tie.Need-visit-all-requires
-visit-all-requires c κs =
-    let known = c .before .before .before .before .before in
-    (ready known, few known .0, few known .1, omega (arith, need-known known))
-
-sub-conclude : tie.Need-sub-conclude
-sub-conclude c = search needs
+visit-all-requires c κs = 
+    let known = c .before .before .before in
+    (rw (front (grown known) .0) (ready (grown known)), omega (arith, need-known known, c .before .before .if1 .left))
 
 conclude-requires : tie.Need-conclude-requires
-conclude-requires c κs =
-    let walked = c .before .before .before .before in
-    let known = walked .before .before .before .before .before .before in
-    outcome-room (start known .args .net) (walked .visit-all .ensures) (count-limit (ready known) (few known .0) (few known .1))
-    (omega (arith, need-known known, walked .visit-all .kept))
+conclude-requires c κs = 
+    let walked = c .before .before .before in
+    let known = walked .before .before .before .before in
+    let s = start (grown known) in
+    let after = walked .visit-all .last .1 .1 .1 .1 .1 .1 .1 .0 in
+    let room : bufferNeed (network s) ≤ length after =
+    omega (arith, need-known known, walked .before .before .before .if1 .left, walked .visit-all .kept .1 .1 .1 .1 .1 .1 .1 .0) in
+    rw (s .pre .tree) (outcome-room (network s) (walked .visit-all .ensures) (s .pre .fine .few-positions) room)
 
 same-length : tie.Need-same-length
 same-length c = search needs
 
 returns-2 : tie.Need-returns-2
-returns-2 c =
-    let walked = c .before .before .before .before .before .before .before in
-    let known = walked .before .before .before .before .before .before in
-    let a = start known .args in
+returns-2 c = 
+    let walked = c .before .before .before .before .before .before in
+    let known = walked .before .before .before .before in
+    let s = start (grown known) in
     let end = c .before .before .conclude .ensures in
-    room-reply (a .net) (a .allowance) (a .out .now) (omega (arith, need-known known)) (walked .visit-all .ensures)
-    (walked .visit-all .kept .1 .1 .1 .1 .1 .0) (end .0) (end .1)
+    let after = walked .visit-all .last .1 .1 .1 .1 .1 .1 .1 .0 in
+    let bytes = end .1 ∙ ap (λ (t : ℕ). concluded (walked .visit-all .result) t (s .args .shape .p) after) (s .pre .tree) in
+    room-reply (network s) (s .args .allowance) (s .args .out .now) (omega (arith, need-known known, walked .before .before .before .if1 .left))
+    (walked .visit-all .ensures) (walked .visit-all .kept .1 .1 .1 .1 .1 .1 .1 .0) (end .0) bytes
 
 pub list-plans-spec : {M : Type 1} → statement M
 list-plans-spec =
     tie.close
     (tie.spec
-    slice-aggregate-order-links
-    order-links-requires
-    slice-aggregate-ceiling-values
-    ceiling-values-requires
-    slice-aggregate-ceiling-values-2
-    ceiling-values-requires-2
+    array-borrow-prefix-values
+    slice-aggregate-grid-of
+    grid-of-requires
     need-requires
     returns
+    array-share-prefix-values
     slice-aggregate-visit-all
-    array-share-prefix-v1
-    slice-aggregate-visit-all-2
-    array-share-prefix-v2
-    slice-aggregate-visit-all-3
     visit-all-requires
-    sub-conclude
     conclude-requires
     same-length
     returns-2)

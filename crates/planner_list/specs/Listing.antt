@@ -5,12 +5,12 @@ use Prim.Native.Nat.{ℕ}
 use lib.ListN.{length}
 use Rattle.network.specs.Checked.{_orElse_}
 use Rattle.network.specs.Refusals.{checkedOf}
+use Rattle.network.specs.Survey.{networkOf}
 use Rattle.network.specs.Calls.{ifFine, listAfter, listChecked, listStatus, plansAfter, plansChecked, status}
-use Rattle.network.specs.declared.Checked.the-variants.{Refused}
+use Rattle.network.specs.declared.Checked.the-variants.{Fine, Refused}
 use Rattle.network.specs.Network.{Network}
 use Rattle.network.specs.declared.Refusal.{Refusal}
 use Rattle.network.specs.declared.Status.{Status}
-use Rattle.survey.specs.Survey.{Read}
 
 module _ (s : List ℕ) (allowance : ℕ) (buffer : List ℕ) where
   -- the survey is refused
@@ -20,10 +20,11 @@ module _ (s : List ℕ) (allowance : ℕ) (buffer : List ℕ) where
   list-refused r e = (rw e, rw e)
 
   -- it is accepted, and the call is made on its network
-  pub list-accepted : (net : Network) → Read s net → (r : Status) (left : List ℕ) → r ≡ status (plansChecked net allowance (length buffer))
-      → left ≡ plansAfter net allowance buffer → (r ≡ listStatus s allowance (length buffer)) × (left ≡ listAfter s allowance buffer)
+  pub list-accepted : checkedOf s ≡ Fine → (net : Network) → net ≡ networkOf s → (r : Status) (left : List ℕ)
+      → r ≡ status (plansChecked net allowance (length buffer)) → left ≡ plansAfter net allowance buffer
+      → (r ≡ listStatus s allowance (length buffer)) × (left ≡ listAfter s allowance buffer)
   unfolding listStatus listChecked listAfter ifFine _orElse_
-  list-accepted net read r left e f =
-      let reply = subst (λ (w : Network). r ≡ status (plansChecked w allowance (length buffer))) (read .network) e in
-      let bytes = subst (λ (w : Network). left ≡ plansAfter w allowance buffer) (read .network) f in
-      (rw (read .accepted) reply, rw (read .accepted) bytes)
+  list-accepted accepted net same r left e f =
+      let reply = subst (λ (w : Network). r ≡ status (plansChecked w allowance (length buffer))) same e in
+      let bytes = subst (λ (w : Network). left ≡ plansAfter w allowance buffer) same f in
+      (rw accepted reply, rw accepted bytes)

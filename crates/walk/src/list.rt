@@ -61,7 +61,7 @@ pub fn list_plans(
     ensures { λ r. ⌜
         (r ≡ status (plansChecked (netOf shape (now (ends .entry)) (now (sums .entry)) (now (costs .entry))) allowance (length (now (out .entry)))))
         × (now (out .exit)
-            ≡ plansAfter (netOf shape (now (ends .entry)) (now (sums .entry)) (now (costs .entry))) allowance (now (out .entry))) ⌝ }
+        ≡ plansAfter (netOf shape (now (ends .entry)) (now (sums .entry)) (now (costs .entry))) allowance (now (out .entry))) ⌝ }
 {
     let size = costs.len();
     let mut values = [0i16; CEILINGS_HELD * LINKS_HELD];

@@ -74,7 +74,7 @@ grid-of-requires : tie.Need-grid-of-requires
 grid-of-requires c κs = let s = c .before .before .before .before in griddable (s .pre) (values-size s)
 
 need-requires : tie.Need-need-requires
-need-requires c κs = 
+need-requires c κs =
     let known = c .before in
     omega (arith, ready known .gridded .total, start known .pre .fine .few-positions)
 
@@ -88,12 +88,12 @@ slice-aggregate-visit-all : tie.Need-slice-aggregate-visit-all
 slice-aggregate-visit-all c = sym (front (grown (c .before .before)) .1)
 
 visit-all-requires : tie.Need-visit-all-requires
-visit-all-requires c κs = 
+visit-all-requires c κs =
     let known = c .before .before .before in
     (rw (front (grown known) .0) (ready (grown known)), omega (arith, need-known known, c .before .before .if1 .left))
 
 conclude-requires : tie.Need-conclude-requires
-conclude-requires c κs = 
+conclude-requires c κs =
     let walked = c .before .before .before in
     let known = walked .before .before .before .before in
     let s = start (grown known) in
@@ -106,7 +106,7 @@ same-length : tie.Need-same-length
 same-length c = search needs
 
 returns-2 : tie.Need-returns-2
-returns-2 c = 
+returns-2 c =
     let walked = c .before .before .before .before .before .before in
     let known = walked .before .before .before .before in
     let s = start (grown known) in

@@ -196,12 +196,12 @@ cast-t : tie.Need-cast-t Inv-loop μ-loop
 cast-t c = search needs
 
 order-links-requires : tie.Need-order-links-requires Inv-loop μ-loop
-order-links-requires c κs = 
+order-links-requires c κs =
     let fine = c .before .before .before .before .before .pre .0 .plannable .fine in
     (omega (arith, fine .sum-count, fine .few-links), λ e h. fine .cheap e (omega (arith, fine .sum-count)))
 
 loop-holds : tie.Need-loop-holds Inv-loop μ-loop
-loop-holds c = 
+loop-holds c =
     let s = c .before .before .before .before .before .before in (
       refl,
       refl,
@@ -220,7 +220,7 @@ same-length : tie.Need-same-length Inv-loop μ-loop
 same-length c = omega arith
 
 returns : tie.Need-returns Inv-loop μ-loop
-returns c = 
+returns c =
     let turn = c .before in
     let l = turn .before .loop in
     let net = network (entry turn) in
@@ -240,17 +240,17 @@ slice-aggregate-put-position-2 : tie.Need-slice-aggregate-put-position-2 Inv-loo
 slice-aggregate-put-position-2 c = sym (ceilings (c .before .before .before) .1)
 
 put-position-requires : tie.Need-put-position-requires Inv-loop μ-loop
-put-position-requires c κs = 
+put-position-requires c κs =
     let turn = c .before .before .before in
     (locatable (entry turn .pre .0) (turn .before .loop .n) (inside turn), ceilings turn .0, ceilings turn .1)
 
 array-share-prefix-order : tie.Need-array-share-prefix-order Inv-loop μ-loop
-array-share-prefix-order c = 
+array-share-prefix-order c =
     let size : length (c .before .before .before .before .before .before .before .before .order-links .result) ≡ linksHeld = search needs in
     omega (arith, c .before .before .before .before .before .before .before .before .before .before .before .before .before .before .pre .0 .plannable .fine .few-links)
 
 slice-aggregate-solve : tie.Need-slice-aggregate-solve Inv-loop μ-loop
-slice-aggregate-solve c = 
+slice-aggregate-solve c =
     sym (ap length (ordered (c .before .before .before .before .before .before .before .before .before)) ∙ order-length _ ∙ c .before .before .before .before .before .before .before .before .before .before .before .before .before .before .before .pre .0 .plannable .fine .sum-count)
 
 array-share-prefix-bounds : tie.Need-array-share-prefix-bounds Inv-loop μ-loop
@@ -263,12 +263,15 @@ slice-aggregate-solve-3 : tie.Need-slice-aggregate-solve-3 Inv-loop μ-loop
 slice-aggregate-solve-3 c = sym (c .before .before .before .before .before .before .before .before .before .before .loop .inv .2)
 
 solve-requires : tie.Need-solve-requires Inv-loop μ-loop
-solve-requires c κs = 
+solve-requires c κs =
     let found = c .before .before .before .before .before in
     let turn = located found in
-    let s = entry turn in
-    (s .pre .0 .plannable, ordered (turn .before .before), bounds-front found .1,
-    omega (arith, tree-room s, turn .before .loop .inv .2))
+    let s = entry turn in (
+      s .pre .0 .plannable,
+      ordered (turn .before .before),
+      bounds-front found .1,
+      omega (arith, tree-room s, turn .before .loop .inv .2),
+    )
 
 slice-aggregate-settle : tie.Need-slice-aggregate-settle Inv-loop μ-loop
 slice-aggregate-settle c = sym (c .before .before .before .before .before .before .before .before .before .before .before .before .before .loop .inv .3)
@@ -280,7 +283,7 @@ slice-aggregate-settle-2 : tie.Need-slice-aggregate-settle-2 Inv-loop μ-loop
 slice-aggregate-settle-2 c = let found = c .before .before .before .before .before .before .before .before .before in sym (places-front found .1)
 
 settle-requires : tie.Need-settle-requires Inv-loop μ-loop
-settle-requires c κs = 
+settle-requires c κs =
     let asking = c .before .before .before in
     let found = solved-at asking in
     let turn = located found in
@@ -294,7 +297,7 @@ slice-aggregate-take-in : tie.Need-slice-aggregate-take-in Inv-loop μ-loop
 slice-aggregate-take-in c = let asking = c .before .before .before .before .before .before .before in sym (length-take-le _ _ (omega (arith, tree-size asking, tree-room (entry (located (solved-at asking))))))
 
 take-in-requires : tie.Need-take-in-requires Inv-loop μ-loop
-take-in-requires c κs = 
+take-in-requires c κs =
     let asking = c .before .before .before .before .before .before .before in
     let turn = located (solved-at asking) in
     let l = turn .before .loop in
@@ -306,34 +309,34 @@ take-in-requires c κs =
     (prepared net (l .n) (inside turn) (l .inv .10) (can .fine) (room turn)))
 
 add-solved : tie.Need-add-solved Inv-loop μ-loop
-add-solved c = 
+add-solved c =
     let turn = c .before .before .before .before .before .before .before .before .before .before .before .before .before .before .before .before .before .before .before .before in
     omega (arith, inside turn, counted (entry turn) .1, turn .before .loop .inv .7)
 
 slice-aggregate-next-unmarked : tie.Need-slice-aggregate-next-unmarked Inv-loop μ-loop
-slice-aggregate-next-unmarked c = 
+slice-aggregate-next-unmarked c =
     let marking = c .before .before .before .before .before .before .before in
     sym (marking .settle .kept .0 ∙ located (solved-at (settled-at marking)) .before .loop .inv .3)
 
 add-next-unmarked : tie.Need-add-next-unmarked Inv-loop μ-loop
-add-next-unmarked c = 
+add-next-unmarked c =
     let turn = c .before .before .before .before .before .before .before .before .before .before .before .before .before .before .before .before .before .before .before .before .before in
     omega (arith, inside turn, counted (entry turn) .1)
 
 next-unmarked-requires : tie.Need-next-unmarked-requires Inv-loop μ-loop
-next-unmarked-requires c κs = 
+next-unmarked-requires c κs =
     let marking = c .before .before .before .before .before .before .before in
     let turn = located (solved-at (settled-at marking)) in
     let all = counted (entry turn) in
     (omega (arith, turn .loop-test .taken), omega (arith, all, marking .settle .kept .0, turn .before .loop .inv .3))
 
 loop-less : tie.Need-loop-less Inv-loop μ-loop
-loop-less c = 
+loop-less c =
     let turn = c .before .before .before .before .before .before .before .before .before .before .before .before .before .before .before .before .before .before .before .before .before .before in
     omega (arith, turn .loop-test .taken, c .next-unmarked .ensures .0)
 
 loop-again : tie.Need-loop-again Inv-loop μ-loop
-loop-again c = 
+loop-again c =
     let taking = c .before .before .before .before in
     let marking = taken-at taking in
     let asking = settled-at marking in
@@ -364,7 +367,7 @@ same-length-2 : tie.Need-same-length-2 Inv-loop μ-loop
 same-length-2 c = omega arith
 
 returns-2 : tie.Need-returns-2 Inv-loop μ-loop
-returns-2 c = 
+returns-2 c =
     let s = c .before .before .before .before .before .before .before .before in
     let l = c .before .loop in
     ended-outcome (network s) (omega (arith, counted s .0, l .inv .5, l .inv .6)) (l .inv .8)

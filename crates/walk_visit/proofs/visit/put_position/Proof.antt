@@ -31,7 +31,7 @@ put-places-requires : tie.Need-put-places-requires
 put-places-requires c κs = let p = start (c .before) .pre in (p .0 .steps, p .1 ∙ sym (each (c .before)))
 
 put-bounds-requires : tie.Need-put-bounds-requires
-put-bounds-requires c κs = 
+put-bounds-requires c κs =
     let found = c .before .before .before .before .put-places in
     let s = start (c .before .before .before .before .before .before) in
     let size : length (found .last .1 .1 .0) ≡ s .args .shape .p = found .kept .1 .1 .0 ∙ s .pre .1 in
@@ -44,7 +44,7 @@ same-length-2 : tie.Need-same-length-2
 same-length-2 c = search needs
 
 returns : tie.Need-returns
-returns c = 
+returns c =
     let found = c .before .before .before .before .before .before .put-places .ensures in
     let s = start (c .before .before .before .before .before .before .before .before) in
     (found, c .before .put-bounds .ensures ∙ ap (boundsAt (s .args .shape .m) (s .args .values .now)) found)

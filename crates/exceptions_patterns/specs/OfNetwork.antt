@@ -1,5 +1,5 @@
 -- The patterns of a network's links under bounds: what they say is what the theory's ceilings say.
-use Prim.Native.Nat.{ℕ, _≤_, _<_}
+use Prim.Native.Nat.{ℕ, _<_}
 use mathlib.Core.Bool.{not}
 use mathlib.Core.List.{List, [], _∷_, map, List·Memᴰ·head as here, List·Memᴰ·tail as there}
 use mathlib.Core.Path.{_≡_, refl, sym, ap₂, _∙_}

@@ -3,7 +3,7 @@ use marking_values::values::different_values;
 use network::Shape;
 use network::capacities::CEILINGS_HELD;
 ghost use mathlib.Core.Path.{_≡_};
-ghost use Prim.Native.Nat.{_*_, _/_, _%_, _≤_, _<_};
+ghost use Prim.Native.Nat.{_/_, _%_, _<_};
 ghost use lib.ListN.{length};
 ghost use Rattle.network.specs.Capacities.{ceilingsHeld};
 ghost use Rattle.marking_grid.specs.Digits.{Few, Steps, digitsBy, total, weights};
@@ -66,7 +66,7 @@ pub fn grid_of(shape: Shape, costs: &[i16], values: &mut [i16]) -> Grid
 }
 
 // The place in a ceiling of stride `stride`, and the rest of the number.
-pub struct Digit {
+struct Digit {
     pub place: usize,
     pub rest: usize,
 }

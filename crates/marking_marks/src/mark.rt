@@ -8,7 +8,7 @@ ghost use Rattle.marking_marks.specs.Sides.{Inside, runs};
 ghost use Rattle.marking_marks.specs.Unmarked.{nextUnmarked};
 
 // Marks n positions from one on.
-pub fn mark_row(marks: &mut [u8], start: usize, n: usize)
+fn mark_row(marks: &mut [u8], start: usize, n: usize)
     requires { ⌜ start + n ≤ length (now marks) ⌝ }
     ensures { λ _. ⌜ now (marks .exit) ≡ paint (run 1 n ∷ []) start (now (marks .entry)) ⌝ }
 {
@@ -22,7 +22,7 @@ pub fn mark_row(marks: &mut [u8], start: usize, n: usize)
 }
 
 // Marks n positions in each of some rows, whose starts are a stride apart.
-pub fn mark_rows(marks: &mut [u8], start: usize, stride: usize, rows: usize, n: usize)
+fn mark_rows(marks: &mut [u8], start: usize, stride: usize, rows: usize, n: usize)
     requires { ⌜ (stride ≤ length (now marks)) × (start + stride * rows + n ≤ length (now marks) + stride) ⌝ }
     ensures { λ _. ⌜ now (marks .exit) ≡ paint (run stride rows ∷ run 1 n ∷ []) start (now (marks .entry)) ⌝ }
 {

@@ -1,18 +1,18 @@
 -- What holds of the bytes of a survey that is accepted.
-use Prim.Native.Nat.{ℕ, zero, suc, _+_, _-_, _*_, _/_, _%_, _≤_, _<_}
+use Prim.Native.Nat.{ℕ, _+_, _-_, _*_, _/_, _%_, _≤_, _<_}
 use mathlib.Core.Path.{_≡_, refl, ap}
 use mathlib.Core.Bool.{Bool, true, false, _||_}
 use mathlib.Core.List.{List}
 use native.Mathlib.Nat.{div-add-mod', mul-le-mul-right, suc-mul}
 use native.Mathlib.Omega.{arith}
-use borrow.Author.Tests.{eqb-true, eqb-false, leb-false, ltb-false, not-false}
+use borrow.Author.Tests.{eqb-true, leb-false, ltb-false, not-false}
 use lib.ListN.{length}
 use Rattle.network.specs.Limits.{maxCeilings, maxLinks, maxStations}
 use Rattle.network.specs.Bytes.{byteAt, markAt}
-use Rattle.network.specs.Survey.{ceilingsIn, costBitsIn, endIn, linkCount, linkSize, linkStart, ranksIn, stationsIn, sumIn}
+use Rattle.network.specs.Survey.{ceilingsIn, endIn, linkCount, linkSize, linkStart, ranksIn, stationsIn, sumIn}
 use Rattle.network.specs.Layouts.{Roomy}
 use Rattle.network.specs.Checked.{fine-both, first-fine, refuse-fine}
-use Rattle.network.specs.Refusals.{absentCost, badCount, badLength, badRanks, badSum, checkedWith, linkChecked, linkCheckedAt, yardChecked}
+use Rattle.network.specs.Refusals.{badCount, badLength, badRanks, badSum, checkedWith, linkChecked, linkCheckedAt, yardChecked}
 use Rattle.network.specs.declared.Checked.the-variants.{Fine}
 use Rattle.network.specs.declared.Layout.{Layout}
 
@@ -69,20 +69,12 @@ yard-fine s l m e =
       ranks = refuse-fine _ _ _ (to6 .1);
     }
 
--- what holds of 0 and of 1
-pub below-two : (P : ℕ → Type 0) → P 0 → P 1 → (j : ℕ) → j < 2 → P j
-below-two P p q zero h = p
-below-two P p q (suc zero) h = q
-below-two P p q (suc (suc j)) h = absurd (omega arith)
-
 -- the link record at an index
 pub record LinkFine (s : List ℕ) (at : ℕ) (mark : List ℕ) (n p : ℕ) : Type 0 where
   pub marked : markAt s at mark ≡ true
   pub first-end : byteAt s (at + 2) < n
   pub second-end : byteAt s (at + 3) < n
-  pub two-ends : byteAt s (at + 2) ≡ byteAt s (at + 3) → ⊥
   pub priced : badSum (sumIn s at) ≡ false
-  pub absent : (j : ℕ) → j < 2 → absentCost p j (costBitsIn s at j) ≡ false
 
 pub link-fine : (s : List ℕ) (at : ℕ) (mark : List ℕ) (n p place : ℕ) → linkChecked s at mark n p place ≡ Fine → LinkFine s at mark n p
 unfolding linkChecked
@@ -99,9 +91,7 @@ link-fine s at mark n p place e =
       marked = not-false _ (refuse-fine _ _ _ (to2 .0));
       first-end = leb-false _ _ (each .0);
       second-end = leb-false _ _ (each .1);
-      two-ends = eqb-false _ _ (ends .1);
       priced = sum .0;
-      absent = below-two _ (sum .1) (costs .1);
     }
 
 -- the sum costs of m link records are in their range

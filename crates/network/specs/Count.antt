@@ -11,13 +11,12 @@ use store.Seg.{eqb-same}
 use borrow.Author.Tests.{le-ltb}
 use Rattle.network.specs.Moved.{Moved, moved-mark, moved-on, moved-u16, moved-u32}
 use Rattle.network.specs.Tabulate.{tabulate-same}
-use Rattle.network.specs.Survey.{ceilingIn, costIn, costsIn, endsIn, linkCount, linkSize, linkStart, networkOf, networkWith, raised, sumIn, sumsIn, yardSize}
-use Rattle.network.specs.Survey.{layoutOf, plain, rowWhere, withCount}
+use Rattle.network.specs.Survey.{ceilingIn, costIn, costsIn, endsIn, layoutOf, linkCount, linkSize, linkStart, networkOf, networkWith, plain}
+use Rattle.network.specs.Survey.{raised, rowWhere, sumIn, sumsIn, withCount, yardSize}
 use Rattle.network.specs.Checked.{firstRefusal, refuseIf, _orElse_}
 use Rattle.network.specs.Refusals.{badCount, badLength, checkedOf, checkedWith, linkChecked, linkCheckedAt, linksChecked, yardChecked}
 use Rattle.network.specs.Alike.{Alike, alike}
 use Rattle.network.specs.declared.Checked.{Checked}
-use Rattle.network.specs.declared.Layout.{Layout}
 
 -- ---- the right count
 
@@ -75,19 +74,19 @@ module _ (n p k1 k2 : ℕ) (links : List ℕ) where
 
   ends-same : (m : ℕ) → endsIn withCount s′ m ≡ endsIn plain s m
   unfolding endsIn
-  ends-same m = tabulate-same _ _ (λ q. moved-on (moved-link (q / 2)) 2 .each (q % 2)) (2 * m)
+  ends-same m = tabulate-same _ _ (2 * m) (λ q h. moved-on (moved-link (q / 2)) 2 .each (q % 2))
 
   sums-same : (m : ℕ) → sumsIn withCount s′ m ≡ sumsIn plain s m
   unfolding sumsIn
   sums-same m =
-      tabulate-same (λ i. raised (sumIn s′ (linkStart withCount i))) (λ i. raised (sumIn s (linkStart plain i)))
-      (λ i. rw (moved-u32 (moved-on (moved-link i) 4))) m
+      tabulate-same (λ i. raised (sumIn s′ (linkStart withCount i))) (λ i. raised (sumIn s (linkStart plain i))) m
+      (λ i h. rw (moved-u32 (moved-on (moved-link i) 4)))
 
   ceiling-same : (m j : ℕ) → ceilingIn withCount s′ m j ≡ ceilingIn plain s m j
   unfolding ceilingIn
   ceiling-same m j =
-      tabulate-same (λ i. costIn s′ (linkStart withCount i) j) (λ i. costIn s (linkStart plain i) j)
-      (λ i. rw (moved-u16 (moved-on (moved-on (moved-link i) 8) (2 * j)))) m
+      tabulate-same (λ i. costIn s′ (linkStart withCount i) j) (λ i. costIn s (linkStart plain i) j) m
+      (λ i h. rw (moved-u16 (moved-on (moved-on (moved-link i) 8) (2 * j))))
 
   costs-same : (m p : ℕ) → costsIn withCount s′ m p ≡ costsIn plain s m p
   unfolding costsIn

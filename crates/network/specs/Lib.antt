@@ -27,7 +27,7 @@ pub mod Writing
 pub mod Printing
 -- the yards worked through, P1 to P33
 pub mod Worked
--- theorems: what the definitions mean, what holds of a survey's layout, of an accepted survey's bytes, of its sum costs, of its ceiling costs and of its network
+-- theorems: what the definitions mean, what holds of a survey's layout, of an accepted survey's bytes, of its costs and of its network
 pub mod Meaning
 pub mod Layouts
 pub mod Accepted

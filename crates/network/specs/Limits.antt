@@ -1,5 +1,5 @@
 -- The limits of document 01. Ceiling costs are of 16 bits and the allowance is of 32: their types say so.
-use Prim.Native.Nat.{ℕ, _^_, _*_, _-_}
+use Prim.Native.Nat.{ℕ, _^_, _-_}
 use lib.IntN.{ℤ, negℤ, pos}
 
 -- stations: 1 to 24

@@ -1,7 +1,7 @@
 -- What holds of the network of an accepted survey, said with no byte in it, and so of the graph that the theory speaks of; and that the arrays of the
 -- code hold it.
 use Prim.Native.Nat.{ℕ, zero, suc, _+_, _-_, _*_, _/_, _%_, _^_, _≤_, _<_}
-use mathlib.Core.Path.{_≡_, refl, sym, ap, _∙_}
+use mathlib.Core.Path.{_≡_, ap, _∙_}
 use mathlib.Core.Bool.{_&&_, false}
 use mathlib.Core.List.{List, [], _∷_}
 use native.Mathlib.Nat.{le-of-eq, le-trans, mul-comm, mul-le-mul, pow-le-pow-right, pow-suc, pow-zero}
@@ -20,8 +20,8 @@ use Rattle.network.specs.Limits.{maxCeilings, maxLinks, maxPlans, maxSla
 use Rattle.network.specs.Capacities.{ceilingsHeld, exceptionsHeld, linksHeld, plansHeld, raise, stationsHeld, sumHeld}
 use Rattle.network.specs.Bytes.{byteAt}
 use Rattle.network.specs.Network.{Network}
-use Rattle.network.specs.Tabulate.{tabulate, tabulate-at, tabulate-length}
-use Rattle.network.specs.Survey.{ceilingsIn, costsIn, endIn, endsIn, layoutOf, linkCount, linkStart, networkOf, networkWith, ranksIn, stationsIn}
+use Rattle.network.specs.Tabulate.{tabulate-at, tabulate-length}
+use Rattle.network.specs.Survey.{ceilingsIn, endIn, endsIn, layoutOf, linkCount, linkStart, networkOf, networkWith, ranksIn, stationsIn}
 use Rattle.network.specs.Refusals.{anyBadRank, badPresent, badRank, badRanks, checkedOf}
 use Rattle.network.specs.Yard.{graph, ranks, sumAt, treeSize}
 use Rattle.network.specs.Walk.{positionCount}
@@ -87,7 +87,8 @@ pub record WithinLimits (net : Network) : Type 0 where
 
 -- M is at most 1,600
 pub position-limit : (net : Network) → WithinLimits net → positionCount net ≤ maxPlans
-position-limit net few = le-trans (position-power (graph net) maxLinks (few .links) 0 (ranks net)) (pow-le-pow-right {n = maxLinks} (omega arith) (few .ceilings))
+position-limit net few =
+    le-trans (position-power (graph net) maxLinks (few .links) 0 (ranks net)) (pow-le-pow-right {n = maxLinks} (omega arith) (few .ceilings))
 
 -- what a list buffer needs is at most 52,810 bytes
 pub need-limit : (net : Network) → WithinLimits net → bufferNeed net ≤ maxNeed

@@ -1,6 +1,6 @@
 -- The figures f 0 to f (m - 1), one for each record: how the part of an array that is filled record by record ends.
 use Prim.Native.Nat.{ℕ, zero, suc, _+_, _<_}
-use mathlib.Core.Path.{_≡_, refl, ap, _∙_, subst}
+use mathlib.Core.Path.{_≡_, refl, ap, ap₂, _∙_, subst}
 use mathlib.Core.List.{List, [], _∷_, _++_}
 use mathlib.Core.Logic.{⊎-elim}
 use native.Mathlib.Nat.{eq-or-lt-of-le}
@@ -19,23 +19,27 @@ module _ {A : Type 0} where
   getD-last [] x d = refl
   getD-last (y ∷ xs) x d = getD-last xs x d
 
+  -- the figures f 0 to f (m - 1)
   unfoldable pub tabulate : (ℕ → A) → ℕ → List A
   tabulate f zero = []
   tabulate f (suc m) = tabulate f m ++ (f m ∷ [])
 
   -- of the same figures
-  pub tabulate-same : (f g : ℕ → A) → ((i : ℕ) → f i ≡ g i) → (m : ℕ) → tabulate f m ≡ tabulate g m
-  tabulate-same f g e m = ap (λ (h : ℕ → A). tabulate h m) (λ i q. e q i)
+  pub tabulate-same : (f g : ℕ → A) (m : ℕ) → ((i : ℕ) → i < m → f i ≡ g i) → tabulate f m ≡ tabulate g m
+  unfolding tabulate
+  tabulate-same f g zero e = refl
+  tabulate-same f g (suc m) e = ap₂ (λ (l : List A) (x : A). l ++ (x ∷ [])) (tabulate-same f g m (λ i h. e i (omega arith))) (e m (omega arith))
+
+  -- the first figure, and those after it
+  pub tabulate-first : (f : ℕ → A) (m : ℕ) → tabulate f (suc m) ≡ f 0 ∷ tabulate (λ i. f (suc i)) m
+  unfolding tabulate
+  tabulate-first f zero = refl
+  tabulate-first f (suc m) = ap (λ (l : List A). l ++ (f (suc m) ∷ [])) (tabulate-first f m)
 
   module _ (f : ℕ → A) where
     pub tabulate-none : tabulate f 0 ≡ []
     unfolding tabulate
     tabulate-none = refl
-
-    -- one record more
-    pub tabulate-more : (m : ℕ) → tabulate f (m + 1) ≡ tabulate f m ++ (f m ∷ [])
-    unfolding tabulate
-    tabulate-more m = rw add-one
 
     pub tabulate-length : (m : ℕ) → length (tabulate f m) ≡ m
     unfolding tabulate

@@ -15,9 +15,8 @@ use Rattle.frontier.specs.Dominance.{leAll}
 use Rattle.frontier.specs.Frontier.{Problem, insertPlan, vector, vectorOrder}
 use Rattle.frontier.specs.Plans.{collect-member}
 use Rattle.planning.specs.Graph.{Graph, costsFrom}
-use Rattle.network.specs.Capacities.{ceilingsHeld}
 use Rattle.network.specs.Yard.{ceilingCosts, graph, ranks, treeSum, yard}
-use Rattle.network.specs.PlanList.{costsAt, costsOf}
+use Rattle.network.specs.PlanList.{costsAt, costsOf, planSlots}
 use Rattle.network.specs.Calls.{costValues}
 use Rattle.network.specs.declared.Costs.{Costs}
 use Rattle.network.specs.Network.{Network}
@@ -142,7 +141,7 @@ module _ {S : Type 0} (P : Problem ℤ S) (costs : S → Costs) (links : S → L
 
 -- the entries of absent ceilings
 abbrev pub absent : Network → List ℤ
-absent net = replicate (ceilingsHeld - length (ranks net)) (pos 0)
+absent net = replicate (planSlots - length (ranks net)) (pos 0)
 
 -- a tree has a cost for each present ceiling
 costs-length : (G : Graph) (i : ℕ) (js ts : List ℕ) → length (costsFrom G i js ts) ≡ length js
@@ -150,15 +149,15 @@ costs-length G i [] ts = refl
 costs-length G i (k ∷ js) ts = ap suc (costs-length G (suc i) js ts)
 
 -- the two ceiling costs of a record are those of a vector of at most two, followed by zeros
-two-entries : (cs : List ℤ) → length cs ≤ ceilingsHeld → getD cs 0 (pos 0) ∷ getD cs 1 (pos 0) ∷ [] ≡ cs ++ replicate (ceilingsHeld - length cs) (pos 0)
+two-entries : (cs : List ℤ) → length cs ≤ planSlots → getD cs 0 (pos 0) ∷ getD cs 1 (pos 0) ∷ [] ≡ cs ++ replicate (planSlots - length cs) (pos 0)
 two-entries [] h = refl
 two-entries (x ∷ []) h = refl
 two-entries (x ∷ y ∷ []) h = refl
 two-entries (x ∷ y ∷ z ∷ cs) h = absurd (omega arith)
 
 -- y1 and y2 of a tree are its ceiling costs, and 0 where a ceiling is absent
-pub costs-padded : (net : Network) (ts : List ℕ) → length (ranks net) ≤ ceilingsHeld → costValues (costsOf net ts) ≡ vector (yard net) ts ++ absent net
+pub costs-padded : (net : Network) (ts : List ℕ) → length (ranks net) ≤ planSlots → costValues (costsOf net ts) ≡ vector (yard net) ts ++ absent net
 costs-padded net ts h =
     let e = costs-length (graph net) 0 (ranks net) ts in
     ap (λ (l : List ℤ). treeSum net ts ∷ l) (two-entries (ceilingCosts net ts) (omega arith))
-    ∙ ap (λ (k : ℕ). vector (yard net) ts ++ replicate (ceilingsHeld - k) (pos 0)) e
+    ∙ ap (λ (k : ℕ). vector (yard net) ts ++ replicate (planSlots - k) (pos 0)) e

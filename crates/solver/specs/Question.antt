@@ -76,7 +76,8 @@ module _ (sums : List ℕ) (o : Option (List ℕ)) {r : best.Found} (tells : Tel
 
 -- where the best tree is ts, the first t bytes of the buffer are its links, whose costs are the answer's
 module _ (shape : Shape) (ends sums : List ℕ) (costs bs : List ℤ) (can : Plannable shape ends sums costs) (ts : List ℕ)
-    (is : best (netOf shape ends sums costs) bs ≡ some ts) (tree : List ℕ) {left : List ℕ} (e : left ≡ treeWith (best (netOf shape ends sums costs) bs) tree) where
+    (is : best (netOf shape ends sums costs) bs ≡ some ts) (tree : List ℕ) {left : List ℕ}
+    (e : left ≡ treeWith (best (netOf shape ends sums costs) bs) tree) where
   abbrev net : Network
   net = netOf shape ends sums costs
 

@@ -8,9 +8,9 @@ use lib.IntN.{ℤ}
 use lib.ListN.{getD, length, length-map, take}
 use Rattle.order.specs.Lists.{getD-map, numbersFrom}
 use Rattle.order.specs.Sorted.{number-at, numbers-length}
-use Rattle.network.specs.Tabulate.{tabulate}
+use Rattle.network.specs.Tabulate.{tabulate, tabulate-same}
 use Rattle.network.specs.Survey.{ceilingIn, ceilingsIn, costIn, costsIn, endIn, endsIn, layoutOf, linkCount, linkStart, networkOf, networkWith, raised, sumsIn}
-use Rattle.network.specs.Accepted.{accepted, below-two}
+use Rattle.network.specs.Accepted.{accepted}
 use Rattle.network.specs.Layouts.{layout-roomy}
 use Rattle.network.specs.Refusals.{checkedOf}
 use Rattle.network.specs.Alike.{Alike, alike}
@@ -19,6 +19,12 @@ use Rattle.network.specs.WritingPromise.{Says}
 use Rattle.network.specs.declared.Checked.the-variants.{Fine}
 use Rattle.network.specs.declared.Layout.{Layout}
 use Rattle.network.specs.Network.{Network}
+
+-- what holds of 0 and of 1
+below-two : (P : ℕ → Type 0) → P 0 → P 1 → (j : ℕ) → j < 2 → P j
+below-two P p q zero h = p
+below-two P p q (suc zero) h = q
+below-two P p q (suc (suc j)) h = absurd (omega arith)
 
 -- end j of a link
 abbrev endAt : Link → ℕ → ℕ
@@ -56,12 +62,6 @@ networkOn f m =
 unfoldable pub networkFrom : Figures → Network
 networkFrom f = networkOn f (length (f .links))
 
--- tables of figures that agree so far
-tabulate-agree : {A : Type 0} (f g : ℕ → A) (m : ℕ) → ((i : ℕ) → i < m → f i ≡ g i) → tabulate f m ≡ tabulate g m
-unfolding tabulate
-tabulate-agree f g zero e = refl
-tabulate-agree f g (suc m) e = ap₂ (λ l x. l ++ (x ∷ [])) (tabulate-agree f g m (λ i h. e i (omega arith))) (e m (omega arith))
-
 module _ (l : Layout) (s : List ℕ) where
   abbrev m : ℕ
   m = linkCount l s
@@ -83,18 +83,18 @@ module _ (l : Layout) (s : List ℕ) where
   ends-same : endsIn l s m ≡ tabulate (λ q. endAt (linkOf f (q / 2)) (q % 2)) (2 * m)
   unfolding endsIn
   ends-same =
-      tabulate-agree _ _ (2 * m) (λ q h.
+      tabulate-same _ _ (2 * m) (λ q h.
       below-two (λ j. endIn s (linkStart l (q / 2)) j ≡ endAt (linkIn s (linkStart l (q / 2))) j) refl refl (q % 2) (omega arith)
       ∙ ap (λ (x : Link). endAt x (q % 2)) (sym (link (q / 2) (omega arith))))
 
   sums-same : sumsIn l s m ≡ tabulate (λ i. raised (linkOf f i .sum)) m
   unfolding sumsIn
-  sums-same = tabulate-agree _ _ m (λ i h. ap (λ (x : Link). raised (x .sum)) (sym (link i h)))
+  sums-same = tabulate-same _ _ m (λ i h. ap (λ (x : Link). raised (x .sum)) (sym (link i h)))
 
   ceiling-same : (j : ℕ) → j < 2 → ceilingIn l s m j ≡ tabulate (λ i. costAt (linkOf f i) j) m
   unfolding ceilingIn
   ceiling-same j h =
-      tabulate-agree _ _ m (λ i g.
+      tabulate-same _ _ m (λ i g.
       below-two (λ k. costIn s (linkStart l i) k ≡ costAt (linkIn s (linkStart l i)) k) refl refl j h
       ∙ ap (λ (x : Link). costAt x j) (sym (link i g)))
 

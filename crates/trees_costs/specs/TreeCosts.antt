@@ -1,6 +1,6 @@
 -- The costs of a list of links: what the code computes of the columns is what the network's definitions say.
 use Prim.Native.Nat.{ℕ, zero, suc, _+_, _-_, _*_, _≤_, _<_}
-use mathlib.Core.Path.{_≡_, refl, sym, ap, ap₂, _∙_}
+use mathlib.Core.Path.{_≡_, refl, sym, _∙_}
 use mathlib.Core.Bool.{true, _&&_}
 use mathlib.Core.List.{List, [], _∷_, map}
 use native.Mathlib.Nat.{mul-le-mul-right, suc-mul, zero-add}
@@ -9,7 +9,7 @@ use borrow.Author.Tests.{eqb-true, ltb-false, ltb-true}
 use lib.Dec.{eqb, ltb}
 use lib.IntN.{ℤ, pos}
 use lib.ListN.{drop, getD, length, length-drop, length-take, replicate, set, take}
-use lib.Seq.{getD-take, length-take-le}
+use lib.Seq.{getD-take}
 use Rattle.order.specs.Test.{by-test, left, right}
 use Rattle.order.specs.Lists.{getD-mem}
 use Rattle.order.specs.Order.{orderℤ}
@@ -20,7 +20,7 @@ use Rattle.spanning.specs.Tree as tree
 use Rattle.spanning.specs.Rising.{isRisingIn, isRisingIn-iff, rising-range}
 use Rattle.spanning.specs.Listing.{isListed}
 use Rattle.network.specs.Capacities.{ceilingsHeld, linksHeld, raise, sumHeld, treeHeld}
-use Rattle.network.specs.Column.{column, column-at, column-length, column-more, column-none, column-past}
+use Rattle.network.specs.Column.{column, column-at, column-more, column-none, column-past}
 use Rattle.network.specs.Network.{Network}
 use Rattle.network.specs.PlanList.{costsOf}
 use Rattle.network.specs.Shaped.{Plannable, netOf}
@@ -75,10 +75,6 @@ module _ (m : ℕ) (ks : List ℕ) (costs : List ℤ) (ts : List ℕ) where
       let n : i * m + m - i * m ≡ m = omega arith in
       rw (e, q, g, f, n) (sym (column-more ceilingsHeld (pos 0) (λ j. ceilingOf (ceilingPart m costs j) (getD ks j 0) ts) i))
 
-  pub ceilings-length : (i : ℕ) → length (ceilingsTo m ks costs ts i) ≡ ceilingsHeld
-  unfolding ceilingsTo
-  ceilings-length i = column-length ceilingsHeld (pos 0) _ i
-
 module _ (shape : Shape) (costs : List ℤ) (ts : List ℕ) where
   pub ceilings-end : (i : ℕ) {l : List ℤ} → l ≡ ceilingsTo (shape .m) (shape .k) costs ts i → i ≡ shape .p → l ≡ ceilingsBy shape costs ts
   unfolding ceilingsBy
@@ -94,7 +90,9 @@ module _ (shape : Shape) (costs : List ℤ) (ts : List ℕ) where
         let inside = part-inside in
         record {
           figures = record {
-            known = record { below = λ c k. let b = fine .known .below c k in omega (arith, length-take (to - from) (drop from costs), length-drop from costs) };
+            known = record {
+              below = λ c k. let b = fine .known .below c k in omega (arith, length-take (to - from) (drop from costs), length-drop from costs);
+            };
             few = fine .few;
           };
           rank = fine .rank i h;

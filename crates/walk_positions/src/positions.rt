@@ -10,6 +10,7 @@ use solver::question::solve;
 use walk_visit::visit::put_position;
 use walk_visit::visit::settle;
 use walk_visit::visit::take_in;
+ghost use mathlib.Core.Path.{_≡_};
 ghost use Prim.Native.Nat.{_≤_};
 ghost use lib.ListN.{length};
 ghost use Rattle.network.specs.PlanList.{bufferNeed};
@@ -22,6 +23,17 @@ pub struct Walked {
     pub spent: bool,
     pub plans: usize,
     pub solved: u32,
+}
+
+// What a walk with these counts says.
+fn outcome(spent: bool, plans: usize, solved: u32) -> Walked
+    ensures { λ r. ⌜ r ≡ record { spent = spent; plans = plans; solved = solved } ⌝ }
+{
+    Walked {
+        spent,
+        plans,
+        solved,
+    }
 }
 
 // Visits all positions and takes the plans into the buffer; gives up where the allowance is spent and a position is to be solved.
@@ -53,11 +65,7 @@ pub fn visit_all(
     let mut solved: u32 = 0;
     while n < total {
         if solved == allowance {
-            return Walked {
-                spent: true,
-                plans,
-                solved,
-            };
+            return outcome(true, plans, solved);
         }
         put_position(n, shape, values, grid, &mut places[..p], &mut bounds[..p]);
         let answer = solve(
@@ -74,9 +82,5 @@ pub fn visit_all(
         solved += 1;
         n = next_unmarked(&marks, n + 1, total);
     }
-    Walked {
-        spent: false,
-        plans,
-        solved,
-    }
+    outcome(false, plans, solved)
 }

@@ -15,7 +15,7 @@ use Rattle.order.specs.Order.{orderℕ, orderℤ}
 use Rattle.frontier.specs.Dominance.{leAll, leAll-head, leAll-tail}
 use Rattle.frontier.specs.Frontier.{Picks, picks-cons, picks-nil, product}
 use Rattle.frontier.specs.Places.{AllFalling, InRange, all-cons, all-nil, in-cons, in-nil, number, number-lt, pick}
-use Rattle.network.specs.Tabulate.{tabulate, tabulate-none}
+use Rattle.network.specs.Tabulate.{tabulate, tabulate-first, tabulate-none, tabulate-same}
 use Rattle.marking_values.specs.Place.{place-from, placeIn, placesOf}
 use Rattle.marking_marks.specs.Paint.{Run, run}
 use Rattle.marking_marks.specs.Box.{sides}
@@ -24,7 +24,6 @@ use Rattle.marking_marks.specs.Sides.{Inside, runs, span}
 use Rattle.marking_grid.specs.Digits.{sizes, total-product, weight-last, weights, weights-length, weights-within}
 use Rattle.marking_grid.specs.Gridded.{Gridded}
 use Rattle.marking_grid.specs.declared.Grid.{Grid}
-use Rattle.walk_visit.specs.Tabulated.{tabulate-alike, tabulate-first}
 use Rattle.walk_visit.specs.Found.{boundAt, boundsAt, lastSides, ownSide, ownSides}
 
 -- so many places of each ceiling are from `is` through `ks`
@@ -113,7 +112,7 @@ module _ {ls : List (List ℤ)} {m : ℕ} {values : List ℤ} {grid : Grid} (g :
   unfolding ownSides
   own-sides {v} p fs e =
       ap (tabulate (ownSide m values (sizes ls) is v)) (length-map ls length)
-      ∙ tabulate-alike (ownSide m values (sizes ls) is v) (λ k. placeIn (getD v k (pos 0)) (drop (getD is k 0) (getD ls k [])) + 1) (length ls)
+      ∙ tabulate-same (ownSide m values (sizes ls) is v) (λ k. placeIn (getD v k (pos 0)) (drop (getD is k 0) (getD ls k [])) + 1) (length ls)
       (λ k h. ap (λ (l : List ℤ). placeIn (getD v k (pos 0)) (drop (getD is k 0) l) + 1)
       (ap (λ (n : ℕ). take n (drop (k * m) values)) (getD-map length ls k [] 0 h) ∙ g .part k h))
       ∙ own-at p fs from e
@@ -122,7 +121,7 @@ module _ {ls : List (List ℤ)} {m : ℕ} {values : List ℤ} {grid : Grid} (g :
   pub bounds-are : boundsAt m values is ≡ pick (pos 0) is ls
   unfolding boundsAt
   bounds-are =
-      tabulate-alike (boundAt m values is) (λ k. getD (getD ls k []) (getD is k 0) (pos 0)) (length is)
+      tabulate-same (boundAt m values is) (λ k. getD (getD ls k []) (getD is k 0) (pos 0)) (length is)
       (λ k h.
       let inside : k < length ls = omega (arith, range-length from) in
       let low = range-at from k inside in

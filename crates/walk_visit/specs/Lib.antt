@@ -1,5 +1,4 @@
 -- what the code finds at a position: its bounds, the sides of its box
-pub mod Tabulated
 pub mod Found
 -- the places of a position by strides
 pub mod Position

@@ -1,11 +1,11 @@
 -- The patterns by the ceilings from i on stand, and the part of the costs before `from` is of the ceilings before.
 use Prim.Native.Nat.{ℕ, zero, suc, _-_, _+_, _*_, _≤_, _<_}
 use mathlib.Core.Path.{_≡_, refl, sym, _∙_}
-use native.Mathlib.Nat.{suc-mul, zero-mul}
+use native.Mathlib.Nat.{suc-mul}
 use native.Mathlib.Omega.{arith}
 use borrow.Author.Needs.{needs, sfits-of}
-use lib.IntN.{ℤ, pos}
-use lib.ListN.{drop, getD, length, length-drop, take}
+use lib.IntN.{pos}
+use lib.ListN.{drop, getD, length, length-drop}
 use lib.Seq.{length-take-le}
 use mir.Facts.{toZ-ofZ}
 use mir.Syntax.{w16}

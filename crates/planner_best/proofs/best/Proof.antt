@@ -122,7 +122,8 @@ array-share-prefix-bounds : tie.Need-array-share-prefix-bounds
 array-share-prefix-bounds c = network (c .before .before .before .before .before .before .before .before .before) .plannable .fine .few-ceilings
 
 slice-aggregate-solve-5 : tie.Need-slice-aggregate-solve-5
-slice-aggregate-solve-5 c = sym (length-take-le _ _ (network (c .before .before .before .before .before .before .before .before .before .before) .plannable .fine .few-ceilings))
+slice-aggregate-solve-5 c =
+    sym (length-take-le _ _ (network (c .before .before .before .before .before .before .before .before .before .before) .plannable .fine .few-ceilings))
 
 solve-requires : tie.Need-solve-requires
 solve-requires c κs =

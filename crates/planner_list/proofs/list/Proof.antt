@@ -80,7 +80,8 @@ list-plans-requires c κs = network (c .before .before .before .before .before) 
 
 returns : tie.Need-returns
 returns c =
-    let e = list-refused _ _ _ _ (sym (c .before .before .before .before .before .before .before .read-survey .ensures .checked) ∙ c .before .checked .given .1) in
+    let refused = sym (c .before .before .before .before .before .before .before .read-survey .ensures .checked) ∙ c .before .checked .given .1 in
+    let e = list-refused _ _ _ _ refused in
     (e .0, (e .1, (promised _ _ _ (e .0) (e .1), cut-listed _ _ _ (e .0))))
 
 same-length : tie.Need-same-length

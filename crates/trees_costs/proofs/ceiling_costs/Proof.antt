@@ -1,5 +1,5 @@
 -- After i turns the costs by the first i ceilings are there, and the next part of the costs is that of ceiling i.
-use Prim.Native.Nat.{ℕ, _+_, _≤_, _<_, _-_, _*_}
+use Prim.Native.Nat.{ℕ, _+_, _≤_, _-_, _*_}
 use mathlib.Core.List.{List}
 use mathlib.Core.Path.{_≡_, refl}
 use native.Mathlib.Nat.{mul-le-mul, suc-mul, zero-mul}
@@ -13,7 +13,7 @@ use mir.Val.{SFits}
 use mir.Facts.{toZ-ofZ}
 use Rattle.network.specs.Capacities.{ceilingsHeld, linksHeld}
 use Rattle.network.specs.declared.Shape.{Shape}
-use Rattle.trees_costs.specs.TreeCosts.{Ceiled, ceilings-end, ceilings-length, ceilings-none, ceilings-turn, ceilingsTo, part-fine, part-inside}
+use Rattle.trees_costs.specs.TreeCosts.{Ceiled, ceilings-end, ceilings-none, ceilings-turn, ceilingsTo, part-fine, part-inside}
 use Rattle.trees_costs.proofs.ceiling_costs.Statement.{statement}
 use Rattle.trees_costs.proofs.ceiling_costs.Tie as tie
 
@@ -81,8 +81,12 @@ loop-again : tie.Need-loop-again Inv-loop μ-loop
 loop-again c =
     let f : SFits w16 (c .ceiling-cost .result) = search needs in
     let v = c .before .before .before .loop in
-    let m = c .before .before .before .before .before .before .before .args .shape .m in
-    (omega arith, omega (arith, v .inv .1, add-one (v .i), suc-mul (v .i) m), v .inv .2, rw (toZ-ofZ f) (ceilings-turn _ _ _ _ (v .i) (v .from) _ (v .inv .3) (v .inv .1) refl (c .ceiling-cost .ensures)))
+    let m = c .before .before .before .before .before .before .before .args .shape .m in (
+      omega arith,
+      omega (arith, v .inv .1, add-one (v .i), suc-mul (v .i) m),
+      v .inv .2,
+      rw (toZ-ofZ f) (ceilings-turn _ _ _ _ (v .i) (v .from) _ (v .inv .3) (v .inv .1) refl (c .ceiling-cost .ensures)),
+    )
 
 returns : tie.Need-returns Inv-loop μ-loop
 returns c =

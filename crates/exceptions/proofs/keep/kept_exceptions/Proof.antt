@@ -34,7 +34,8 @@ abbrev link-at : tie.In-loop Inv-loop μ-loop → ℕ
 link-at c = getD (start c .args .order .now) (c .before .loop .k) 0
 
 -- it is one of the links, and its pattern one of the patterns
-known : (c : tie.In-loop Inv-loop μ-loop) → (link-at c < length (start c .args .sums .now)) × (patternAt (start c .args .patterns .now) (link-at c) < patternsHeld)
+known : (c : tie.In-loop Inv-loop μ-loop)
+    → (link-at c < length (start c .args .sums .now)) × (patternAt (start c .args .patterns .now) (link-at c) < patternsHeld)
 known c =
     let p = start c .pre in
     let below = usable-at (c .before .loop .k) (p .1) (c .loop-test .taken) .below in

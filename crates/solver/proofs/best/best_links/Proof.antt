@@ -1,5 +1,4 @@
 -- A tree was found or not; its links go to the buffer.
-use mathlib.Core.Path.{sym, _∙_}
 use native.Mathlib.Omega.{arith}
 use borrow.Author.Needs.{needs}
 use Rattle.solver.specs.Answer.{answer-none, answer-size, answer-tells, answer-tree}

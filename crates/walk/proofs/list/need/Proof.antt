@@ -1,5 +1,5 @@
 -- Few positions and few links: the product is small.
-use Prim.Native.Nat.{_+_, _*_, _≤_}
+use Prim.Native.Nat.{_+_, _*_}
 use native.Mathlib.Nat.{mul-le-mul-right}
 use native.Mathlib.Omega.{arith}
 use mir.Syntax.{w64}
@@ -9,7 +9,8 @@ use Rattle.network.specs.PlanList.{headSize, planSize, planSlots}
 use Rattle.walk.proofs.list.need.Statement.{statement}
 use Rattle.walk.proofs.list.need.Tie as tie
 
-need-fits : (c : tie.Start) → Fits w64 (c .args .total * planSize planSlots (c .args .t)) × Fits w64 (headSize + c .args .total * planSize planSlots (c .args .t))
+need-fits : (c : tie.Start)
+    → Fits w64 (c .args .total * planSize planSlots (c .args .t)) × Fits w64 (headSize + c .args .total * planSize planSlots (c .args .t))
 need-fits c =
     let small = mul-le-mul-right (planSize planSlots (c .args .t)) (c .pre) in
     let t = c .fits .t in

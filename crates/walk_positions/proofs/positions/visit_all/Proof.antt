@@ -21,7 +21,6 @@ use Rattle.solver.specs.Question.{answerOf}
 use Rattle.marking_marks.specs.Settle.{Settled}
 use Rattle.marking_marks.specs.Unmarked.{unmarked-is}
 use Rattle.walk_visit.specs.Answered.{Taken, Takes, settledBy}
-use Rattle.walk_visit.specs.Position.{placesAt}
 use Rattle.walk_visit.specs.Visit.{asked, bestAt, locatable, reaches, settles}
 use Rattle.walk_visit.specs.Visited.{takes, visited}
 use Rattle.walk_positions.specs.Lent.{lent-back}
@@ -31,13 +30,13 @@ use Rattle.walk_positions.proofs.positions.visit_all.Statement.{stateme
 use Rattle.walk_positions.proofs.positions.visit_all.Tie as tie
 
 abbrev Inv-loop : tie.InvT-loop
-Inv-loop shape ends sums costs values grid allowance out₀ p m t total order places₀ bounds₀ tree₀ marks₀ n₀ plans₀ solved₀ out places bounds tree marks n plans solved =
+Inv-loop shape ends sums costs _ _ allowance out₀ _ _ _ total _ _ _ _ _ _ _ _ out places bounds tree marks n plans solved =
     (length places ≡ ceilingsHeld) × (length bounds ≡ ceilingsHeld) × (length tree ≡ treeHeld) × (length marks ≡ plansHeld)
     × (length out ≡ length out₀) × (n ≤ total) × (plans ≤ n) × (solved ≤ n) × (solved ≤ allowance)
     × (n < total → getD marks n 0 ≡ 0) × Progress (netOf shape ends sums costs) n marks out plans solved
 
 abbrev μ-loop : tie.MeasureT-loop
-μ-loop shape ends sums costs values grid allowance out₀ p m t total order places₀ bounds₀ tree₀ marks₀ n₀ plans₀ solved₀ out places bounds tree marks n plans solved = total - n
+μ-loop _ _ _ _ _ _ _ _ _ _ _ total _ _ _ _ _ _ _ _ _ _ _ _ _ n _ _ = total - n
 
 -- the network of a call
 abbrev network : tie.Start Inv-loop μ-loop → Network
@@ -162,7 +161,8 @@ marked c =
     let l = turn .before .loop in
     let s = entry turn in
     let front = places-front found .0 ∙ found .put-position .ensures .0 in
-    let set = c .settle .ensures ∙ ap (λ (ps : List ℕ). settledBy (s .args .shape) (s .args .values .now) (s .args .grid) ps (l .n) (asking .solve .result) (l .marks)) front in
+    let by : List ℕ → List ℕ = λ ps. settledBy (s .args .shape) (s .args .values .now) (s .args .grid) ps (l .n) (asking .solve .result) (l .marks) in
+    let set = c .settle .ensures ∙ ap by front in
     let all : positionCount (network s) ≤ length (l .marks) = omega (arith, counted s .1, l .inv .3) in
     subst⁻¹ (Settled (yard (network s)) (l .n) (bestAt (network s) (l .n)) (l .marks)) set
     (settles (s .pre .0) (l .n) (inside turn) refl (answered asking .0) (l .marks) all)
@@ -171,9 +171,13 @@ marked c =
 abbrev taken-at : tie.After-take-in Inv-loop μ-loop → tie.After-settle Inv-loop μ-loop
 taken-at c = c .before .before .before .before
 
+-- the turn of a plan that was taken in
+abbrev turn-of : tie.After-take-in Inv-loop μ-loop → tie.In-loop Inv-loop μ-loop
+turn-of c = located (solved-at (settled-at (taken-at c)))
+
 -- so the position is visited
 gone : (c : tie.After-take-in Inv-loop μ-loop)
-    → let turn = located (solved-at (settled-at (taken-at c))) in
+    → let turn = turn-of c in
     let l = turn .before .loop in
     Progress (network (entry turn)) (l .n + 1) (taken-at c .settle .last .0) (c .take-in .last .0) (c .take-in .result) (l .solved + 1)
 gone c =
@@ -216,16 +220,19 @@ loop-holds c =
       start (network s) plansHeld (s .args .out .now) (counted s .1),
     )
 
+outcome-requires : tie.Need-outcome-requires Inv-loop μ-loop
+outcome-requires c κs = search needs
+
 same-length : tie.Need-same-length Inv-loop μ-loop
 same-length c = omega arith
 
 returns : tie.Need-returns Inv-loop μ-loop
 returns c =
-    let turn = c .before in
+    let turn = c .before .before in
     let l = turn .before .loop in
     let net = network (entry turn) in
     let more = spent net (l .n) (inside turn) (l .inv .10) (l .inv .9 (turn .loop-test .taken)) in
-    spent-outcome net (omega (arith, inside turn, l .inv .6)) (c .if1 .taken) more
+    rw (c .outcome .ensures) (spent-outcome net (omega (arith, inside turn, l .inv .6)) (c .before .if1 .taken) more)
 
 array-borrow-prefix-places : tie.Need-array-borrow-prefix-places Inv-loop μ-loop
 array-borrow-prefix-places c = omega (arith, entry (c .before) .pre .0 .plannable .fine .few-ceilings, c .before .before .loop .inv .0)
@@ -246,12 +253,14 @@ put-position-requires c κs =
 
 array-share-prefix-order : tie.Need-array-share-prefix-order Inv-loop μ-loop
 array-share-prefix-order c =
-    let size : length (c .before .before .before .before .before .before .before .before .order-links .result) ≡ linksHeld = search needs in
-    omega (arith, c .before .before .before .before .before .before .before .before .before .before .before .before .before .before .pre .0 .plannable .fine .few-links)
+    let turn = located (c .before .before) in
+    let size : length (turn .before .before .order-links .result) ≡ linksHeld = search needs in
+    omega (arith, entry turn .pre .0 .plannable .fine .few-links)
 
 slice-aggregate-solve : tie.Need-slice-aggregate-solve Inv-loop μ-loop
 slice-aggregate-solve c =
-    sym (ap length (ordered (c .before .before .before .before .before .before .before .before .before)) ∙ order-length _ ∙ c .before .before .before .before .before .before .before .before .before .before .before .before .before .before .before .pre .0 .plannable .fine .sum-count)
+    let turn = located (c .before .before .before) in
+    sym (ap length (ordered (turn .before .before)) ∙ order-length _ ∙ entry turn .pre .0 .plannable .fine .sum-count)
 
 array-share-prefix-bounds : tie.Need-array-share-prefix-bounds Inv-loop μ-loop
 array-share-prefix-bounds c = let found = c .before .before .before in bounds-front found .2
@@ -288,13 +297,18 @@ settle-requires c κs =
     let found = solved-at asking in
     let turn = located found in
     let s = entry turn in
-    rw (places-front found .0, found .put-position .ensures .0) (reaches (s .pre .0) (turn .before .loop .n) (inside turn) refl (answered asking .0) (omega (arith, counted s .1, turn .before .loop .inv .3)))
+    rw (places-front found .0, found .put-position .ensures .0)
+    (reaches (s .pre .0) (turn .before .loop .n) (inside turn) refl (answered asking .0) (omega (arith, counted s .1, turn .before .loop .inv .3)))
 
 array-share-prefix-tree : tie.Need-array-share-prefix-tree Inv-loop μ-loop
-array-share-prefix-tree c = let asking = c .before .before .before .before .before .before in omega (arith, tree-size asking, tree-room (entry (located (solved-at asking))))
+array-share-prefix-tree c =
+    let asking = c .before .before .before .before .before .before in
+    omega (arith, tree-size asking, tree-room (entry (located (solved-at asking))))
 
 slice-aggregate-take-in : tie.Need-slice-aggregate-take-in Inv-loop μ-loop
-slice-aggregate-take-in c = let asking = c .before .before .before .before .before .before .before in sym (length-take-le _ _ (omega (arith, tree-size asking, tree-room (entry (located (solved-at asking))))))
+slice-aggregate-take-in c =
+    let asking = c .before .before .before .before .before .before .before in
+    sym (length-take-le _ _ (omega (arith, tree-size asking, tree-room (entry (located (solved-at asking))))))
 
 take-in-requires : tie.Need-take-in-requires Inv-loop μ-loop
 take-in-requires c κs =
@@ -310,7 +324,7 @@ take-in-requires c κs =
 
 add-solved : tie.Need-add-solved Inv-loop μ-loop
 add-solved c =
-    let turn = c .before .before .before .before .before .before .before .before .before .before .before .before .before .before .before .before .before .before .before .before in
+    let turn = turn-of (c .before .before) in
     omega (arith, inside turn, counted (entry turn) .1, turn .before .loop .inv .7)
 
 slice-aggregate-next-unmarked : tie.Need-slice-aggregate-next-unmarked Inv-loop μ-loop
@@ -320,7 +334,7 @@ slice-aggregate-next-unmarked c =
 
 add-next-unmarked : tie.Need-add-next-unmarked Inv-loop μ-loop
 add-next-unmarked c =
-    let turn = c .before .before .before .before .before .before .before .before .before .before .before .before .before .before .before .before .before .before .before .before .before in
+    let turn = turn-of (c .before .before .before) in
     omega (arith, inside turn, counted (entry turn) .1)
 
 next-unmarked-requires : tie.Need-next-unmarked-requires Inv-loop μ-loop
@@ -332,7 +346,7 @@ next-unmarked-requires c κs =
 
 loop-less : tie.Need-loop-less Inv-loop μ-loop
 loop-less c =
-    let turn = c .before .before .before .before .before .before .before .before .before .before .before .before .before .before .before .before .before .before .before .before .before .before in
+    let turn = turn-of (c .before .before .before .before) in
     omega (arith, turn .loop-test .taken, c .next-unmarked .ensures .0)
 
 loop-again : tie.Need-loop-again Inv-loop μ-loop
@@ -357,21 +371,24 @@ loop-again c =
       next .1,
       omega (arith, next .0, few, l .inv .6),
       omega (arith, next .0, l .inv .7),
-      omega (arith, l .inv .8, c .before .before .before .before .before .before .before .before .before .before .before .before .before .before .before .before .before .before .before .before .before .if1 .left),
+      omega (arith, l .inv .8, found .before .before .before .if1 .left),
       λ h. subst⁻¹ (λ (k : ℕ). getD marks k 0 ≡ 0) (next .2) (unmarked-is marks (total - (l .n + 1)) (l .n + 1) (omega (arith, next .2))),
       subst⁻¹ (λ (k : ℕ). Progress (network s) k marks (taking .take-in .last .0) (taking .take-in .result) (l .solved + 1)) (next .2)
           (skip-all (network s) (total - (l .n + 1)) (l .n + 1) (omega (arith, counted s .0)) (gone taking)),
     )
+
+outcome-requires-2 : tie.Need-outcome-requires-2 Inv-loop μ-loop
+outcome-requires-2 c κs = search needs
 
 same-length-2 : tie.Need-same-length-2 Inv-loop μ-loop
 same-length-2 c = omega arith
 
 returns-2 : tie.Need-returns-2 Inv-loop μ-loop
 returns-2 c =
-    let s = c .before .before .before .before .before .before .before .before in
-    let l = c .before .loop in
-    ended-outcome (network s) (omega (arith, counted s .0, l .inv .5, l .inv .6)) (l .inv .8)
-    (finish (network s) (s .pre .0 .plannable .fine) (l .n) (omega (arith, counted s .0)) (l .inv .10))
+    let l = c .before .before .loop in
+    let s = c .before .before .before .before .before .before .before .before .before in
+    rw (c .outcome2 .ensures) (ended-outcome (network s) (omega (arith, counted s .0, l .inv .5, l .inv .6)) (l .inv .8)
+    (finish (network s) (s .pre .0 .plannable .fine) (l .n) (omega (arith, counted s .0, c .before .loop-test .left)) (l .inv .10)))
 
 pub visit-all-spec : {M : Type 1} → statement M
 visit-all-spec =
@@ -383,6 +400,7 @@ visit-all-spec =
     cast-t
     order-links-requires
     loop-holds
+    outcome-requires
     same-length
     returns
     array-borrow-prefix-places
@@ -409,5 +427,6 @@ visit-all-spec =
     next-unmarked-requires
     loop-less
     loop-again
+    outcome-requires-2
     same-length-2
     returns-2)

@@ -1,12 +1,10 @@
 -- `walk_visit::visit::put_position` meets its contract. The places are the digits of n, and the bounds the values there.
-use mathlib.Core.List.{List}
 use mathlib.Core.Path.{_≡_, sym, ap, _∙_}
-use Prim.Native.Nat.{ℕ}
 use native.Mathlib.Omega.{arith}
 use borrow.Author.Needs.{needs}
 use lib.ListN.{length, take}
 use lib.Seq.{length-take-le}
-use Rattle.walk_visit.specs.Found.{Within, boundsAt}
+use Rattle.walk_visit.specs.Found.{boundsAt}
 use Rattle.walk_visit.proofs.visit.put_position.Statement.{statement}
 use Rattle.walk_visit.proofs.visit.put_position.Tie as tie
 

@@ -16,7 +16,7 @@ pub const TREE_HELD: usize = STATIONS_HELD - 1;
 // The sets of ceilings whose bounds a link may be above.
 pub const PATTERNS_HELD: usize = 1 << CEILINGS_HELD;
 
-// The highest rank that the k-th largest figure is looked up by at its best.
+// The rank up to which the largest figures are held apart from the others.
 pub const RANK_HELD: u8 = 3;
 
 // Positions, and so plans of a list.

@@ -15,8 +15,9 @@ use lib.Seq.{append-snoc, drop-cons, getD-set-other, getD-set-same, take-suc-set
 use borrow.Author.Tests.{eq-eqb, eqb-true}
 use Rattle.order.specs.Test.{Decided, by-test, clash, decide, left, right}
 use Rattle.order.specs.Lists.{_∈_, count, filter, sublist-⊆}
-use Rattle.spanning.specs.Labelling.{crosses}
+use Rattle.spanning.specs.Labelling.{Crosses→crosses, Edge, Labelling, crosses, crosses→Crosses}
 use Rattle.spanning.specs.LabelList.{labelOf}
+use Rattle.spanning.specs.Tree.{identity}
 use Rattle.network.specs.Capacities.{patternsHeld}
 use Rattle.kmax.specs.Ceilings.{slackOf}
 use Rattle.kmax.specs.Digits.{admits, admits-few, marked}
@@ -26,6 +27,10 @@ use Rattle.network.specs.Yard.{endsAt}
 use Rattle.kruskal.specs.Base.{kept}
 use Rattle.exceptions_patterns.specs.Patterns.{Patterned, admitted, patternAt}
 use Rattle.exceptions_admitted.specs.Fit.{fit-at, fitOf}
+
+-- a link that joins two groups joins two stations
+crosses-apart : (L : Labelling) (e : Edge) → crosses L e ≡ true → crosses identity e ≡ true
+crosses-apart L e c = Crosses→crosses identity e (λ s. crosses→Crosses L e c (ap L s))
 
 -- what stands for the groups of a pattern out of range
 abbrev pub nobody : Forest
@@ -122,6 +127,19 @@ module _ (ends patterns : List ℕ) (fit : List Bool) where
           ⊎-elim (λ (z : x ≡ e). rw z (left (getD fit (patternAt patterns e) false) _ j)) more (List·Memᴰ·cases-cons (rw j at m))
       go (inr j) more rest m = rest (rw j at m)
 
+  -- and each joins two stations
+  by-crosses : (fs : List Forest) (l : List ℕ) (x : ℕ) → x ∈ keptBy fs l → crosses identity (endsAt ends x) ≡ true
+  unfolding keptBy
+  by-crosses fs [] x m = elim m [ ]
+  by-crosses fs (e ∷ l) x m = go (decide (joins fs e)) (by-crosses (after fs e) l x) (by-crosses fs l x) m
+    where
+      go : Decided (joins fs e) → (x ∈ keptBy (after fs e) l → crosses identity (endsAt ends x) ≡ true)
+          → (x ∈ keptBy fs l → crosses identity (endsAt ends x) ≡ true) → x ∈ keptBy fs (e ∷ l) → crosses identity (endsAt ends x) ≡ true
+      go (inl j) more rest m =
+          let own = crosses-apart _ (endsAt ends e) (right (getD fit (patternAt patterns e) false) _ j) in
+          ⊎-elim (λ (z : x ≡ e). rw z own) more (List·Memᴰ·cases-cons (rw j at m))
+      go (inr j) more rest m = rest (rw j at m)
+
   -- ---- the loop: what is collected at each turn is what is kept of the whole
 
   -- the first n links of an array, and those kept of l from place k on
@@ -156,6 +174,11 @@ pub kept-whole : (ends patterns ks l : List ℕ) (fit : List Bool) (alone : Fore
     → keptBy ends patterns fit (replicate patternsHeld alone) l ≡ keptExceptions ends patterns ks l
 unfolding keptExceptions separate
 kept-whole ends patterns ks l fit alone e f = rw (e, f)
+
+-- the two ends of an exception that is kept are different stations
+pub exceptions-cross : (ends patterns ks l : List ℕ) (x : ℕ) → x ∈ keptExceptions ends patterns ks l → crosses identity (endsAt ends x) ≡ true
+unfolding keptExceptions
+exceptions-cross ends patterns ks l x i = by-crosses ends patterns (fitOf ks) separate l x i
 
 -- links that are above some bound, and may be in a tree all the same
 pub record Exceptions (ks patterns l : List ℕ) : Type 0 where

@@ -2,28 +2,36 @@
 use Prim.Native.Nat.{ℕ, _+_, _≤_, _<_}
 use mathlib.Core.Bool.{Bool, cond, true, false}
 use mathlib.Core.List.{List, [], _∷_, _++_, append-nil, Sublistᴰ}
-use mathlib.Core.Path.{_≡_, refl, sym, _∙_}
+use mathlib.Core.Path.{_≡_, refl}
 use native.Mathlib.Nat.{add-zero, le-refl}
 use native.Mathlib.Numerals.{add-one}
 use native.Mathlib.Omega.{arith}
 use lib.ListN.{length, length-set, getD, set, take}
 use mir.Val.{boolByte}
-use lib.Seq.{length-take-le, take-all, take-set-le, take-suc, take-suc-set}
-use Rattle.order.specs.Lists.{filter, filter-append, getD-mem, numbersFrom, sublist-few, sublist-⊆}
+use lib.Seq.{take-all, take-set-le, take-suc, take-suc-set}
+use Rattle.order.specs.Lists.{_∈_, filter, filter-append, getD-mem, numbersFrom, sublist-few, sublist-⊆}
 use Rattle.order.specs.Order.{orderℕ, pair-first, pairs}
 use Rattle.order.specs.Perm.{pairwise-imp, pairwise-sublist}
-use Rattle.order.specs.Sorted.{Sorted, sort-sorted}
+use Rattle.order.specs.Sorted.{Apart, Sorted, sort-sorted}
 use Rattle.order.specs.Least.{ranked}
 use Rattle.network.specs.Capacities.{linksHeld}
 use Rattle.network.specs.Yard.{sumAt}
-use Rattle.kruskal_order.specs.ByCost.{Cheap, linkOrder, order-below, order-length}
-use Rattle.kruskal.specs.Tree.{Usable, Walkable}
-use Rattle.kruskal.specs.Base.{Holding}
-use Rattle.kruskal.specs.declared.links.Links.{Links}
+use Rattle.kruskal_order.specs.ByCost.{Cheap, linkOrder, order-apart, order-below, order-length}
+use Rattle.kruskal.specs.Tree.{Walkable}
 
--- the link at a place of links that can be walked
-pub usable-at : {sums l : List ℕ} (k : ℕ) → Walkable sums l → k < length l → Usable sums (getD l k 0)
-usable-at {l = l} k walk h = walk .usable (getD l k 0) (getD-mem l k 0 h)
+-- links that have a pattern each, with an array that has room for them
+pub record Selectable (patterns order out : List ℕ) : Type 0 where
+  pub known : (e : ℕ) → e ∈ order → e < length patterns
+  pub room : length order ≤ length out
+
+-- the first n entries of an array are the links l
+pub record Holding (l out : List ℕ) (n : ℕ) : Type 0 where
+  pub links : take n out ≡ l
+  pub few : n ≤ length out
+
+-- the link at a place
+pub known-at : {patterns order out : List ℕ} → Selectable patterns order out → (k : ℕ) → k < length order → getD order k 0 < length patterns
+known-at {order = order} s k h = s .known (getD order k 0) (getD-mem order k 0 h)
 
 pub one-at-most : (b : Bool) → boolByte b ≤ 1
 one-at-most true = omega arith
@@ -35,11 +43,11 @@ module _ (p : ℕ → Bool) where
     pub turns : k ≤ end
     pub all : end ≡ length l
     pub fewer : n ≤ k
-    pub size : length link ≡ linksHeld
+    pub room : length l ≤ length link
     pub passed : take n link ≡ filter p (take k l)
 
-  pub collect-start : (l link : List ℕ) → length link ≡ linksHeld → Collected l link 0 0 (length l)
-  collect-start l link s = record { turns = omega arith; all = refl; fewer = omega arith; size = s; passed = refl }
+  pub collect-start : (l link : List ℕ) → length l ≤ length link → Collected l link 0 0 (length l)
+  collect-start l link room = record { turns = omega arith; all = refl; fewer = omega arith; room = room; passed = refl }
 
   -- one link more
   more : (link l : List ℕ) (n e : ℕ) → n < length link → take n link ≡ filter p l
@@ -50,33 +58,33 @@ module _ (p : ℕ → Bool) where
       go true = rw add-one (take-suc-set link n e m)
       go false = rw (add-zero, append-nil) (take-set-le n link n e (le-refl n))
 
-  module _ {sums l link : List ℕ} {n k end : ℕ} (walk : Walkable sums l) (c : Collected l link n k end) where
-    pub collect-room : k < end → n < linksHeld
-    collect-room h = omega (arith, walk .few, c .all, c .fewer)
+  module _ {l link : List ℕ} {n k end : ℕ} (c : Collected l link n k end) where
+    pub collect-room : k < end → n < length link
+    collect-room h = omega (arith, c .all, c .fewer, c .room)
 
     pub collect-turn : {b : Bool} → k < end → b ≡ p (getD l k 0) → Collected l (set link n (getD l k 0)) (n + boolByte b) (k + 1) end
     collect-turn {b} h e =
-        let room : n < length link = omega (arith, collect-room h, c .size) in
         let there : k < length l = omega (arith, c .all) in
         record {
           turns = omega arith;
           all = c .all;
           fewer = omega (arith, one-at-most b, c .fewer);
-          size = length-set link n (getD l k 0) ∙ c .size;
-          passed = rw (e, add-one k, take-suc l k 0 there) (more link (take k l) n (getD l k 0) room (c .passed));
+          room = omega (arith, length-set link n (getD l k 0), c .room);
+          passed = rw (e, add-one k, take-suc l k 0 there) (more link (take k l) n (getD l k 0) (collect-room h) (c .passed));
         }
 
-    pub collect-end : end ≤ k → Holding (filter p l) (record { link = link; count = n })
+    pub collect-end : end ≤ k → Holding (filter p l) link n
     collect-end h =
         let all : length l ≤ k = omega (arith, c .all) in
-        record { links = rw (take-all k l all) at (c .passed); size = c .size; few = omega (arith, walk .few, c .all, c .fewer, c .turns) }
+        record { links = rw (take-all k l all) at (c .passed); few = omega (arith, c .room, c .all, c .fewer, c .turns) }
 
 -- ---- links in rising order of cost, and those selected of them
 
--- links that can be walked, in rising order of cost
+-- links that can be walked, each once, in rising order of cost
 pub record InOrder (sums l : List ℕ) : Type 0 where
   pub walkable : Walkable sums l
   pub sorted : Sorted orderℕ (sumAt sums) l
+  pub apart : Apart (λ x. x) l
 
 module _ (sums : List ℕ) where
   pub order-in-order : {l : List ℕ} → length sums ≤ linksHeld → Cheap sums → l ≡ linkOrder sums → InOrder sums l
@@ -90,6 +98,7 @@ module _ (sums : List ℕ) where
         };
         sorted = pairwise-imp (λ x y k. pair-first orderℕ orderℕ (key x) (key y) k) (linkOrder sums)
             (sort-sorted (pairs orderℕ orderℕ) key (numbersFrom (length sums) 0));
+        apart = order-apart sums;
       })
 
   -- so is each sublist
@@ -99,14 +108,5 @@ module _ (sums : List ℕ) where
       record {
         walkable = record { few = omega (arith, sublist-few s); usable = λ e k. v .walkable .usable e (sublist-⊆ s e k) };
         sorted = pairwise-sublist _ s (v .sorted);
+        apart = pairwise-sublist _ s (v .apart);
       }
-
-  pub held-in-order : {l : List ℕ} {r : Links} → Holding l r → InOrder sums l → InOrder sums (take (r .count) (r .link))
-  held-in-order h v = rw (h .links) v
-
--- the part of the array that counts
-pub held-fits : {l : List ℕ} {r : Links} → Holding l r → r .count ≤ length (r .link)
-held-fits h = omega (arith, h .size, h .few)
-
-pub held-length : {l : List ℕ} {r : Links} → Holding l r → r .count ≡ length (take (r .count) (r .link))
-held-length {r = r} h = sym (length-take-le (r .count) (r .link) (held-fits h))

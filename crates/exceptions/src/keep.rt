@@ -1,24 +1,30 @@
 // The exceptions that Kruskal's method keeps, run over the links of each pattern apart, in one pass.
 use exceptions_admitted::fit_patterns;
 use forest::Forest;
-use kruskal::links::Links;
-use network::capacities::LINKS_HELD;
 use network::capacities::PATTERNS_HELD;
+ghost use Prim.Native.Nat.{_*_};
+ghost use mathlib.Core.Path.{_≡_};
 ghost use lib.ListN.{length};
-ghost use Rattle.kruskal.specs.Tree.{Columns, Walkable};
-ghost use Rattle.kruskal.specs.Base.{Holding};
+ghost use Rattle.kruskal.specs.Grown.{Near};
 ghost use Rattle.exceptions_patterns.specs.Patterns.{Patterned};
+ghost use Rattle.exceptions.specs.Select.{Holding, Selectable};
 ghost use Rattle.exceptions.specs.Keep.{keptExceptions};
 
-// The links of an order that may be exceptions and join two groups of the links kept of their pattern.
-pub fn kept_exceptions(ends: &[u8], sums: &[u32], order: &[u8], patterns: &[u8], ks: &[u8]) -> Links
-    requires { ⌜ Columns (now ends) (now sums) × Walkable (now sums) (now order) × Patterned (length (now sums)) (now ks) (now patterns) ⌝ }
-    ensures { λ r. ⌜ Holding (keptExceptions (now (ends .entry)) (now (patterns .entry)) (now (ks .entry)) (now (order .entry))) r ⌝ }
+// Writes the links of an order that may be exceptions and join two groups of the links kept of their pattern, and returns their number.
+pub fn put_exceptions(
+    ends: &[u8],
+    order: &[u8],
+    patterns: &[u8],
+    ks: &[u8],
+    odd: &mut [u8],
+) -> usize
+    requires { ⌜ (length (now ends) ≡ 2 * length (now patterns)) × Near (now ends) (now order)
+        × Patterned (length (now patterns)) (now ks) (now patterns) × Selectable (now patterns) (now order) (now odd) ⌝ }
+    ensures { λ r. ⌜ Holding (keptExceptions (now (ends .entry)) (now (patterns .entry)) (now (ks .entry)) (now (order .entry))) (now (odd .exit)) r ⌝ }
 {
     let fit = fit_patterns(ks);
     let alone = Forest::new();
     let mut forests = [alone; PATTERNS_HELD];
-    let mut link = [0u8; LINKS_HELD];
     let mut n: usize = 0;
     for k in 0..order.len() {
         let e = order[k];
@@ -28,12 +34,14 @@ pub fn kept_exceptions(ends: &[u8], sums: &[u32], order: &[u8], patterns: &[u8],
             let a = ends[2 * i];
             let b = ends[2 * i + 1];
             let groups = forests[pattern];
-            if groups.joins(a, b) {
-                forests[pattern] = groups.join(a, b);
-                link[n] = e;
+            let new = groups.find(a);
+            let old = groups.find(b);
+            if new != old {
+                forests[pattern] = groups.led(old, new);
+                odd[n] = e;
                 n += 1;
             }
         }
     }
-    Links { link, count: n }
+    n
 }

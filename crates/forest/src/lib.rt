@@ -1,10 +1,11 @@
-// The groups of stations already joined, as a value: joining two stations hands back the next value.
+// The groups of stations already joined, as a value: joining two groups hands back the next value.
 use network::capacities::STATIONS_HELD;
 ghost use mathlib.Core.List.{map};
 ghost use mathlib.Core.Path.{_≡_};
-ghost use Rattle.spanning.specs.Labelling.{crosses};
+ghost use Prim.Native.Nat.{_<_};
+ghost use Rattle.network.specs.Capacities.{stationsHeld};
 ghost use Rattle.spanning.specs.LabelList.{labelOf, replaced};
-ghost use Rattle.forest.specs.Groups.{apart, joined, link};
+ghost use Rattle.forest.specs.Groups.{apart, ledBy};
 
 // A leader for each station: two stations with one leader are in one group.
 pub struct Forest {
@@ -63,31 +64,19 @@ impl Forest {
         }
     }
 
-    // The leader of a station's group; a station past the last is alone.
+    // The leader of a station's group.
     pub fn find(self, v: u8) -> u8
+        requires { ⌜ v < stationsHeld ⌝ }
         ensures { λ r. ⌜ r ≡ labelOf (self .leader) v ⌝ }
     {
         let at = v as usize;
-        if at < STATIONS_HELD {
-            self.leader[at]
-        } else {
-            v
-        }
+        self.leader[at]
     }
 
-    // Whether stations a and b are in different groups.
-    pub fn joins(self, a: u8, b: u8) -> bool
-        ensures { λ r. ⌜ r ≡ crosses (labelOf (self .leader)) (link a b) ⌝ }
+    // The group that `old` leads, led by `new`.
+    pub fn led(self, old: u8, new: u8) -> Forest
+        ensures { λ r. ⌜ r ≡ ledBy self old new ⌝ }
     {
-        self.find(a) != self.find(b)
-    }
-
-    // The groups of a and b made one.
-    pub fn join(self, a: u8, b: u8) -> Forest
-        ensures { λ r. ⌜ r ≡ joined self a b ⌝ }
-    {
-        let new = self.find(a);
-        let old = self.find(b);
         let leaders = self.leader;
         let leader = relabel(leaders, old, new);
         Forest { leader }

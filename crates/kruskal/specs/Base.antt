@@ -1,25 +1,22 @@
--- The links that Kruskal's method keeps, as a program collects them in an array.
-use Prim.Native.Nat.{ℕ, _+_, _≤_, _<_}
+-- The links that Kruskal's method keeps, as a program collects them in an array, and the groups after each of them.
+use Prim.Native.Nat.{ℕ, _+_, _*_, _≤_, _<_}
 use mathlib.Core.Bool.{true, false, cond}
-use mathlib.Core.List.{List, [], _∷_, _++_, append-nil, Sublistᴰ, Sublistᴰ·slnil, Sublistᴰ·cons, Sublistᴰ·cons-cons}
+use mathlib.Core.List.{List, [], _∷_, _++_, append-nil, foldl, Sublistᴰ, Sublistᴰ·slnil, Sublistᴰ·cons, Sublistᴰ·cons-cons}
 use mathlib.Core.Path.{_≡_, refl, sym, _∙_}
 use native.Mathlib.Numerals.{add-one}
 use lib.ListN.{length, getD, set, take, drop, drop-of-length-le}
 use lib.Seq.{append-snoc, drop-cons, take-suc-set}
 use Rattle.order.specs.Test.{by-test}
+use Rattle.order.specs.Lists.{_∈_}
+use Rattle.order.specs.Perm as perm
 use Rattle.spanning.specs.Labelling.{crosses}
 use Rattle.spanning.specs.LabelList.{labelOf}
-use Rattle.network.specs.Capacities.{linksHeld}
-use Rattle.network.specs.Yard.{endsAt}
-use Rattle.forest.specs.Groups.{joined}
+use Rattle.spanning.specs.Tree.{Within}
+use Rattle.network.specs.Capacities.{stationsHeld, treeHeld}
+use Rattle.network.specs.Yard.{endsAt, sumAt}
+use Rattle.forest.specs.Groups.{apart, joined}
 use Rattle.forest.specs.declared.Forest.{Forest}
-use Rattle.kruskal.specs.declared.links.Links.{Links}
-
--- r holds the links l
-pub record Holding (l : List ℕ) (r : Links) : Type 0 where
-  pub links : take (r .count) (r .link) ≡ l
-  pub size : length (r .link) ≡ linksHeld
-  pub few : r .count ≤ linksHeld
+use Rattle.kruskal.specs.declared.links.Base.{Base}
 
 module _ (ends : List ℕ) where
   -- the links of a list that are kept, from the groups f
@@ -62,3 +59,25 @@ module _ (ends : List ℕ) where
     pub collect-end : length l ≤ k → take n link ≡ w
     unfolding collected kept
     collect-end h = sym (append-nil (take n link)) ∙ rw (drop-of-length-le l h) at i
+
+-- the groups when the links of a list are joined, one after another, with nothing joined before
+unfoldable pub groupsAfter : List ℕ → List ℕ → Forest
+groupsAfter ends links = foldl (λ f e. joined f (endsAt ends e .a) (endsAt ends e .b)) apart links
+
+-- the leaders after each link of a list stand in rows of an array
+pub record Recorded (ends links history : List ℕ) : Type 0 where
+  pub room : length links * stationsHeld ≤ length history
+  pub row : (k : ℕ) → k < length links → take stationsHeld (drop (k * stationsHeld) history) ≡ groupsAfter ends (take (k + 1) links) .leader
+
+-- the links of a list join the stations 0 .. goal, of which there are no more than arrays hold
+pub record Joinable (ends links : List ℕ) (goal : ℕ) : Type 0 where
+  pub within : (e : ℕ) → e ∈ links → Within (goal + 1) (endsAt ends e)
+  pub held : goal ≤ treeHeld
+
+-- an array holds the links that are kept of a list, of which r has the number and the sum, and another the leaders after each of them
+pub record Based (ends sums l : List ℕ) (goal : ℕ) (base history : List ℕ) (r : Base) : Type 0 where
+  pub links : take (r .count) base ≡ kept ends apart l
+  pub inside : r .count ≤ length base
+  pub few : r .count ≤ goal
+  pub total : r .sum ≡ perm.sum (sumAt sums) (kept ends apart l)
+  pub recorded : Recorded ends (kept ends apart l) history

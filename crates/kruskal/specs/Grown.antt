@@ -19,7 +19,7 @@ use Rattle.forest.specs.Groups.{Led, apart-labels, apart-led, joined, joined-la
 use Rattle.forest.specs.declared.Forest.{Forest}
 use Rattle.kruskal.specs.Tree.{added, bare, linked}
 use Rattle.kruskal.specs.Base.{kept}
-use Rattle.kruskal.specs.declared.tree.Tree.{Tree}
+use Rattle.kruskal.specs.Tree.{Tree}
 
 -- the flags with that of link e set
 abbrev pub withFlag : List Bool → ℕ → List Bool

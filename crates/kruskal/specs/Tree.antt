@@ -3,7 +3,6 @@ use Prim.Native.Nat.{ℕ, _+_, _*_, _≤_, _<_}
 use mathlib.Core.Bool.{Bool, cond, false, true}
 use mathlib.Core.List.{List}
 use mathlib.Core.Path.{_≡_}
-use native.Mathlib.Omega.{arith}
 use lib.ListN.{length, getD, set, replicate}
 use Rattle.order.specs.Lists.{_∈_, getD-mem}
 use Rattle.spanning.specs.Labelling.{crosses}
@@ -11,7 +10,14 @@ use Rattle.spanning.specs.LabelList.{labelOf}
 use Rattle.network.specs.Capacities.{linksHeld, sumHeld}
 use Rattle.network.specs.Yard.{endsAt, sumAt}
 use Rattle.forest.specs.Groups.{apart, joined}
-use Rattle.kruskal.specs.declared.tree.Tree.{Tree}
+use Rattle.forest.specs.declared.Forest.{Forest}
+
+-- a forest of links: its groups, a flag for each link, the sum of the raised costs of its links, and their number
+pub record Tree : Type 0 where
+  pub forest : Forest
+  pub taken : List Bool
+  pub sum : ℕ
+  pub count : ℕ
 
 -- no link is taken
 unfoldable pub bare : Tree
@@ -51,30 +57,3 @@ pub record Walkable (sums l : List ℕ) : Type 0 where
 -- the link at a place of the walk is such a link
 pub walk-usable : {sums l : List ℕ} → Walkable sums l → (k : ℕ) → k < length l → Usable sums (getD l k 0)
 walk-usable {l = l} w k h = w .usable (getD l k 0) (getD-mem l k 0 h)
-
--- a forest of at most j links
-pub record Light (j : ℕ) (t : Tree) : Type 0 where
-  pub sum-bound : t .sum ≤ j * sumHeld
-  pub count-bound : t .count ≤ j
-
--- taking a link adds at most its cost, and at most 1 to the count
-pub linked-adds : (ends sums : List ℕ) (t : Tree) (e : ℕ) {r : Tree} → r ≡ linked ends sums t e → (r .sum ≤ t .sum + sumAt sums e) × (r .count ≤ t .count + 1)
-unfolding linked added
-linked-adds ends sums t e q = rw q (go (crosses (labelOf (t .forest .leader)) (endsAt ends e)))
-  where
-    go : (b : Bool) → (cond b (added ends sums t e) t .sum ≤ t .sum + sumAt sums e) × (cond b (added ends sums t e) t .count ≤ t .count + 1)
-    go true = (omega arith, omega arith)
-    go false = (omega arith, omega arith)
-
-pub light-up : {i : ℕ} {t : Tree} (j : ℕ) → i ≤ j → Light i t → Light j t
-light-up j h l = record { sum-bound = omega arith; count-bound = omega arith }
-
-pub light-linked : (ends : List ℕ) {sums : List ℕ} {e : ℕ} (j : ℕ) {t r : Tree} → Usable sums e → Light j t → r ≡ linked ends sums t e → Light (j + 1) r
-light-linked ends {sums} {e} j {t} u l q =
-    let cost = u .cheap in
-    let adds = linked-adds ends sums t e q in
-    record { sum-bound = omega arith; count-bound = omega arith }
-
-pub light-bare : Light 0 bare
-unfolding bare
-light-bare = record { sum-bound = omega arith; count-bound = omega arith }

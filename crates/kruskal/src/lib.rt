@@ -1,3 +1,2 @@
-// Kruskal's method on links in order of cost: the loop, and the links that it keeps.
+// Kruskal's method on links in order of cost: the links that it keeps, and the groups after each of them.
 pub mod links;
-pub mod tree;

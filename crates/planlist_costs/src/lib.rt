@@ -41,3 +41,11 @@ pub fn costs_at(s: &[u8], at: usize) -> Costs
         y2: read_i16(s, at + Y2_AT),
     }
 }
+
+// The sum that the plan record at an index holds.
+pub fn sum_in(s: &[u8], at: usize) -> i32
+    requires { ⌜ at + planSize planSlots 0 ≤ length (now s) ⌝ }
+    ensures { λ r. ⌜ r ≡ costsAt (now (s .entry)) at .sum ⌝ }
+{
+    read_i32(s, at + SUM_AT)
+}

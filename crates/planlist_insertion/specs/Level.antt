@@ -8,13 +8,15 @@ use lib.ListN.{length, drop}
 use lib.Signed.{leZ}
 use Rattle.order.specs.Test.{by-test, clash, refute}
 use Rattle.order.specs.Lists.{_∈_, filter, none-any}
-use Rattle.order.specs.Order.{TotalOrder, dictionary-trans, le-refl, leZ-trans, orderℤ}
+use Rattle.order.specs.Order.{Less, TotalOrder, dictionary-trans, le-refl, leZ-trans, orderℤ}
+use Rattle.order.specs.Perm.{pairwise-imp}
 use Rattle.order.specs.Sorted.{Rising}
 use Rattle.frontier.specs.Frontier.{vector, vectorOrder}
 use Rattle.network.specs.Calls.{costValues}
 use Rattle.network.specs.declared.Costs.{Costs}
 use Rattle.network.specs.PlanList.{costsAt}
 use Rattle.planlist_costs.specs.Orders.{atMost, inOrder, at-most-before, in-order-higher, in-order-lower}
+use Rattle.planlist_place.specs.Lower.{SumsRise}
 use Rattle.planlist_place.specs.Place.{freePlace}
 use Rattle.planlist_pruning.specs.Pruned.{prunedLevel}
 use Rattle.planlist_insertion.specs.Insertion.{RecordsRise, coveredBy, leading, placeOf, prunedBy, records}
@@ -51,13 +53,21 @@ suc-cond : (t : Bool) (m n : ℕ) → suc (cond t m n) ≡ cond t (suc m) (suc n
 suc-cond true m n = refl
 suc-cond false m n = refl
 
+-- of two records in rising order the later has no lower sum
+no-lower-sum : (b c : List ℕ) → Less (vectorOrder records) (vector records b) (vector records c) → leZ (costsAt b 0 .sum) (costsAt c 0 .sum) ≡ true
+unfolding inOrder
+no-lower-sum b c h =
+    by-test (leZ (costsAt b 0 .sum) (costsAt c 0 .sum)) (λ d. d) (λ d. clash (in-order-lower (costsAt c 0) (costsAt b 0) d) h)
+
+-- so the sums do not fall
+pub sums-sorted : (bs : List (List ℕ)) → RecordsRise bs → SumsRise bs
+sums-sorted bs r = record { rise = pairwise-imp no-lower-sum bs (r .rising) }
+
 -- from a record on the sums are no lower
 sums-rise : (b : List ℕ) (bs : List (List ℕ)) → Rising (vectorOrder records) (vector records) (b ∷ bs) → (c : List ℕ) → c ∈ b ∷ bs
     → leZ (costsAt b 0 .sum) (costsAt c 0 .sum) ≡ true
-unfolding inOrder
 sums-rise b bs r c (here q) = rw q (le-refl orderℤ (costsAt b 0 .sum))
-sums-rise b bs r c (there m) =
-    by-test (leZ (costsAt b 0 .sum) (costsAt c 0 .sum)) (λ d. d) (λ d. clash (in-order-lower (costsAt c 0) (costsAt b 0) d) (r .0 c m))
+sums-rise b bs r c (there m) = no-lower-sum b c (r .0 c m)
 
 module _ (v : Costs) where
   -- from a record on that v stands before, none is at most v

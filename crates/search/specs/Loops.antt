@@ -8,12 +8,12 @@ use mathlib.Core.Logic.{⊎-elim}
 use mathlib.Core.Path.{_≡_, refl, sym, ap, _∙_}
 use native.Mathlib.Numerals.{add-one}
 use native.Mathlib.Omega.{arith}
-use borrow.Author.Tests.{leb-true}
+use borrow.Author.Tests.{leb-true, not-false, not-true}
 use lib.Dec.{leb}
 use lib.ListN.{length, length-drop, getD, take, drop, drop-of-length-le}
-use lib.Seq.{drop-cons, take-all}
-use Rattle.order.specs.Test.{by-test, fails}
-use Rattle.order.specs.Lists.{_∈_, count, map-mem}
+use lib.Seq.{drop-cons}
+use Rattle.order.specs.Test.{by-test, fails, left, right}
+use Rattle.order.specs.Lists.{_∈_, count, map-mem, sublist-⊆}
 use Rattle.order.specs.Order.{orderℕ}
 use Rattle.order.specs.Perm.{pairwise-sublist, sum}
 use Rattle.order.specs.Sorted.{Sorted}
@@ -22,29 +22,33 @@ use Rattle.kmax.specs.Ceilings.{slackOf}
 use Rattle.kmax.specs.Digits.{admits, admits-few, marked, ones}
 use Rattle.exceptions_patterns.specs.Patterns.{Patterned, admitted, patternAt}
 use Rattle.exceptions.specs.Keep.{Exceptions}
-use Rattle.exceptions.specs.Select.{InOrder, sublist-in-order}
+use Rattle.exceptions.specs.Select.{sublist-in-order}
 use Rattle.search_best.specs.Sets.{higher, lower, pair, sets, singles, trials}
-use Rattle.search_best.specs.Search.{considered, tried, triedIf}
-use Rattle.search_base.specs.Rest.{loses-more, losesTo, losing, restOf}
-use Rattle.search_best.specs.declared.best.Best.{Best}
+use Rattle.search_best.specs.Search.{Best, considered, offered, tried, triedIf}
+use Rattle.search_best.specs.Stands.{grownFrom}
+use Rattle.search_base.specs.Rest.{from-place, loses-more, losesTo, losing, restOf}
 use Rattle.search_base.specs.declared.rest.Rest.{Rest}
+use Rattle.search_set.specs.Grows.{ring}
+use Rattle.search_set.specs.Trials.{Joining, ring-tried, two-tried}
+use Rattle.search.specs.Begun.{Tryable, fitting}
 
 pair-sum : (c : ℕ → ℕ) (x y : ℕ) → sum c (pair x y) ≡ c x + c y
 unfolding lower higher
 pair-sum c x y = by-test (leb x y) (λ k. rw k (omega arith)) (λ k. rw k (omega arith))
-
--- the links from a place on, as a part of an array
-pub from-place : (l : List ℕ) (i : ℕ) → take (length l - i) (drop i l) ≡ drop i l
-from-place l i = take-all (length l - i) (drop i l) (omega (arith, length-drop i l))
 
 drop-sublist : (l : List ℕ) (i : ℕ) → Sublistᴰ (drop i l) l
 drop-sublist l zero = Sublistᴰ·refl l
 drop-sublist [] (suc i) = Sublistᴰ·slnil
 drop-sublist (x ∷ l) (suc i) = Sublistᴰ·cons (drop-sublist l i)
 
--- they are in order too, and some are left before the end
-pub place-in-order : {sums l : List ℕ} (i : ℕ) → InOrder sums l → InOrder sums (take (length l - i) (drop i l))
-place-in-order {sums} {l} i v = rw (from-place l i) (sublist-in-order sums (drop-sublist l i) v)
+-- the links from a place on can be tried too; the first of them is the one at the place, and some are left before the end
+pub place-tryable : {ends sums l : List ℕ} (i : ℕ) → Tryable ends sums l → Tryable ends sums (take (length l - i) (drop i l))
+place-tryable {sums = sums} {l} i v =
+    rw (from-place l i)
+    (record { order = sublist-in-order sums (drop-sublist l i) (v .order); joining = λ e m. v .joining e (sublist-⊆ (drop-sublist l i) e m) })
+
+pub place-first : (l : List ℕ) (i : ℕ) → i < length l → getD (take (length l - i) (drop i l)) 0 0 ≡ getD l i 0
+place-first l i h = rw (from-place l i, drop-cons l i 0 h)
 
 pub place-some : (l : List ℕ) (i : ℕ) → i < length l → 0 < length (take (length l - i) (drop i l))
 place-some l i h = rw (from-place l i) (omega (arith, length-drop i l))
@@ -60,9 +64,30 @@ later-dearer c l i y s h m =
     let sorted = rw q at (sorted-drop c l i s) in
     ⊎-elim (λ e. rw e (omega arith)) (λ k. leb-true (c (getD l i 0)) (c y) (sorted .0 y k)) (List·Memᴰ·cases-cons (rw q at m))
 
+-- sets that change nothing, one by one, change nothing together
+unchanged : (try : Best → List ℕ → Best) (b : Best) (Xs : List (List ℕ)) → ((X : List ℕ) → X ∈ Xs → b ≡ try b X) → foldl try b Xs ≡ b
+unchanged try b [] h = refl
+unchanged try b (X ∷ Xs) h = rw (← h X (here refl)) (unchanged try b Xs (λ Y m. h Y (there m)))
+
 -- ---- the sets of one link
 
 module _ (ends sums : List ℕ) (goal : ℕ) (base : List ℕ) where
+  -- two exceptions that fit together are tried, and others change nothing
+  module _ (b : Best) (ks : List ℕ) {x y : ℕ} (p q : ℕ) (j : Joining ends sums x) (k : Joining ends sums y) where
+    pub pair-tried : fitting ends ks x p y q ≡ true
+        → triedIf ends sums goal (admits ks (p ∷ q ∷ [])) base b (pair x y) ≡ offered goal b (grownFrom ends sums base (pair x y))
+    unfolding triedIf fitting
+    pair-tried t =
+        rw (left (admits ks (p ∷ q ∷ [])) _ t)
+        (two-tried ends sums goal base b j k (not-true (ring ends x y) (right (admits ks (p ∷ q ∷ [])) _ t)))
+
+    pub pair-left : fitting ends ks x p y q ≡ false → b ≡ triedIf ends sums goal (admits ks (p ∷ q ∷ [])) base b (pair x y)
+    unfolding triedIf fitting
+    pair-left t =
+        by-test (admits ks (p ∷ q ∷ []))
+        (λ e. rw e (sym (ring-tried ends sums goal base b j k (not-false (ring ends x y) (rw e at t)))))
+        (λ e. rw e)
+
   -- what those of the links of l from place i on leave of the best so far
   unfoldable pub triedOnes : Best → List ℕ → ℕ → Best
   triedOnes b l i = foldl (tried ends sums goal base) b (singles (drop i l))
@@ -75,6 +100,18 @@ module _ (ends sums : List ℕ) (goal : ℕ) (base : List ℕ) where
   pub ones-end : (b w : Best) (l : List ℕ) (i : ℕ) → length l ≤ i → triedOnes b l i ≡ w → b ≡ w
   unfolding triedOnes singles
   ones-end b w l i h e = rw (drop-of-length-le l h) at e
+
+  -- where the set of the link at i loses, those behind it lose too
+  pub ones-lose : Sorted orderℕ (sumAt sums) base → (b w : Best) (l : List ℕ) (i : ℕ) (rest : Rest) (c : ℕ) → Sorted orderℕ (sumAt sums) l → i < length l
+      → rest ≡ restOf sums base goal 1 → c ≡ sumAt sums (getD l i 0) → losesTo rest c (b .found) (b .sum) ≡ true → triedOnes b l i ≡ w → b ≡ w
+  unfolding triedOnes singles
+  ones-lose by-cost b w l i rest c sorted h e f k q =
+      sym (unchanged (tried ends sums goal base) b (map (λ x. x ∷ []) (drop i l)) (λ X m.
+      let y = map-mem (λ x. x ∷ []) (drop i l) X m in
+      let dearer = later-dearer (sumAt sums) l i (y .0) sorted h (y .1) in
+      let dear = loses-more (restOf sums base goal 1) _ _ (b .found) (b .sum) (omega (arith, f)) (rw e at k) in
+      rw (y .2) (losing ends sums goal base by-cost b (y .0 ∷ []) dear)))
+      ∙ q
 
 -- ---- sets that are admitted
 
@@ -127,12 +164,6 @@ module _ (ends sums : List ℕ) (goal : ℕ) (ks patterns base : List ℕ) where
   unfolding triedIf
   lost b X e = by-test (admitted ks patterns X) (λ a. rw a e) (λ a. rw a)
 
-  -- sets that change nothing
-  unchanged : (b : Best) (Xs : List (List ℕ)) → ((X : List ℕ) → X ∈ Xs → b ≡ considered ends sums goal ks patterns base b X) → searched b Xs ≡ b
-  unfolding searched
-  unchanged b [] h = refl
-  unchanged b (X ∷ Xs) h = rw (← h X (here refl)) (unchanged b Xs (λ Y m. h Y (there m)))
-
   -- ---- the sets of the first link of l and the links from place i on
 
   -- what they leave of the best so far
@@ -156,10 +187,10 @@ module _ (ends sums : List ℕ) (goal : ℕ) (ks patterns base : List ℕ) where
       → Sorted orderℕ (sumAt sums) l → i < length l
       → rest ≡ restOf sums base goal 2 → c ≡ sumAt sums (getD l 0 0) → d ≡ sumAt sums (getD l i 0) → losesTo rest (c + d) (b .found) (b .sum) ≡ true
       → withPairs b l i ≡ w → b ≡ w
-  unfolding withPairs
+  unfolding withPairs searched
   pairs-lose by-cost b w l i rest c d sorted h e f g k q =
       let x = getD l 0 0 in
-      sym (unchanged b (map (pair x) (drop i l)) (λ X m.
+      sym (unchanged (considered ends sums goal ks patterns base) b (map (pair x) (drop i l)) (λ X m.
       let y = map-mem (pair x) (drop i l) X m in
       let dearer = later-dearer (sumAt sums) l i (y .0) sorted h (y .1) in
       let cost = pair-sum (sumAt sums) x (y .0) in
@@ -202,7 +233,7 @@ module _ (ends sums : List ℕ) (goal : ℕ) (ks patterns base : List ℕ) where
         let try = considered ends sums goal ks patterns base in
         let b′ = tried ends sums goal base b (x ∷ []) in
         let first : b′ ≡ try b (x ∷ []) = admitted-tried b b′ (x ∷ []) (E .alone x (here refl)) refl in
-        let barred : searched b′ (map (pair x) l) ≡ b′ = unchanged b′ (map (pair x) l) (λ X m.
+        let barred : searched b′ (map (pair x) l) ≡ b′ = unchanged try b′ (map (pair x) l) (λ X m.
         let y = map-mem (pair x) l X m in
         rw (y .2) (inadmissible b′ (pair x (y .0)) (pair-barred ks patterns P few x (y .0) (below x (here refl)) (below (y .0) (there (y .1)))
         (E .above x (here refl)) (E .above (y .0) (there (y .1)))))) in
@@ -223,7 +254,7 @@ module _ (ends sums : List ℕ) (goal : ℕ) (ks patterns base : List ℕ) where
   trials-searched b₀ b r l e q = q ∙ ap (λ (k : Best). foldl (considered ends sums goal ks patterns base) k (sets l)) e
 
   -- without exceptions there are no other sets
-  pub none-searched : (b₀ b : Best) (l : List ℕ) → length l ≡ 0 → b ≡ considered ends sums goal ks patterns base b₀ [] → b ≡ searched b₀ (trials l)
+  pub none-searched : (b : Best) (l : List ℕ) → length l ≡ 0 → b ≡ searched b (sets l)
   unfolding searched sets
-  none-searched b₀ b [] h e = e
-  none-searched b₀ b (x ∷ l) h e = absurd (omega arith)
+  none-searched b [] h = refl
+  none-searched b (x ∷ l) h = absurd (omega arith)

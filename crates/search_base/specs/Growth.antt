@@ -13,7 +13,7 @@ use Rattle.order.specs.Sorted.{Sorted}
 use Rattle.spanning.specs.Labelling.{crosses}
 use Rattle.spanning.specs.LabelList.{labelOf}
 use Rattle.kruskal.specs.Tree.{added, linked}
-use Rattle.kruskal.specs.declared.tree.Tree.{Tree}
+use Rattle.kruskal.specs.Tree.{Tree}
 use Rattle.network.specs.Yard.{endsAt, sumAt}
 
 -- the first j of links in rising order of cost cost no more than the first j behind the first

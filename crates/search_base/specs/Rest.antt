@@ -2,44 +2,34 @@
 -- order of cost.
 use Prim.Native.Nat.{ℕ, zero, suc, _+_, _-_, _*_, _≤_, _<_}
 use mathlib.Core.Bool.{Bool, true, false, cond, not, _&&_, _||_}
-use mathlib.Core.List.{List, [], _∷_, foldl, List·Memᴰ·cases-cons, List·Memᴰ·head as here, List·Memᴰ·tail as there}
-use mathlib.Core.Logic.{⊎-elim}
-use mathlib.Core.Path.{_≡_, sym, ap, _∙_}
+use mathlib.Core.List.{List, [], _∷_, foldl, List·Memᴰ·tail as there}
+use mathlib.Core.Path.{_≡_, sym, ap, ap₂, _∙_}
 use native.Mathlib.Nat.{mul-le-mul-right}
 use native.Mathlib.Omega.{arith}
 use borrow.Author.Tests.{eqb-true, le-ltb, lt-ltb, ltb-true, ne-eqb}
 use lib.Dec.{eqb, ltb}
-use lib.ListN.{length, take}
-use lib.Seq.{take-length}
+use lib.ListN.{drop, length, length-drop, take, take-append-drop}
+use lib.Seq.{take-all}
 use Rattle.order.specs.Test.{by-test, clash, fails, left, right}
 use Rattle.order.specs.Lists.{_⊆_}
 use Rattle.order.specs.Order.{orderℕ}
-use Rattle.order.specs.Perm.{sum}
+use Rattle.order.specs.Perm.{sum, sum-append}
 use Rattle.order.specs.Sorted.{Sorted}
 use Rattle.network.specs.Capacities.{linksHeld, sumHeld}
 use Rattle.network.specs.Yard.{sumAt}
 use Rattle.trees_sums.specs.Added.{Below, sum-le, sumOf}
-use Rattle.kruskal.specs.Tree.{Walkable, bare, linked}
-use Rattle.kruskal.specs.declared.tree.Tree.{Tree}
+use Rattle.kruskal.specs.Tree.{Tree, Walkable, bare, linked}
 use Rattle.search_base.specs.Growth.{grown-all, grown-few, grown-least, grown-more}
-use Rattle.search_best.specs.Search.{beats, offered, tried}
-use Rattle.search_best.specs.declared.best.Best.{Best}
+use Rattle.search_best.specs.Search.{Best, beats, offered, tried}
+use Rattle.search_best.specs.Stands.{Keeps}
+use Rattle.search_best.specs.declared.best.Lead.{Lead}
 use Rattle.search_base.specs.declared.rest.Rest.{Rest}
 
 -- what a tree of `goal` links takes of the base beside a set of `size` links
 unfoldable pub restOf : List ℕ → List ℕ → ℕ → ℕ → Rest
 restOf sums base goal size =
-    cond (ltb (length base) (goal - size)) (record { goal = goal; enough = false; least = 0 })
-    (record { goal = goal; enough = true; least = sum (sumAt sums) (take (goal - size) base) })
-
--- it is for trees of that many links
-pub rest-goal : (sums base : List ℕ) (goal size : ℕ) {rest : Rest} → rest ≡ restOf sums base goal size → rest .goal ≡ goal
-unfolding restOf
-rest-goal sums base goal size e =
-    rw e (by-test (ltb (length base) (goal - size)) (λ k. rw k) (λ k. rw k))
-
-pub rest-for : (sums base : List ℕ) (goal size : ℕ) {rest : Rest} → rest ≡ restOf sums base goal size → rest ≡ restOf sums base (rest .goal) size
-rest-for sums base goal size e = e ∙ ap (λ (g : ℕ). restOf sums base g size) (sym (rest-goal sums base goal size e))
+    cond (ltb (length base) (goal - size)) (record { enough = false; least = 0 })
+    (record { enough = true; least = sum (sumAt sums) (take (goal - size) base) })
 
 -- no tree with a set that costs `cost` is better than the best so far, if one was found, with its sum
 unfoldable pub losesTo : Rest → ℕ → Bool → ℕ → Bool
@@ -55,53 +45,70 @@ loses-more rest c d found best h e = go (rest .enough) found e
     go true true e = lt-ltb best (d + rest .least) (omega (arith, ltb-true best (c + rest .least) e))
     go true false e = e
 
+-- the lead loses as the best tree does that it keeps
+pub lead-loses : {base : List ℕ} {b : Best} {c : Lead} → Keeps base b c → (rest : Rest) (cost : ℕ)
+    → losesTo rest cost (c .found) (c .trial .sum) ≡ losesTo rest cost (b .found) (b .sum)
+unfolding losesTo
+lead-loses {b = b} {c} kept rest cost =
+    by-test (b .found)
+    (λ f. ap₂ (λ (found : Bool) (best : ℕ). not (rest .enough) || (found && ltb best (cost + rest .least))) (kept .found) (kept .sum f))
+    (λ f. ap (λ (found : Bool). not (rest .enough) || (found && ltb (c .trial .sum) (cost + rest .least))) (kept .found ∙ f)
+    ∙ sym (ap (λ (found : Bool). not (rest .enough) || (found && ltb (b .sum) (cost + rest .least))) f))
+
 -- ---- links of the base have costs in range
 
-take-among : (n : ℕ) (l : List ℕ) → take n l ⊆ l
-take-among zero l e m = elim m [ ]
-take-among (suc n) [] e m = m
-take-among (suc n) (x ∷ l) e m = ⊎-elim (λ q. here q) (λ k. there (take-among n l e k)) (List·Memᴰ·cases-cons m)
+drop-among : (n : ℕ) (l : List ℕ) → drop n l ⊆ l
+drop-among zero l e m = m
+drop-among (suc n) [] e m = m
+drop-among (suc n) (x ∷ l) e m = there (drop-among n l e m)
 
-take-least : (w : ℕ → ℕ) (n : ℕ) (l : List ℕ) → sum w (take n l) ≤ sum w l
-take-least w zero l = omega arith
-take-least w (suc n) [] = omega arith
-take-least w (suc n) (x ∷ l) = omega (arith, take-least w n l)
+-- a list from place i on, as a part of a slice has it
+pub from-place : (l : List ℕ) (i : ℕ) → take (length l - i) (drop i l) ≡ drop i l
+from-place l i = take-all (length l - i) (drop i l) (omega (arith, length-drop i l))
+
+-- the first links of the base and the others cost what the base does
+parts : (sums base : List ℕ) (n : ℕ) → sumOf sums (take n base) + sumOf sums (drop n base) ≡ sumOf sums base
+unfolding sumOf
+parts sums base n = sym (sum-append (sumAt sums) (take n base) (drop n base)) ∙ ap (sum (sumAt sums)) (take-append-drop n base)
 
 module _ (sums base : List ℕ) (walk : Walkable sums base) where
-  pub first-known : (n : ℕ) → Below (length sums) (take n base)
-  first-known n = record { below = λ e m. walk .usable e (take-among n base e m) .below }
-
-  first-small : (n : ℕ) → sum (sumAt sums) (take n base) ≤ linksHeld * sumHeld
-  first-small n =
+  base-small : sumOf sums base ≤ linksHeld * sumHeld
+  unfolding sumOf
+  base-small =
       let few = walk .few in
       let all = sum-le (sumAt sums) sumHeld base (λ e m. walk .usable e m .cheap) in
-      omega (arith, take-least (sumAt sums) n base, mul-le-mul-right sumHeld few)
+      omega (arith, mul-le-mul-right sumHeld few)
 
-  pub first-fits : (n : ℕ) → sumOf sums (take n base) < 4294967296
-  unfolding sumOf
-  first-fits n = omega (arith, first-small n)
+  -- the links behind the first n
+  pub behind-known : (n : ℕ) → Below (length sums) (drop n base)
+  behind-known n = record { below = λ e m. walk .usable e (drop-among n base e m) .below }
+
+  pub behind-fits : (n : ℕ) → sumOf sums (drop n base) < 4294967296
+  behind-fits n = omega (arith, parts sums base n, base-small)
 
   pub least-fits : (goal size c : ℕ) → c ≤ 2 * sumHeld → c + restOf sums base goal size .least < 4294967296
-  unfolding restOf
-  least-fits goal size c h =
-      by-test (ltb (length base) (goal - size)) (λ e. rw e (omega arith)) (λ e. rw e (omega (arith, first-small (goal - size))))
-
-  -- and so of the whole base
-  pub base-known : Below (length sums) base
-  base-known = record { below = λ e m. walk .usable e m .below }
-
-  pub base-fits : sumOf sums base < 4294967296
-  base-fits = rw (take-length base) at (first-fits (length base))
-
-  -- the rest, by whether the base has enough links
-  pub rest-few : (goal size : ℕ) → length base < goal - size → record { goal = goal; enough = false; least = 0 } ≡ restOf sums base goal size
-  unfolding restOf
-  rest-few goal size h = rw (lt-ltb (length base) (goal - size) h)
-
-  pub rest-enough : (goal size : ℕ) → goal - size ≤ length base
-      → record { goal = goal; enough = true; least = sumOf sums (take (goal - size) base) } ≡ restOf sums base goal size
   unfolding restOf sumOf
-  rest-enough goal size h = rw (le-ltb (length base) (goal - size) h)
+  least-fits goal size c h =
+      by-test (ltb (length base) (goal - size))
+      (λ e. rw e (omega arith))
+      (λ e. rw e (omega (arith, parts sums base (goal - size), base-small)))
+
+-- what the links behind the first n cost is part of what the base costs, and the first n cost the rest of it
+pub behind-part : (sums base : List ℕ) {total : ℕ} (n : ℕ) → total ≡ sumOf sums base → sumOf sums (drop n base) ≤ total
+behind-part sums base n e = omega (arith, parts sums base n)
+
+-- the rest, by whether the base has enough links
+module _ (sums base : List ℕ) (goal size : ℕ) where
+  pub rest-few : length base < goal - size → record { enough = false; least = 0 } ≡ restOf sums base goal size
+  unfolding restOf
+  rest-few h = rw (lt-ltb (length base) (goal - size) h)
+
+  pub rest-enough : {total : ℕ} → total ≡ sumOf sums base → goal - size ≤ length base
+      → record { enough = true; least = total - sumOf sums (drop (goal - size) base) } ≡ restOf sums base goal size
+  unfolding restOf sumOf
+  rest-enough {total} e h =
+      let least : total - sumOf sums (drop (goal - size) base) ≡ sumOf sums (take (goal - size) base) = omega (arith, parts sums base (goal - size)) in
+      rw (le-ltb (length base) (goal - size) h) (ap (λ (k : ℕ). record { enough = true; least = k }) least)
 
 -- ---- a set that loses
 

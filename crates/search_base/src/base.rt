@@ -1,42 +1,31 @@
-// The base alone as the best tree so far.
-use network::capacities::LINKS_HELD;
-use search_best::best::Best;
-use trees_sums::sum_of;
+// The base alone, as a trial and as the lead.
+use kruskal::links::Base;
+use search_best::best::Lead;
+use search_best::best::Trial;
 ghost use mathlib.Core.Path.{_≡_};
-ghost use Prim.Native.Nat.{_≤_};
-ghost use lib.ListN.{length};
-ghost use Rattle.network.specs.Capacities.{linksHeld};
-ghost use Rattle.kruskal.specs.Grown.{flagsOf};
-ghost use Rattle.kruskal.specs.Tree.{Walkable};
-ghost use Rattle.search_base.specs.BaseAlone.{baseAlone};
+ghost use Rattle.search_base.specs.BaseAlone.{leadAlone, trialAlone};
 
-// A flag for each link, set for the links of a list.
-fn flags_of(sums: &[u32], links: &[u8]) -> [bool; LINKS_HELD]
-    requires { ⌜ (length (now sums) ≤ linksHeld) × Walkable (now sums) (now links) ⌝ }
-    ensures { λ r. ⌜ r ≡ flagsOf (now (links .entry)) ⌝ }
+// The base as a trial.
+pub fn trial_of(base: Base) -> Trial
+    ensures { λ r. ⌜ r ≡ trialAlone base ⌝ }
 {
-    let mut taken = [false; LINKS_HELD];
-    for k in 0..links.len() {
-        taken[links[k] as usize] = true;
+    Trial {
+        count: base.count,
+        sum: base.sum,
+        size: 0,
+        link: 0,
+        other: 0,
+        lost: base.count,
+        lost2: base.count,
     }
-    taken
 }
 
-// The base as the best tree so far, where it has `goal` links.
-pub fn base_alone(sums: &[u32], base: &[u8], goal: u8) -> Best
-    requires { ⌜ (length (now sums) ≤ linksHeld) × Walkable (now sums) (now base) ⌝ }
-    ensures { λ r. ⌜ r ≡ baseAlone (now (sums .entry)) (now (base .entry)) goal ⌝ }
+// The base as the lead, where it has `goal` links.
+pub fn base_alone(base: Base, goal: usize) -> Lead
+    ensures { λ r. ⌜ r ≡ leadAlone base goal ⌝ }
 {
-    if base.len() == goal as usize {
-        return Best {
-            found: true,
-            sum: sum_of(sums, base),
-            taken: flags_of(sums, base),
-        };
-    }
-    Best {
-        found: false,
-        sum: 0,
-        taken: [false; LINKS_HELD],
+    Lead {
+        found: base.count == goal,
+        trial: trial_of(base),
     }
 }

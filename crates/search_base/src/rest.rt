@@ -3,43 +3,37 @@ use trees_sums::sum_of;
 ghost use mathlib.Core.Path.{_≡_};
 ghost use Prim.Native.Nat.{_+_, _-_, _<_};
 ghost use Rattle.kruskal.specs.Tree.{Walkable};
+ghost use Rattle.trees_sums.specs.Added.{sumOf};
 ghost use Rattle.search_base.specs.Rest.{losesTo, restOf};
 
-// What a tree of `goal` links takes of the base beside a set: whether the base has as many links, and the least that so many cost, raised.
+// What a tree takes of the base beside a set: whether the base has as many links, and the least that so many cost, raised.
 pub struct Rest {
-    pub goal: u8,
     pub enough: bool,
     pub least: u32,
 }
 
 // How many links a tree of `goal` links has beside a set of `size` links.
-fn beside(goal: u8, size: u8) -> usize
+fn beside(goal: usize, size: usize) -> usize
     ensures { λ r. ⌜ r ≡ goal - size ⌝ }
 {
-    if size < goal {
-        (goal - size) as usize
-    } else {
-        0
-    }
+    if size < goal { goal - size } else { 0 }
 }
 
-// The rest for a set of `size` links. The base comes in rising order of cost.
-pub fn rest_of(sums: &[u32], base: &[u8], goal: u8, size: u8) -> Rest
-    requires { ⌜ Walkable (now sums) (now base) ⌝ }
+// The rest for a set of `size` links. The base comes in rising order of cost, and costs `sum`.
+pub fn rest_of(sums: &[u32], base: &[u8], goal: usize, size: usize, sum: u32) -> Rest
+    requires { ⌜ Walkable (now sums) (now base) × (sum ≡ sumOf (now sums) (now base)) ⌝ }
     ensures { λ r. ⌜ r ≡ restOf (now (sums .entry)) (now (base .entry)) goal size ⌝ }
 {
     let n = beside(goal, size);
     if base.len() < n {
         return Rest {
-            goal,
             enough: false,
             least: 0,
         };
     }
     Rest {
-        goal,
         enough: true,
-        least: sum_of(sums, &base[..n]),
+        least: sum - sum_of(sums, &base[n..]),
     }
 }
 

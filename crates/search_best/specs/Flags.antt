@@ -88,6 +88,11 @@ no-flag zero x f = clash f refl
 no-flag (suc n) zero f = clash f refl
 no-flag (suc n) (suc x) f = no-flag n x f
 
+-- only links of the list have a flag
+pub flag-member : (ts : List ℕ) (x : ℕ) → getD (flagsOf ts) x false ≡ true → x ∈ ts
+unfolding flagsOf
+flag-member ts x f = ⊎-elim (λ m. m) (λ g. absurd (no-flag linksHeld x g)) (flags-to ts (replicate linksHeld false) x f)
+
 pub flags-length : (ts : List ℕ) → length (flagsOf ts) ≡ linksHeld
 unfolding flagsOf
 flags-length ts = go ts (replicate linksHeld false) ∙ length-replicate linksHeld false

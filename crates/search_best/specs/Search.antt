@@ -9,12 +9,17 @@ use Rattle.network.specs.Capacities.{linksHeld}
 use Rattle.forest.specs.Groups.{apart}
 use Rattle.kruskal.specs.Tree.{bare, linked}
 use Rattle.kruskal.specs.Base.{kept}
-use Rattle.kruskal.specs.declared.tree.Tree.{Tree}
+use Rattle.kruskal.specs.Tree.{Tree}
 use Rattle.search_best.specs.Flags.{first}
 use Rattle.search_best.specs.Sets.{trials}
 use Rattle.exceptions_patterns.specs.Patterns.{admitted, normal}
 use Rattle.exceptions.specs.Keep.{keptExceptions}
-use Rattle.search_best.specs.declared.best.Best.{Best}
+
+-- the best tree so far, if one was found: its raised sum and a flag for each link
+pub record Best : Type 0 where
+  pub found : Bool
+  pub sum : ℕ
+  pub taken : List Bool
 
 -- no tree was found
 unfoldable pub nothing : Best

@@ -1,48 +1,92 @@
 // The best tree so far, and a tree that is compared with it.
 use crate::ties::first_tree;
-use kruskal::tree::Tree;
 use network::capacities::LINKS_HELD;
+ghost use mathlib.Core.Bool.{false};
 ghost use mathlib.Core.Path.{_≡_};
-ghost use Rattle.search_best.specs.Search.{beats, offered};
+ghost use lib.ListN.{replicate};
+ghost use Rattle.network.specs.Capacities.{linksHeld};
+ghost use Rattle.kruskal.specs.Grown.{flagsOf};
+ghost use Rattle.search_best.specs.Chosen.{chosen, contending, firstBy};
+ghost use Rattle.search_best.specs.Marks.{Distinct, Flagged, without};
+ghost use Rattle.search_best.specs.Stands.{linksBy};
 
-// The best tree so far, if one was found: its raised sum and a flag for each link.
-pub struct Best {
-    pub found: bool,
+// A forest of links: the base without the links at the places `lost` and `lost2`, the length of the base where none is left out, and with the first
+// `size` of the exceptions `link` and `other`; their number, and the sum of their raised costs.
+pub struct Trial {
+    pub count: usize,
     pub sum: u32,
-    pub taken: [bool; LINKS_HELD],
+    pub size: u8,
+    pub link: u8,
+    pub other: u8,
+    pub lost: usize,
+    pub lost2: usize,
 }
 
-// The tree t is better than b: it has a smaller sum, or the same sum and comes first.
-fn better(b: Best, t: Tree) -> bool
-    ensures { λ r. ⌜ r ≡ beats t b ⌝ }
-{
-    if b.found {
-        if t.sum < b.sum {
-            return true;
-        }
-        if t.sum == b.sum {
-            let taken = t.taken;
-            let best = b.taken;
-            return first_tree(taken, best);
-        }
-        return false;
-    }
-    true
+// The best tree so far, if one was found.
+pub struct Lead {
+    pub found: bool,
+    pub trial: Trial,
 }
 
-// t takes the place of b where it spans, that is has `goal` links, and is better.
-pub fn offer(b: Best, t: Tree, goal: u8) -> Best
-    ensures { λ r. ⌜ r ≡ offered goal b t ⌝ }
+// Sets the flags of the base's links that a tree has.
+fn put_kept(base: &[u8], lost: usize, lost2: usize, taken: &mut [bool])
+    requires { ⌜ (now taken ≡ replicate linksHeld false) × Distinct (now base) ⌝ }
+    ensures { λ _. ⌜ now (taken .exit) ≡ flagsOf (without lost lost2 (now (base .entry))) ⌝ }
 {
-    if t.count == goal {
-        if better(b, t) {
-            let taken = t.taken;
-            return Best {
-                found: true,
-                sum: t.sum,
-                taken,
-            };
+    for k in 0..base.len() {
+        let link = base[k] as usize;
+        taken[link] = (k != lost) & (k != lost2);
+    }
+}
+
+// Sets the flags of a tree's links, over flags that are not set.
+pub fn put_flags(base: &[u8], t: Trial, taken: &mut [bool])
+    requires { ⌜ (now taken ≡ replicate linksHeld false) × Distinct (now base) × Flagged t ⌝ }
+    ensures { λ _. ⌜ now (taken .exit) ≡ flagsOf (linksBy (now (base .entry)) t) ⌝ }
+{
+    put_kept(base, t.lost, t.lost2, taken);
+    if 0 < t.size {
+        let link = t.link as usize;
+        taken[link] = true;
+    }
+    if 1 < t.size {
+        let other = t.other as usize;
+        taken[other] = true;
+    }
+}
+
+// The tree t comes before the tree u.
+fn comes_first(base: &[u8], t: Trial, u: Trial) -> bool
+    requires { ⌜ Distinct (now base) × Flagged t × Flagged u ⌝ }
+    ensures { λ r. ⌜ r ≡ firstBy (now (base .entry)) t u ⌝ }
+{
+    let mut a = [false; LINKS_HELD];
+    let mut b = [false; LINKS_HELD];
+    put_flags(base, t, &mut a);
+    put_flags(base, u, &mut b);
+    first_tree(&a, &b)
+}
+
+// Whether t spans, that is has `goal` links, and has no higher sum than b.
+pub fn contends(goal: usize, b: Lead, t: Trial) -> bool
+    ensures { λ r. ⌜ r ≡ contending goal b t ⌝ }
+{
+    (t.count == goal) & (!b.found | (t.sum <= b.trial.sum))
+}
+
+// A tree that contends takes the place of b where it is better: it has a smaller sum, or the same sum and comes first.
+pub fn offer(base: &[u8], b: Lead, t: Trial) -> Lead
+    requires { ⌜ Distinct (now base) × Flagged (b .trial) × Flagged t ⌝ }
+    ensures { λ r. ⌜ r ≡ chosen (now (base .entry)) b t ⌝ }
+{
+    let u = b.trial;
+    if b.found & (t.sum == u.sum) {
+        if !comes_first(base, t, u) {
+            return b;
         }
     }
-    b
+    Lead {
+        found: true,
+        trial: t,
+    }
 }

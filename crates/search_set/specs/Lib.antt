@@ -1,2 +1,6 @@
--- one set of exceptions as the code comes to it
-pub mod Tries
+-- rows of leaders: what is joined after each link of the base, and what joins two stations there
+pub mod Rows
+-- the tree that a set of exceptions leads to
+pub mod Grows
+-- trials of one and of two exceptions
+pub mod Trials

@@ -1,78 +1,156 @@
-// One set of exceptions: completed by the base, and compared with the best tree so far.
-use kruskal::tree::empty;
-use kruskal::tree::grow;
-use search_base::rest::Rest;
-use search_best::best::Best;
-use search_best::best::offer;
+// One set of exceptions: which links the base loses to it, and the tree.
+use network::capacities::STATIONS_HELD;
+use search_best::best::Trial;
 use trees_sums::sum_at;
+ghost use mathlib.Core.Bool.{false};
 ghost use mathlib.Core.Path.{_≡_};
-ghost use mathlib.Core.List.{_∷_, []};
-ghost use Prim.Native.Nat.{_≤_};
+ghost use Prim.Native.Nat.{_+_, _*_, _≤_, _<_};
 ghost use lib.ListN.{length};
-ghost use Rattle.kruskal.specs.Tree.{Columns, Usable, Walkable};
-ghost use Rattle.exceptions.specs.Select.{InOrder};
-ghost use Rattle.search_best.specs.Sets.{higher, lower, pair};
-ghost use Rattle.search_best.specs.Search.{tried, triedIf};
-ghost use Rattle.search_base.specs.Rest.{restOf};
+ghost use Rattle.network.specs.Capacities.{stationsHeld};
+ghost use Rattle.spanning_lost.specs.Places.{firstPlace};
+ghost use Rattle.kruskal.specs.Tree.{Walkable};
+ghost use Rattle.search_best.specs.Marks.{Flagged};
+ghost use Rattle.search_best.specs.Sets.{pair};
+ghost use Rattle.search_best.specs.Stands.{Stands, grownFrom};
+ghost use Rattle.search_set.specs.Rows.{besideAt, joinedAt, oneGroup};
+ghost use Rattle.search_set.specs.Grows.{ring};
+ghost use Rattle.search_set.specs.Trials.{Alone, Joining, One, Ready, lostAt};
 
-// A set of exceptions, completed by the base and compared with b, where it has no ring.
-fn consider(ends: &[u8], sums: &[u32], base: &[u8], goal: u8, set: &[u8], b: Best) -> Best
-    requires { ⌜ Columns (now ends) (now sums) × Walkable (now sums) (now base) × Walkable (now sums) (now set) × (length (now set) ≤ 2) ⌝ }
-    ensures { λ r. ⌜ r ≡ tried (now (ends .entry)) (now (sums .entry)) goal (now (base .entry)) b (now (set .entry)) ⌝ }
+// The place of the base's link that joins the groups of stations u and v; the number of its links if none does.
+fn place_joined(history: &[u8], count: usize, u: u8, v: u8) -> usize
+    requires { ⌜ (count * stationsHeld ≤ length (now history)) × (u < stationsHeld) × (v < stationsHeld) ⌝ }
+    ensures { λ r. ⌜ r ≡ firstPlace (joinedAt (now (history .entry)) u v) 0 count ⌝ }
 {
-    let start = grow(ends, sums, set, empty());
-    if start.count as usize == set.len() {
-        return offer(b, grow(ends, sums, base, start), goal);
+    let mut k: usize = 0;
+    let mut at_u = u as usize;
+    let mut at_v = v as usize;
+    while k < count {
+        if history[at_u] == history[at_v] {
+            return k;
+        }
+        at_u += STATIONS_HELD;
+        at_v += STATIONS_HELD;
+        k += 1;
     }
-    b
+    k
 }
 
-// The set of one link.
-pub fn consider_one(ends: &[u8], sums: &[u32], base: &[u8], rest: Rest, link: u8, b: Best) -> Best
-    requires { ⌜ Columns (now ends) (now sums) × InOrder (now sums) (now base) × Usable (now sums) link
-        × (rest ≡ restOf (now sums) (now base) (rest .goal) 1) ⌝ }
-    ensures { λ q. ⌜ q ≡ tried (now (ends .entry)) (now (sums .entry)) (rest .goal) (now (base .entry)) b (link ∷ []) ⌝ }
+// A link joins the groups p and q: whether r and s are one group then.
+fn one_group(p: u8, q: u8, r: u8, s: u8) -> bool
+    ensures { λ t. ⌜ t ≡ oneGroup p q r s ⌝ }
 {
-    if rest.loses(sum_at(sums, link), b.found, b.sum) {
-        return b;
+    (r == s) | ((p == r) & (q == s)) | ((p == s) & (q == r))
+}
+
+// The place of the base's link that joins the groups of u and v beside a link from a to b; the number of its links if none does.
+fn place_beside(history: &[u8], count: usize, a: u8, b: u8, u: u8, v: u8) -> usize
+    requires { ⌜ (count * stationsHeld ≤ length (now history)) × (a < stationsHeld) × (b < stationsHeld) × (u < stationsHeld) × (v < stationsHeld) ⌝ }
+    ensures { λ r. ⌜ r ≡ firstPlace (besideAt (now (history .entry)) a b u v) 0 count ⌝ }
+{
+    let mut k: usize = 0;
+    let mut from: usize = 0;
+    while k < count {
+        let p = history[from + a as usize];
+        let q = history[from + b as usize];
+        if one_group(p, q, history[from + u as usize], history[from + v as usize]) {
+            return k;
+        }
+        from += STATIONS_HELD;
+        k += 1;
     }
-    let set = [link];
-    consider(ends, sums, base, rest.goal, &set, b)
+    k
 }
 
-// The lower one of two links.
-fn lower_of(link: u8, other: u8) -> u8
-    ensures { λ r. ⌜ r ≡ lower link other ⌝ }
+// Links of the base that a tree is without: their number, and their raised cost.
+pub struct Lost {
+    pub count: usize,
+    pub cost: u32,
+}
+
+// The link at a place of the base; none behind its last place.
+fn lost_at(sums: &[u32], base: &[u8], place: usize) -> Lost
+    requires { ⌜ Walkable (now sums) (now base) ⌝ }
+    ensures { λ r. ⌜ r ≡ lostAt (now (sums .entry)) (now (base .entry)) place ⌝ }
 {
-    if link <= other { link } else { other }
+    if place < base.len() {
+        return Lost {
+            count: 1,
+            cost: sum_at(sums, base[place]),
+        };
+    }
+    Lost { count: 0, cost: 0 }
 }
 
-// The higher one of two links.
-fn higher_of(link: u8, other: u8) -> u8
-    ensures { λ r. ⌜ r ≡ higher link other ⌝ }
+// The trial t of the base alone with one exception.
+pub fn with_one(ends: &[u8], sums: &[u32], base: &[u8], history: &[u8], t: Trial, link: u8) -> Trial
+    requires { ⌜ Ready (now ends) (now sums) (now base) (now history) × Joining (now ends) (now sums) link × Alone (now sums) (now base) t ⌝ }
+    ensures { λ r. ⌜ One (now (ends .entry)) (now (sums .entry)) (now (base .entry)) link r ⌝ }
 {
-    if link <= other { other } else { link }
+    let number = link as usize;
+    let place = place_joined(history, base.len(), ends[2 * number], ends[2 * number + 1]);
+    let lost = lost_at(sums, base, place);
+    let cost = sum_at(sums, link);
+    let count = t.count + 1 - lost.count;
+    let sum = t.sum + cost - lost.cost;
+    Trial {
+        count,
+        sum,
+        size: 1,
+        link,
+        other: 0,
+        lost: place,
+        lost2: base.len(),
+    }
 }
 
-// The set of two links, where they are admitted together.
-pub fn consider_pair(
+// Whether two links are a ring.
+pub fn is_ring(ends: &[u8], link: u8, other: u8) -> bool
+    requires { ⌜ (2 * link + 1 < length (now ends)) × (2 * other + 1 < length (now ends)) ⌝ }
+    ensures { λ r. ⌜ r ≡ ring (now (ends .entry)) link other ⌝ }
+{
+    let first = link as usize;
+    let second = other as usize;
+    one_group(
+        ends[2 * first],
+        ends[2 * first + 1],
+        ends[2 * second],
+        ends[2 * second + 1],
+    )
+}
+
+// The trial t of one exception with another, where the two are no ring.
+pub fn with_two(
     ends: &[u8],
     sums: &[u32],
     base: &[u8],
-    goal: u8,
-    link: u8,
+    history: &[u8],
+    t: Trial,
     other: u8,
-    admitted: bool,
-    b: Best,
-) -> Best
-    requires { ⌜ Columns (now ends) (now sums) × Walkable (now sums) (now base) × Usable (now sums) link × Usable (now sums) other ⌝ }
-    ensures { λ q. ⌜ q ≡ triedIf (now (ends .entry)) (now (sums .entry)) goal admitted (now (base .entry)) b (pair link other) ⌝ }
+) -> Trial
+    requires { ⌜ Ready (now ends) (now sums) (now base) (now history) × Joining (now ends) (now sums) (t .link) × Joining (now ends) (now sums) other
+        × One (now ends) (now sums) (now base) (t .link) t × (ring (now ends) (t .link) other ≡ false) ⌝ }
+    ensures { λ r. ⌜ Stands (now (base .entry)) (grownFrom (now (ends .entry)) (now (sums .entry)) (now (base .entry)) (pair (t .link) other)) r
+        × Flagged r ⌝ }
 {
-    if admitted {
-        let low = lower_of(link, other);
-        let high = higher_of(link, other);
-        let set = [low, high];
-        return consider(ends, sums, base, goal, &set, b);
+    let link = t.link;
+    let first = link as usize;
+    let second = other as usize;
+    let a = ends[2 * first];
+    let b = ends[2 * first + 1];
+    let u = ends[2 * second];
+    let v = ends[2 * second + 1];
+    let beside = place_beside(history, base.len(), a, b, u, v);
+    let lost = lost_at(sums, base, beside);
+    let cost = sum_at(sums, other);
+    let count = t.count + 1 - lost.count;
+    let sum = t.sum + cost - lost.cost;
+    Trial {
+        count,
+        sum,
+        size: 2,
+        link,
+        other,
+        lost: t.lost,
+        lost2: beside,
     }
-    b
 }

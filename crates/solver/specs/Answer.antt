@@ -1,6 +1,6 @@
 -- What a ceilings question asks of the search: whether a tree fits, with its sum, and its links in the caller's buffer.
 use Prim.Native.Nat.{ℕ, _≤_}
-use mathlib.Core.Bool.{not, true, false}
+use mathlib.Core.Bool.{Bool, not, true, false}
 use mathlib.Core.List.{List, _++_}
 use mathlib.Core.Option.{Option, none, some}
 use mathlib.Core.Path.{_≡_, refl, sym, ap, _∙_}
@@ -16,12 +16,13 @@ use Rattle.network.specs.Shaped.{netOf}
 use Rattle.network.specs.declared.Shape.{Shape}
 use Rattle.trees_sums.specs.Added.{sumOf}
 use Rattle.search_best.specs.Flags.{rising}
+use Rattle.search_best.specs.Search.{Best}
 use Rattle.solver_buffer.specs.Buffer.{put-front, putAt}
+use Rattle.solver_search.specs.Assembled.{Reports}
+use Rattle.solver_search.specs.declared.Found.{Found}
 use Rattle.solver_network.specs.OfNetwork.{netBest}
 use Rattle.solver.specs.Found.{Shows, none-shown, tree-shown}
 use Rattle.solver.specs.Best.{best-shown}
-use Rattle.search_best.specs.declared.best.Best.{Best}
-use Rattle.solver.specs.declared.best.Found.{Found}
 
 -- the best tree under bounds, by a shape and its columns
 abbrev pub bestUnder : Shape → List ℕ → List ℕ → List ℤ → List ℤ → Option (List ℕ)
@@ -32,43 +33,44 @@ pub record Tells (sums : List ℕ) (o : Option (List ℕ)) (r : Found) : Type 0 
   pub found : r .found ≡ not (isNone o)
   pub total : (ts : List ℕ) → o ≡ some ts → r .sum ≡ sumOf sums ts
 
-shown-tells : (sums : List ℕ) {goal : ℕ} (o : Option (List ℕ)) (b : Best) → Shows (sumAt sums) goal o b
-    → Tells sums o (record { found = b .found; sum = b .sum })
-unfolding sumOf
-shown-tells sums none b (none-shown f) = record { found = f; total = λ ts e. clash refl (ap isNone e) }
-shown-tells sums (some us) b (tree-shown f q r w g) = record { found = f; total = λ ts e. q ∙ ap (λ (o : Option (List ℕ)). sumOf sums (linksOf o)) e }
+-- what reports what is shown tells of it, and its flags are the tree's
+module _ {goal : ℕ} {b : Best} {r : Found} {taken : List Bool} (R : Reports b r taken) where
+  shown-tells : (sums : List ℕ) (o : Option (List ℕ)) → Shows (sumAt sums) goal o b → Tells sums o r
+  unfolding sumOf
+  shown-tells sums none (none-shown f) = record { found = R .found ∙ f; total = λ ts e. clash refl (ap isNone e) }
+  shown-tells sums (some us) (tree-shown f q w g h) =
+      record { found = R .found ∙ f; total = λ ts e. R .sum f ∙ q ∙ ap (λ (o : Option (List ℕ)). sumOf sums (linksOf o)) e }
 
-module _ {s : ℕ → ℕ} {goal : ℕ} where
-  shown-size : (o : Option (List ℕ)) (b : Best) → Shows s goal o b → b .found ≡ true → length (rising 0 (b .taken)) ≡ goal
-  shown-size none b (none-shown f) e = clash e f
-  shown-size (some ts) b (tree-shown f q r w g) e = ap length r ∙ g
+  shown-size : {s : ℕ → ℕ} (o : Option (List ℕ)) → Shows s goal o b → r .found ≡ true → length (rising 0 taken) ≡ goal
+  shown-size none (none-shown f) e = clash (sym (R .found) ∙ e) f
+  shown-size (some ts) (tree-shown f q w g h) e = ap (λ (l : List Bool). length (rising 0 l)) (R .links f) ∙ ap length w ∙ h
 
-  shown-tree : (o : Option (List ℕ)) (b : Best) (tree : List ℕ) → Shows s goal o b → b .found ≡ true → goal ≤ length tree
-      → putAt 0 (rising 0 (b .taken)) tree ≡ linksOf o ++ drop (length (linksOf o)) tree
-  shown-tree none b tree (none-shown f) e h = clash e f
-  shown-tree (some ts) b tree (tree-shown f q r w g) e h = ap (λ (l : List ℕ). putAt 0 l tree) r ∙ put-front ts tree (omega arith)
+  shown-tree : {s : ℕ → ℕ} (o : Option (List ℕ)) (tree : List ℕ) → Shows s goal o b → r .found ≡ true → goal ≤ length tree
+      → putAt 0 (rising 0 taken) tree ≡ linksOf o ++ drop (length (linksOf o)) tree
+  shown-tree none tree (none-shown f) e k = clash (sym (R .found) ∙ e) f
+  shown-tree (some ts) tree (tree-shown f q w g h) e k =
+      ap (λ (l : List Bool). putAt 0 (rising 0 l) tree) (R .links f) ∙ ap (λ (l : List ℕ). putAt 0 l tree) w ∙ put-front ts tree (omega arith)
 
-  shown-none : (o : Option (List ℕ)) (b : Best) (tree : List ℕ) → Shows s goal o b → b .found ≡ false → tree ≡ linksOf o ++ drop (length (linksOf o)) tree
-  shown-none none b tree (none-shown f) e = refl
-  shown-none (some ts) b tree (tree-shown f q r w g) e = clash f e
+  shown-none : {s : ℕ → ℕ} (o : Option (List ℕ)) (tree : List ℕ) → Shows s goal o b → r .found ≡ false
+      → tree ≡ linksOf o ++ drop (length (linksOf o)) tree
+  shown-none none tree (none-shown f) e = refl
+  shown-none (some ts) tree (tree-shown f q w g h) e = clash f (sym (R .found) ∙ e)
 
--- what the program's search gives is the answer
-module _ (net : Network) (fine : NetworkFine net) (bs : List ℤ) (each : length bs ≡ net .p) (b : Best) (e : b ≡ netBest net bs) where
-  shown : Shows (sumAt (net .sums)) (treeSize net) (best net bs) b
-  shown = rw e (best-shown net fine bs each)
-
-  pub answer-tells : Tells (net .sums) (best net bs) (record { found = b .found; sum = b .sum })
-  answer-tells = shown-tells (net .sums) (best net bs) b shown
+-- what the program's search reports is the answer
+module _ (net : Network) (fine : NetworkFine net) (bs : List ℤ) (each : length bs ≡ net .p) {r : Found} {taken : List Bool}
+    (R : Reports (netBest net bs) r taken) where
+  pub answer-tells : Tells (net .sums) (best net bs) r
+  answer-tells = shown-tells R (net .sums) (best net bs) (best-shown net fine bs each)
 
   -- where a tree was found, it has t links, which go to the buffer
-  pub answer-size : (t : ℕ) → t ≡ treeSize net → b .found ≡ true → length (rising 0 (b .taken)) ≡ t
-  answer-size t q f = shown-size (best net bs) b shown f ∙ sym q
+  pub answer-size : (t : ℕ) → t ≡ treeSize net → r .found ≡ true → length (rising 0 taken) ≡ t
+  answer-size t q f = shown-size R (best net bs) (best-shown net fine bs each) f ∙ sym q
 
-  pub answer-tree : (tree left : List ℕ) → b .found ≡ true → treeSize net ≤ length tree → left ≡ putAt 0 (rising 0 (b .taken)) tree
+  pub answer-tree : (tree left : List ℕ) → r .found ≡ true → treeSize net ≤ length tree → left ≡ putAt 0 (rising 0 taken) tree
       → left ≡ treeWith (best net bs) tree
   unfolding treeWith
-  answer-tree tree left f h q = q ∙ shown-tree (best net bs) b tree shown f h
+  answer-tree tree left f h q = q ∙ shown-tree R (best net bs) tree (best-shown net fine bs each) f h
 
-  pub answer-none : (tree : List ℕ) → b .found ≡ false → tree ≡ treeWith (best net bs) tree
+  pub answer-none : (tree : List ℕ) → r .found ≡ false → tree ≡ treeWith (best net bs) tree
   unfolding treeWith
-  answer-none tree f = shown-none (best net bs) b tree shown f
+  answer-none tree f = shown-none R (best net bs) tree (best-shown net fine bs each) f

@@ -32,11 +32,11 @@ use Rattle.network.specs.NetworkFine.{NetworkFine, graph-sound}
 use Rattle.network.specs.Network.{Network}
 use Rattle.kruskal.specs.Tree.{bare, linked}
 use Rattle.kruskal.specs.Grown.{Holds, Near, bare-holds, grown-holds}
-use Rattle.kruskal.specs.declared.tree.Tree.{Tree}
+use Rattle.kruskal.specs.Tree.{Tree}
 use Rattle.search_best.specs.Flags.{first, first-dictionary, flags-length, flags-rising, rising}
 use Rattle.exceptions_patterns.specs.Patterns.{admitted}
 use Rattle.search_best.specs.Search.{beats, considered, nothing, offered, tried, triedIf}
-use Rattle.search_best.specs.declared.best.Best.{Best}
+use Rattle.search_best.specs.Search.{Best}
 
 -- ---- Kruskal's method keeps all of a list exactly where it is a forest
 

@@ -24,7 +24,7 @@ use Rattle.network.specs.declared.Shape.{Shape}
 use Rattle.trees_sums.specs.Added.{sumOf}
 use Rattle.trees_costs.specs.TreeCosts.{Priceable, TreeLinks, costs-net, costsBy, priceable, tree-links}
 use Rattle.solver.specs.Answer.{Tells}
-use Rattle.solver.specs.declared.best.Found as best
+use Rattle.solver_search.specs.declared.Found as best
 
 -- the answer, by the best tree under the bounds
 unfoldable pub answerOf : Network → Option (List ℕ) → Answer

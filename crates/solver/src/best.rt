@@ -1,7 +1,9 @@
 // The best tree's links in the lent tree buffer.
 use network::Shape;
+use network::capacities::LINKS_HELD;
 use solver_buffer::put_links;
 use solver_network::best_in_order;
+use solver_search::Found;
 ghost use mathlib.Core.Path.{_≡_};
 ghost use Prim.Native.Nat.{_≤_};
 ghost use lib.ListN.{length};
@@ -9,12 +11,6 @@ ghost use Rattle.network.specs.Calls.{treeWith};
 ghost use Rattle.network.specs.Shaped.{Plannable};
 ghost use Rattle.kruskal_order.specs.ByCost.{linkOrder};
 ghost use Rattle.solver.specs.Answer.{Tells, bestUnder};
-
-// Whether a tree was found, and the raised sum of its costs.
-pub struct Found {
-    pub found: bool,
-    pub sum: u32,
-}
 
 // Whether a tree fits under the bounds. The links of the best one go to the front of the buffer, whose other bytes stay.
 pub fn best_links(
@@ -33,13 +29,10 @@ pub fn best_links(
         × (now (tree .exit)
         ≡ treeWith (bestUnder shape (now (ends .entry)) (now (sums .entry)) (now (costs .entry)) (now (bounds .entry))) (now (tree .entry))) ⌝ }
 {
-    let b = best_in_order(shape, ends, sums, costs, order, bounds);
+    let mut taken = [false; LINKS_HELD];
+    let b = best_in_order(shape, ends, sums, costs, order, bounds, &mut taken);
     if b.found {
-        let taken = b.taken;
-        put_links(tree, taken, shape.t as usize);
+        put_links(tree, &taken, shape.t as usize);
     }
-    Found {
-        found: b.found,
-        sum: b.sum,
-    }
+    b
 }

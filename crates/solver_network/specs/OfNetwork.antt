@@ -1,24 +1,48 @@
 -- The best tree of a network, put together from what the search is given.
-use Prim.Native.Nat.{ℕ, zero, suc}
+use Prim.Native.Nat.{ℕ, zero, suc, _<_}
+use mathlib.Core.Bool.{Bool}
 use mathlib.Core.List.{List, _∷_}
 use mathlib.Core.Path.{_≡_, refl, ap}
+use native.Mathlib.Omega.{arith}
 use lib.IntN.{ℤ}
 use lib.ListN.{length, replicate, take}
+use Rattle.order.specs.Lists.{_∈_}
 use Rattle.network.specs.Yard.{ranks, treeSize}
 use Rattle.network.specs.Network.{Network}
-use Rattle.kruskal_order.specs.ByCost.{linkOrder}
+use Rattle.network.specs.NetworkFine.{NetworkFine}
+use Rattle.kruskal_order.specs.ByCost.{linkOrder, order-below}
+use Rattle.kruskal.specs.Base.{Joinable}
 use Rattle.exceptions_patterns.specs.OfNetwork.{netPatterns}
 use Rattle.search_best.specs.Search.{bestOf}
-use Rattle.search_best.specs.declared.best.Best.{Best}
+use Rattle.search_best.specs.Search.{Best}
+use Rattle.solver_search.specs.Assembled.{Reports}
+use Rattle.solver_search.specs.declared.Found.{Found}
 
 -- the best tree of a network under the bounds bs, as the search finds it
 unfoldable pub netBest : Network → List ℤ → Best
 netBest net bs = bestOf (net .ends) (net .sums) (treeSize net) (ranks net) (netPatterns net bs) (linkOrder (net .sums))
 
-pub assembled-network : (net : Network) (bs : List ℤ) (t : ℕ) (patterns order : List ℕ) (b : Best) → t ≡ treeSize net → patterns ≡ netPatterns net bs
-    → order ≡ linkOrder (net .sums) → b ≡ bestOf (net .ends) (net .sums) t (ranks net) patterns order → b ≡ netBest net bs
+-- what reports the best tree of the search, by the figures that the code has, reports the best tree of the network
+pub assembled-network : (net : Network) (bs : List ℤ) (t : ℕ) (patterns order : List ℕ) (r : Found) (taken : List Bool) → t ≡ treeSize net
+    → patterns ≡ netPatterns net bs → order ≡ linkOrder (net .sums) → Reports (bestOf (net .ends) (net .sums) t (ranks net) patterns order) r taken
+    → Reports (netBest net bs) r taken
 unfolding netBest
-assembled-network net bs t patterns order b g e o q = rw (← g, ← e, ← o) q
+assembled-network net bs t patterns order r taken g e o q = rw (← g, ← e, ← o) q
+
+-- the links in order join the stations of the network
+pub order-joinable : (net : Network) → NetworkFine net → (t : ℕ) (order : List ℕ) → t ≡ treeSize net → order ≡ linkOrder (net .sums)
+    → Joinable (net .ends) order t
+order-joinable net fine t order g o =
+    let some = fine .some-station in
+    let few = fine .few-stations in
+    record {
+      within =
+          λ e m.
+          let m′ : e ∈ linkOrder (net .sums) = rw (← o) m in
+          let below : e < net .m = omega (arith, order-below (net .sums) e m′, fine .sum-count) in
+          (omega (arith, fine .first-end e below), omega (arith, fine .second-end e below));
+      held = omega arith;
+    }
 
 -- a front of zeros is zeros
 pub zeros-front : (n k : ℕ) → take k (replicate {A = ℕ} n 0) ≡ replicate {A = ℕ} (length (take k (replicate {A = ℕ} n 0))) 0

@@ -1,62 +1,78 @@
 // The best tree of links in order of cost, under ceilings that are patterns and ranks.
-use exceptions::keep::kept_exceptions;
-use exceptions::select::normal_links;
-use kruskal::links::base_of;
+use exceptions::keep::put_exceptions;
+use exceptions::select::put_normal;
+use kruskal::links::put_base;
+use network::capacities::LINKS_HELD;
+use network::capacities::STATIONS_HELD;
+use network::capacities::TREE_HELD;
 use ranks::slack_of;
+use search::Search;
 use search::consider_ones;
 use search::consider_sets;
 use search_base::base::base_alone;
-use search_best::best::Best;
+use search_base::rest::rest_of;
+use search_best::best::Lead;
+use search_best::best::put_flags;
+ghost use mathlib.Core.Bool.{false};
 ghost use mathlib.Core.Path.{_≡_};
-ghost use lib.ListN.{length};
+ghost use Prim.Native.Nat.{_≤_};
+ghost use lib.ListN.{length, replicate};
+ghost use Rattle.network.specs.Capacities.{exceptionsHeld, linksHeld};
+ghost use Rattle.kmax.specs.Ceilings.{slackOf};
+ghost use Rattle.kruskal.specs.Base.{Joinable};
 ghost use Rattle.kruskal.specs.Tree.{Columns};
 ghost use Rattle.exceptions_patterns.specs.Patterns.{Patterned};
 ghost use Rattle.exceptions.specs.Keep.{keptExceptions};
 ghost use Rattle.exceptions.specs.Select.{InOrder};
-ghost use Rattle.search_best.specs.Sets.{trials};
-ghost use Rattle.search_best.specs.Search.{bestOf, nothing};
-ghost use Rattle.search_base.specs.BaseAlone.{Kept};
+ghost use Rattle.search_best.specs.Marks.{Flagged};
+ghost use Rattle.search_best.specs.Sets.{sets};
+ghost use Rattle.search_best.specs.Search.{bestOf};
+ghost use Rattle.search_base.specs.Rest.{restOf};
+ghost use Rattle.search_set.specs.Trials.{Alone};
+ghost use Rattle.search.specs.Begun.{Begun, bestBy};
 ghost use Rattle.search.specs.Loops.{searched};
+ghost use Rattle.solver_search.specs.Assembled.{Reports};
 
-// The best tree over all exception sets, with the base at hand. Sets are tried of those exceptions that Kruskal's method keeps.
+// The best tree over all exception sets, with the base alone as the best so far. Sets are tried of those exceptions that Kruskal's method keeps.
 fn best_from(
     ends: &[u8],
     sums: &[u32],
     base: &[u8],
-    goal: u8,
+    history: &[u8],
     patterns: &[u8],
     ks: &[u8],
     order: &[u8],
-) -> Best
-    requires { ⌜ Columns (now ends) (now sums) × InOrder (now sums) (now base) × Patterned (length (now sums)) (now ks) (now patterns)
-        × InOrder (now sums) (now order) × Kept (now ends) (now base) ⌝ }
-    ensures { λ q. ⌜ q ≡ searched (now (ends .entry)) (now (sums .entry)) goal (now (ks .entry)) (now (patterns .entry)) (now (base .entry)) nothing
-        (trials (keptExceptions (now (ends .entry)) (now (patterns .entry)) (now (ks .entry)) (now (order .entry)))) ⌝ }
+    s: Search,
+) -> Lead
+    requires { ⌜ Begun (now ends) (now sums) (now base) (now history) (s .best) × Patterned (length (now sums)) (now ks) (now patterns)
+        × InOrder (now sums) (now order) × Joinable (now ends) (now order) (s .goal) × (slackOf (now ks) ≤ exceptionsHeld)
+        × Alone (now sums) (now base) (s .trial) × (s .rest ≡ restOf (now sums) (now base) (s .goal) (slackOf (now ks))) ⌝ }
+    ensures { λ r. ⌜
+        (bestBy (now (base .entry)) r
+        ≡ searched (now (ends .entry)) (now (sums .entry)) (s .goal) (now (ks .entry)) (now (patterns .entry)) (now (base .entry))
+        (bestBy (now (base .entry)) (s .best))
+        (sets (keptExceptions (now (ends .entry)) (now (patterns .entry)) (now (ks .entry)) (now (order .entry)))))
+        × Flagged (r .trial) ⌝ }
 {
-    let alone = base_alone(sums, base, goal);
     let slack = slack_of(ks);
     if slack == 0 {
-        return alone;
+        return s.best;
     }
-    let kept = kept_exceptions(ends, sums, order, patterns, ks);
-    let odd = kept.link;
-    let odd_count = kept.count;
+    let mut odd = [0u8; LINKS_HELD];
+    let n = put_exceptions(ends, order, patterns, ks, &mut odd);
     if slack == 1 {
-        return consider_ones(ends, sums, base, goal, &odd[..odd_count], alone);
+        return consider_ones(ends, sums, base, history, &odd[..n], s);
     }
-    consider_sets(
-        ends,
-        sums,
-        base,
-        goal,
-        patterns,
-        ks,
-        &odd[..odd_count],
-        alone,
-    )
+    consider_sets(ends, sums, base, history, patterns, ks, &odd[..n], s)
 }
 
-// The best tree of links in the given order, under ceilings with the ranks ks.
+// Whether a tree was found, and the raised sum of its costs.
+pub struct Found {
+    pub found: bool,
+    pub sum: u32,
+}
+
+// The best tree of links in the given order, under ceilings with the ranks ks, and its flags over flags that are not set.
 pub fn best_of(
     ends: &[u8],
     sums: &[u32],
@@ -64,15 +80,35 @@ pub fn best_of(
     patterns: &[u8],
     ks: &[u8],
     order: &[u8],
-) -> Best
-    requires { ⌜ Columns (now ends) (now sums) × InOrder (now sums) (now order) × Patterned (length (now sums)) (now ks) (now patterns) ⌝ }
-    ensures { λ q. ⌜ q ≡ bestOf (now (ends .entry)) (now (sums .entry)) goal (now (ks .entry)) (now (patterns .entry)) (now (order .entry)) ⌝ }
+    taken: &mut [bool],
+) -> Found
+    requires { ⌜ Columns (now ends) (now sums) × InOrder (now sums) (now order) × Patterned (length (now sums)) (now ks) (now patterns)
+        × Joinable (now ends) (now order) goal × (slackOf (now ks) ≤ exceptionsHeld) × (now taken ≡ replicate linksHeld false) ⌝ }
+    ensures { λ r. ⌜ Reports (bestOf (now (ends .entry)) (now (sums .entry)) goal (now (ks .entry)) (now (patterns .entry)) (now (order .entry))) r
+        (now (taken .exit)) ⌝ }
 {
-    let free = normal_links(sums, order, patterns);
-    let normal = free.link;
-    let normal_count = free.count;
-    let kept = base_of(ends, sums, &normal[..normal_count]);
-    let base = kept.link;
-    let base_count = kept.count;
-    best_from(ends, sums, &base[..base_count], goal, patterns, ks, order)
+    let mut normal = [0u8; LINKS_HELD];
+    let mut base = [0u8; LINKS_HELD];
+    let mut history = [0u8; TREE_HELD * STATIONS_HELD];
+    let t = goal as usize;
+    let n = put_normal(order, patterns, &mut normal);
+    let kept = put_base(ends, sums, &normal[..n], t, &mut base, &mut history);
+    let count = kept.count;
+    let alone = base_alone(kept, t);
+    let trial = alone.trial;
+    let s = Search {
+        goal: t,
+        rest: rest_of(sums, &base[..count], t, slack_of(ks), trial.sum),
+        trial,
+        best: alone,
+    };
+    let best = best_from(ends, sums, &base[..count], &history, patterns, ks, order, s);
+    if best.found {
+        let links = best.trial;
+        put_flags(&base[..count], links, taken);
+    }
+    Found {
+        found: best.found,
+        sum: best.trial.sum,
+    }
 }

@@ -1,14 +1,16 @@
 -- A list of links gone through one by one: each is to be above the one before, below m, and to join two groups. With t links that is a tree.
-use Prim.Native.Nat.{ℕ, _+_, _-_, _≤_, _<_}
+use Prim.Native.Nat.{ℕ, suc, _+_, _*_, _-_, _≤_, _<_}
 use mathlib.Core.Path.{_≡_, refl, sym, ap, _∙_, fun-ext, subst}
 use mathlib.Core.Bool.{Bool, true, false, _&&_, and-false}
 use mathlib.Core.List.{List, [], _∷_, map}
+use native.Mathlib.Decide.{decLe}
+use native.Mathlib.Nat.{lt-of-not-le}
 use native.Mathlib.Numerals.{add-one}
 use native.Mathlib.Omega.{arith}
 use borrow.Author.Tests.{eq-eqb, ltb-true, ne-eqb}
 use lib.Dec.{leb, ltb}
 use lib.IntN.{ℤ}
-use lib.ListN.{drop, drop-of-length-le, getD, length, length-map}
+use lib.ListN.{List·getD-eq-default, drop, drop-of-length-le, getD, length, length-map}
 use lib.Seq.{drop-cons}
 use Rattle.order.specs.Test.{by-test, test-iff}
 use Rattle.order.specs.Lists.{map-mem}
@@ -24,7 +26,7 @@ use Rattle.network.specs.Capacities.{stationsHeld}
 use Rattle.network.specs.Shaped.{Plannable}
 use Rattle.network.specs.Yard as yard
 use Rattle.network.specs.declared.Shape.{Shape}
-use Rattle.trees_drawing.specs.Drawing.{drawing}
+use Rattle.trees_drawing.specs.Drawing.{Stations, drawing}
 use Rattle.trees_drawing.specs.declared.Drawn.{Drawn}
 
 -- ---- definitions
@@ -111,6 +113,7 @@ pub record Drawable (shape : Shape) (ends : List ℕ) : Type 0 where
   pub some-station : 1 ≤ shape .n
   pub few-stations : shape .n ≤ stationsHeld
   pub tree : shape .t ≡ shape .n - 1
+  pub size : length ends ≡ 2 * shape .m
   pub within : (c : ℕ) → c < shape .m → Within (shape .n) (yard.endsAt ends c)
 
 -- those of a network that can be planned
@@ -120,14 +123,27 @@ drawable can =
       some-station = can .fine .some-station;
       few-stations = can .fine .few-stations;
       tree = can .tree;
+      size = can .fine .end-count;
       within = λ c h. (can .fine .first-end c h, can .fine .second-end c h);
     }
+
+-- their ends are stations
+pub drawable-stations : {shape : Shape} {ends : List ℕ} → Drawable shape ends → Stations ends
+drawable-stations {shape} {ends} can = record { within = λ c. go c (decLe (suc c) (shape .m)) }
+  where
+    go : (c : ℕ) → Dec (c < shape .m) → Within stationsHeld (yard.endsAt ends c)
+    go c (yes h) = let few = can .few-stations in let w = can .within c h in (omega arith, omega arith)
+    go c (no h) =
+        let size = can .size in
+        let far : shape .m < suc c = lt-of-not-le h in
+        let first : getD ends (2 * c) 0 ≡ 0 = List·getD-eq-default ends 0 (omega arith) in
+        let second : getD ends (2 * c + 1) 0 ≡ 0 = List·getD-eq-default ends 0 (omega arith) in
+        (omega arith, omega arith)
 
 module _ (shape : Shape) (ends : List ℕ) (can : Drawable shape ends) (ts : List ℕ) where
   pub tree-drawn : length ts ≡ shape .t → drawsForest ends (shape .m) ts ≡ isListed (yard.endsAt ends) (shape .n) (shape .m) ts
   tree-drawn size =
-      let few = can .few-stations in
-      draws-forest ends (shape .m) (λ c h. let w = can .within c h in (omega arith, omega arith)) ts
+      draws-forest ends (shape .m) (λ c h. drawable-stations can .within c) ts
       ∙ sym (listed-forest (yard.endsAt ends) (shape .n) (shape .m) (can .some-station) (can .within) ts (size ∙ can .tree))
 
   pub size-drawn : (length ts ≡ shape .t → ⊥) → false ≡ isListed (yard.endsAt ends) (shape .n) (shape .m) ts

@@ -6,10 +6,12 @@ use trees_drawing::draw;
 ghost use mathlib.Core.Path.{_≡_};
 ghost use Rattle.spanning.specs.Listing.{isListed};
 ghost use Rattle.network.specs.Yard.{endsAt};
+ghost use Rattle.trees_drawing.specs.Drawing.{Stations};
 ghost use Rattle.trees_drawn.specs.Drawn.{Drawable, drawsForest};
 
 // Whether the links rise below m and each joins two groups.
 fn draws_forest(ends: &[u8], m: usize, links: &[u8]) -> bool
+    requires { ⌜ Stations (now ends) ⌝ }
     ensures { λ r. ⌜ r ≡ drawsForest (now (ends .entry)) m (now (links .entry)) ⌝ }
 {
     let mut drawn = Drawn {

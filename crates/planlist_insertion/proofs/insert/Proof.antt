@@ -12,7 +12,7 @@ use Rattle.encoding_blocks.specs.Blocks.{blocks, blocks-behind, take-blocks, dr
 use Rattle.planlist_records.specs.Records.{planRecords}
 use Rattle.planlist_costs.specs.Held.{costs-encoded}
 use Rattle.planlist_insertion.specs.Insertion.{coveredBy, insert-covered, insert-free, placeOf, prunedBy}
-use Rattle.planlist_insertion.specs.Level.{free-covered, free-place, pruned-behind}
+use Rattle.planlist_insertion.specs.Level.{free-covered, free-place, pruned-behind, sums-sorted}
 use Rattle.planlist_pruning.specs.Pruned.{prunedLevel}
 use borrow.Author.Needs.{needs}
 use Rattle.planlist_insertion.proofs.insert.Statement.{statement}
@@ -57,7 +57,9 @@ add-size : tie.Need-add-size
 add-size c = search needs
 
 free-place-requires : tie.Need-free-place-requires
-free-place-requires c κs = search needs
+free-place-requires c κs =
+    let p = c .before .before .before .pre in
+    record { wide = search needs; room = search needs; sums = sums-sorted _ (p .rise) }
 
 same-length : tie.Need-same-length
 same-length c = search needs

@@ -14,32 +14,34 @@ use Rattle.solver_buffer.proofs.put_links.Statement.{statement}
 use Rattle.solver_buffer.proofs.put_links.Tie as tie
 
 abbrev Inv-loop : tie.InvT-loop
-Inv-loop tree₀ t taken n₀ e₀ tree n e =
+Inv-loop tree₀ taken t n₀ e₀ tree n e =
     (e ≤ linksHeld) × (length tree ≡ length tree₀) × (n + length (rising e (drop e taken)) ≡ t)
     × (left taken tree n e ≡ putAt 0 (rising 0 taken) tree₀) × (n ≤ e)
 
 abbrev μ-loop : tie.MeasureT-loop
-μ-loop tree₀ t taken n₀ e₀ tree n e = linksHeld - e
+μ-loop tree₀ taken t n₀ e₀ tree n e = linksHeld - e
 
 -- the link at a turn has a flag
-flagged : (c : tie.In-loop Inv-loop μ-loop) → c .before .loop .e < linksHeld
-flagged c =
-    let taken = c .before .before .args .t2 in
-    let size : length taken ≡ linksHeld = search needs in
+within : (c : tie.In-loop Inv-loop μ-loop) → c .before .loop .e < length (c .before .before .args .taken .now)
+within c =
     let v = c .before .loop in
-    omega (arith, more-flags taken (v .e) (omega (arith, v .inv .2, c .loop-test .taken)))
+    more-flags (c .before .before .args .taken .now) (v .e) (omega (arith, v .inv .2, c .loop-test .taken))
+
+-- and arrays hold it
+flagged : (c : tie.In-loop Inv-loop μ-loop) → c .before .loop .e < linksHeld
+flagged c = omega (arith, c .before .before .pre .2, within c)
 
 -- what its turn leaves
 turned : (c : tie.In-loop Inv-loop μ-loop)
     → let v = c .before .loop in
     let i = c .before .before .args in
-    let n = v .n + boolByte (getD (i .t2) (v .e) false) in
-    (left (i .t2) (set (v .tree) (v .n) (v .e)) n (v .e + 1) ≡ putAt 0 (rising 0 (i .t2)) (i .tree .now))
-    × (n + length (rising (v .e + 1) (drop (v .e + 1) (i .t2))) ≡ i .t)
+    let n = v .n + boolByte (getD (i .taken .now) (v .e) false) in
+    (left (i .taken .now) (set (v .tree) (v .n) (v .e)) n (v .e + 1) ≡ putAt 0 (rising 0 (i .taken .now)) (i .tree .now))
+    × (n + length (rising (v .e + 1) (drop (v .e + 1) (i .taken .now))) ≡ i .t)
     × (n ≤ v .n + 1)
 turned c =
     let v = c .before .loop in
-    put-turn (c .before .before .args .t2) _ _ (v .n) (v .e) _ (c .loop-test .taken) refl (v .inv .2) (v .inv .3)
+    put-turn (c .before .before .args .taken .now) _ _ (v .n) (v .e) _ (c .loop-test .taken) refl (v .inv .2) (v .inv .3)
 
 loop-holds : tie.Need-loop-holds Inv-loop μ-loop
 loop-holds c = (omega arith, refl, rw zero-add (c .pre .0), put-start _ _, omega arith)
@@ -50,26 +52,26 @@ cast-tree c = omega (arith, flagged c, c .before .loop .inv .4)
 slice-write-tree : tie.Need-slice-write-tree Inv-loop μ-loop
 slice-write-tree c = search needs
 
-array-read-n : tie.Need-array-read-n Inv-loop μ-loop
-array-read-n c = flagged c
+shared-slice-read-n : tie.Need-shared-slice-read-n Inv-loop μ-loop
+shared-slice-read-n c = within (c .before)
 
 cast-n : tie.Need-cast-n Inv-loop μ-loop
 cast-n c = tt
 
 add-n : tie.Need-add-n Inv-loop μ-loop
-add-n c = omega (arith, turned c .1)
+add-n c = omega (arith, turned (c .before) .1)
 
 add-e : tie.Need-add-e Inv-loop μ-loop
-add-e c = omega (arith, flagged c)
+add-e c = omega (arith, flagged (c .before))
 
 loop-less : tie.Need-loop-less Inv-loop μ-loop
-loop-less c = omega (arith, flagged c)
+loop-less c = omega (arith, flagged (c .before))
 
 loop-again : tie.Need-loop-again Inv-loop μ-loop
 loop-again c =
-    let v = c .before .loop in
-    let w = turned c in
-    (omega (arith, flagged c), simp length-set (v .inv .1), w .1, w .0, omega (arith, w .2, v .inv .4))
+    let v = c .before .before .loop in
+    let w = turned (c .before) in
+    (omega (arith, flagged (c .before)), simp length-set (v .inv .1), w .1, w .0, omega (arith, w .2, v .inv .4))
 
 same-length : tie.Need-same-length Inv-loop μ-loop
 same-length c = c .before .loop .inv .1
@@ -86,7 +88,7 @@ put-links-spec =
     loop-holds
     cast-tree
     slice-write-tree
-    array-read-n
+    shared-slice-read-n
     cast-n
     add-n
     add-e

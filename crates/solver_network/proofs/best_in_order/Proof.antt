@@ -11,13 +11,13 @@ use Rattle.network.specs.Shaped.{netOf}
 use Rattle.exceptions.specs.Select.{order-in-order}
 use Rattle.exceptions_patterns.specs.OfNetwork.{net-patterned, netPatterns}
 use Rattle.exceptions_patterns.specs.Patterns.{patternsOf}
-use Rattle.solver_network.specs.OfNetwork.{assembled-network, zeros-front}
+use Rattle.solver_network.specs.OfNetwork.{assembled-network, order-joinable, zeros-front}
 use Rattle.solver_network.proofs.best_in_order.Statement.{statement}
 use Rattle.solver_network.proofs.best_in_order.Tie as tie
 
 -- where the function was called
 abbrev start : tie.After-patterns → tie.Start
-start c = c .before .before .before .before .before .before
+start c = c .before .before .before .before .before .before .before
 
 -- as many patterns as links
 size : (c : tie.After-patterns) → length (take (start c .args .shape .m) (replicate {A = ℕ} linksHeld 0)) ≡ start c .args .shape .m
@@ -70,20 +70,27 @@ slice-aggregate-best-of-2 c = search needs
 
 best-of-requires : tie.Need-best-of-requires
 best-of-requires c κs =
-    let i = start (c .before .before .before .before) in
+    let asked = c .before .before .before .before in
+    let i = start (asked .before) in
     let p = i .pre in
     let fine = p .0 .fine in
     let net = netOf (i .args .shape) (i .args .ends .now) (i .args .sums .now) (i .args .costs .now) in (
       record { ends-size = fine .end-count ∙ ap (λ (m : ℕ). 2 * m) (sym (fine .sum-count)); sums-size = omega (arith, fine .sum-count, fine .few-links) },
       order-in-order _ (omega (arith, fine .sum-count, fine .few-links)) (λ e h. fine .cheap e (omega (arith, fine .sum-count))) (p .1),
-      rw (front (c .before .before .before) .0, made (c .before .before .before), fine .sum-count) (net-patterned net fine (i .args .bounds .now) (p .2)),
+      rw (front asked .0, made asked, fine .sum-count) (net-patterned net fine (i .args .bounds .now) (p .2)),
+      order-joinable net fine _ _ (p .0 .tree) (p .1),
+      fine .few-exceptions,
+      p .3,
     )
+
+same-length : tie.Need-same-length
+same-length c = search needs
 
 returns : tie.Need-returns
 returns c =
-    let asked = c .before .before .before .before in
+    let asked = c .before .before .before .before .before .before .before in
     let i = start (asked .before) in
-    assembled-network _ _ _ _ _ _ (i .pre .0 .tree) (front asked .0 ∙ made asked) (i .pre .1) (c .best-of .ensures)
+    assembled-network _ _ _ _ _ _ _ (i .pre .0 .tree) (front asked .0 ∙ made asked) (i .pre .1) (c .before .before .best-of .ensures)
 
 pub best-in-order-spec : {M : Type 1} → statement M
 best-in-order-spec =
@@ -98,4 +105,5 @@ best-in-order-spec =
     array-share-prefix-k
     slice-aggregate-best-of-2
     best-of-requires
+    same-length
     returns)

@@ -1,5 +1,6 @@
 -- By what the stations and the forest ensure.
 use borrow.Author.Needs.{needs}
+use Rattle.forest.specs.Groups.{leaders-joined, leaders-test}
 use Rattle.trees_drawing.specs.Drawing.{drawing}
 use Rattle.trees_drawing.proofs.draw.Statement.{statement}
 use Rattle.trees_drawing.proofs.draw.Tie as tie
@@ -19,20 +20,28 @@ add-station c = search needs
 station-requires-2 : tie.Need-station-requires-2
 station-requires-2 c κs = search needs
 
-joins-requires : tie.Need-joins-requires
-joins-requires c κs = search needs
+find-requires : tie.Need-find-requires
+find-requires c κs = rw (c .before .before .station .ensures) (c .before .before .before .before .pre .within _ .0)
 
-join-requires : tie.Need-join-requires
-join-requires c κs = search needs
+find-requires-2 : tie.Need-find-requires-2
+find-requires-2 c κs = rw (c .before .before .station2 .ensures) (c .before .before .before .before .before .pre .within _ .1)
 
-add-t11 : tie.Need-add-t11
-add-t11 c = search needs
+led-requires : tie.Need-led-requires
+led-requires c κs = search needs
+
+add-t13 : tie.Need-add-t13
+add-t13 c = search needs
 
 returns : tie.Need-returns
 unfolding drawing
 returns c =
-    let stations = c .before .before .before .before in
-    rw (c .before .join .ensures, c .before .before .joins .ensures, stations .station2 .ensures, stations .before .station .ensures)
+    let stations = c .before .before .before .before .before in
+    let f = stations .before .before .before .args .drawn .groups in
+    let a = stations .before .station in
+    let b = stations .station2 in
+    let new = c .before .before .before .find .ensures in
+    let old = c .before .before .find2 .ensures in
+    rw (c .before .led .ensures, leaders-joined f (a .result) (b .result) new old, leaders-test f (a .result) (b .result) new old, b .ensures, a .ensures)
 
 pub draw-spec : {M : Type 1} → statement M
 draw-spec =
@@ -43,7 +52,8 @@ draw-spec =
     mul-station-2
     add-station
     station-requires-2
-    joins-requires
-    join-requires
-    add-t11
+    find-requires
+    find-requires-2
+    led-requires
+    add-t13
     returns)

@@ -84,12 +84,6 @@ ceilings c =
 abbrev located : tie.After-put-position Inv-loop μ-loop → tie.In-loop Inv-loop μ-loop
 located c = c .before .before .before .before
 
-places-size : (c : tie.After-put-position Inv-loop μ-loop) → length (c .put-position .last .1 .1 .1 .1 .0) ≡ entry (located c) .args .shape .p
-places-size c = c .put-position .kept .1 .1 .1 .1 .0 ∙ ceilings (located c) .0
-
-bounds-size : (c : tie.After-put-position Inv-loop μ-loop) → length (c .put-position .last .1 .1 .1 .1 .1 .0) ≡ entry (located c) .args .shape .p
-bounds-size c = c .put-position .kept .1 .1 .1 .1 .1 .0 ∙ ceilings (located c) .1
-
 -- they stand at the fronts of their arrays
 places-front : (c : tie.After-put-position Inv-loop μ-loop)
     → let p = entry (located c) .args .shape .p in
@@ -97,9 +91,9 @@ places-front : (c : tie.After-put-position Inv-loop μ-loop)
     let array = l ++ drop p (located c .before .loop .places) in
     (take p array ≡ l) × (length (take p array) ≡ p) × (p ≤ length array) × (length array ≡ ceilingsHeld)
 places-front c =
-    let l = c .put-position .last .1 .1 .1 .1 .0 in
     let turn = located c in
-    lent-back l (turn .before .loop .places) _ (places-size c) (turn .before .loop .inv .0) (entry turn .pre .0 .plannable .fine .few-ceilings)
+    let size = c .put-position .kept .1 .1 .1 .1 .0 ∙ ceilings turn .0 in
+    lent-back _ (turn .before .loop .places) _ size (turn .before .loop .inv .0) (entry turn .pre .0 .plannable .fine .few-ceilings)
 
 bounds-front : (c : tie.After-put-position Inv-loop μ-loop)
     → let p = entry (located c) .args .shape .p in
@@ -107,15 +101,13 @@ bounds-front : (c : tie.After-put-position Inv-loop μ-loop)
     let array = l ++ drop p (located c .before .loop .bounds) in
     (take p array ≡ l) × (length (take p array) ≡ p) × (p ≤ length array) × (length array ≡ ceilingsHeld)
 bounds-front c =
-    let l = c .put-position .last .1 .1 .1 .1 .1 .0 in
     let turn = located c in
-    lent-back l (turn .before .loop .bounds) _ (bounds-size c) (turn .before .loop .inv .1) (entry turn .pre .0 .plannable .fine .few-ceilings)
+    let size = c .put-position .kept .1 .1 .1 .1 .1 .0 ∙ ceilings turn .1 in
+    lent-back _ (turn .before .loop .bounds) _ size (turn .before .loop .inv .1) (entry turn .pre .0 .plannable .fine .few-ceilings)
 
 bounds-are : (c : tie.After-put-position Inv-loop μ-loop)
     → c .put-position .last .1 .1 .1 .1 .1 .0 ≡ getD (positions (network (entry (located c)))) (located c .before .loop .n) []
-bounds-are c =
-    let turn = located c in
-    c .put-position .ensures .1 ∙ asked (entry turn .pre .0) (turn .before .loop .n) (inside turn) refl
+bounds-are c = let turn = located c in c .put-position .ensures .1 ∙ asked (entry turn .pre .0) (turn .before .loop .n) (inside turn) refl
 
 -- the question was answered
 abbrev solved-at : tie.After-solve Inv-loop μ-loop → tie.After-put-position Inv-loop μ-loop
@@ -136,15 +128,15 @@ answered c =
     × (c .solve .last .1 .1 .1 .1 .1 .1 .0 ≡ treeWith (best net bs) (turn .before .loop .tree))) values (c .solve .ensures)
 
 -- the tree's array is as long as it was, and has its t links at the front
-tree-size : (c : tie.After-solve Inv-loop μ-loop)
-    → length (c .solve .last .1 .1 .1 .1 .1 .1 .0) ≡ treeHeld
+tree-size : (c : tie.After-solve Inv-loop μ-loop) → length (c .solve .last .1 .1 .1 .1 .1 .1 .0) ≡ treeHeld
 tree-size c = c .solve .kept .1 .1 .1 .1 .1 .1 .0 ∙ located (solved-at c) .before .loop .inv .2
+
+tree-front : (c : tie.After-solve Inv-loop μ-loop) → entry (located (solved-at c)) .args .shape .t ≤ length (c .solve .last .1 .1 .1 .1 .1 .1 .0)
+tree-front c = omega (arith, tree-size c, tree-room (entry (located (solved-at c))))
 
 links-room : (c : tie.After-solve Inv-loop μ-loop)
     → treeSize (network (entry (located (solved-at c)))) ≤ length (c .solve .last .1 .1 .1 .1 .1 .1 .0)
-links-room c =
-    let s = entry (located (solved-at c)) in
-    omega (arith, tree-size c, tree-room s, s .pre .0 .plannable .tree)
+links-room c = omega (arith, tree-front c, entry (located (solved-at c)) .pre .0 .plannable .tree)
 
 -- the marks were set
 abbrev settled-at : tie.After-settle Inv-loop μ-loop → tie.After-solve Inv-loop μ-loop
@@ -167,11 +159,10 @@ marked c =
     subst⁻¹ (Settled (yard (network s)) (l .n) (bestAt (network s) (l .n)) (l .marks)) set
     (settles (s .pre .0) (l .n) (inside turn) refl (answered asking .0) (l .marks) all)
 
--- the plan was taken in
+-- the plan was taken in, in this turn
 abbrev taken-at : tie.After-take-in Inv-loop μ-loop → tie.After-settle Inv-loop μ-loop
 taken-at c = c .before .before .before .before
 
--- the turn of a plan that was taken in
 abbrev turn-of : tie.After-take-in Inv-loop μ-loop → tie.In-loop Inv-loop μ-loop
 turn-of c = located (solved-at (settled-at (taken-at c)))
 
@@ -185,9 +176,8 @@ gone c =
     let asking = settled-at marking in
     let turn = located (solved-at asking) in
     let l = turn .before .loop in
-    let s = entry turn in
-    let net = network s in
-    let can = s .pre .0 .plannable in
+    let net = network (entry turn) in
+    let can = entry turn .pre .0 .plannable in
     let taken = subst (λ (t : ℕ). Taken (asking .solve .result) (take t (asking .solve .last .1 .1 .1 .1 .1 .1 .0)) (l .plans) (c .take-in .result) (l .out)
     (c .take-in .last .0)) (can .tree) (c .take-in .ensures) in
     step net (l .n) (inside turn) (l .inv .10) (l .inv .9 (turn .loop-test .taken)) (can .fine)
@@ -206,19 +196,9 @@ order-links-requires c κs =
 
 loop-holds : tie.Need-loop-holds Inv-loop μ-loop
 loop-holds c =
-    let s = c .before .before .before .before .before .before in (
-      refl,
-      refl,
-      refl,
-      refl,
-      refl,
-      omega arith,
-      omega arith,
-      omega arith,
-      omega arith,
-      λ h. refl,
-      start (network s) plansHeld (s .args .out .now) (counted s .1),
-    )
+    let s = c .before .before .before .before .before .before in
+    let begun = start (network s) plansHeld (s .args .out .now) (counted s .1) in
+    (refl, refl, refl, refl, refl, omega arith, omega arith, omega arith, omega arith, λ h. refl, begun)
 
 outcome-requires : tie.Need-outcome-requires Inv-loop μ-loop
 outcome-requires c κs = search needs
@@ -275,12 +255,8 @@ solve-requires : tie.Need-solve-requires Inv-loop μ-loop
 solve-requires c κs =
     let found = c .before .before .before .before .before in
     let turn = located found in
-    let s = entry turn in (
-      s .pre .0 .plannable,
-      ordered (turn .before .before),
-      bounds-front found .1,
-      omega (arith, tree-room s, turn .before .loop .inv .2),
-    )
+    let s = entry turn in
+    (s .pre .0 .plannable, ordered (turn .before .before), bounds-front found .1, omega (arith, tree-room s, turn .before .loop .inv .2))
 
 slice-aggregate-settle : tie.Need-slice-aggregate-settle Inv-loop μ-loop
 slice-aggregate-settle c = sym (c .before .before .before .before .before .before .before .before .before .before .before .before .before .loop .inv .3)
@@ -301,53 +277,42 @@ settle-requires c κs =
     (reaches (s .pre .0) (turn .before .loop .n) (inside turn) refl (answered asking .0) (omega (arith, counted s .1, turn .before .loop .inv .3)))
 
 array-share-prefix-tree : tie.Need-array-share-prefix-tree Inv-loop μ-loop
-array-share-prefix-tree c =
-    let asking = c .before .before .before .before .before .before in
-    omega (arith, tree-size asking, tree-room (entry (located (solved-at asking))))
+array-share-prefix-tree c = tree-front (c .before .before .before .before .before .before)
 
 slice-aggregate-take-in : tie.Need-slice-aggregate-take-in Inv-loop μ-loop
 slice-aggregate-take-in c =
-    let asking = c .before .before .before .before .before .before .before in
-    sym (length-take-le _ _ (omega (arith, tree-size asking, tree-room (entry (located (solved-at asking))))))
+    sym (length-take-le _ _ (tree-front (c .before .before .before .before .before .before .before)))
 
 take-in-requires : tie.Need-take-in-requires Inv-loop μ-loop
 take-in-requires c κs =
     let asking = c .before .before .before .before .before .before .before in
     let turn = located (solved-at asking) in
     let l = turn .before .loop in
-    let s = entry turn in
-    let net = network s in
-    let can = s .pre .0 .plannable in
+    let net = network (entry turn) in
+    let can = entry turn .pre .0 .plannable in
     subst⁻¹ (λ (t : ℕ). Takes (asking .solve .result) (take t (asking .solve .last .1 .1 .1 .1 .1 .1 .0)) (l .plans) (l .out)) (can .tree)
     (takes net (l .n) (answered asking .0) (l .tree) (answered asking .1) (links-room asking)
     (prepared net (l .n) (inside turn) (l .inv .10) (can .fine) (room turn)))
 
 add-solved : tie.Need-add-solved Inv-loop μ-loop
-add-solved c =
-    let turn = turn-of (c .before .before) in
-    omega (arith, inside turn, counted (entry turn) .1, turn .before .loop .inv .7)
+add-solved c = let turn = turn-of (c .before .before) in omega (arith, inside turn, counted (entry turn) .1, turn .before .loop .inv .7)
 
 slice-aggregate-next-unmarked : tie.Need-slice-aggregate-next-unmarked Inv-loop μ-loop
 slice-aggregate-next-unmarked c =
-    let marking = c .before .before .before .before .before .before .before in
-    sym (marking .settle .kept .0 ∙ located (solved-at (settled-at marking)) .before .loop .inv .3)
+    let taking = c .before .before .before in
+    sym (taken-at taking .settle .kept .0 ∙ turn-of taking .before .loop .inv .3)
 
 add-next-unmarked : tie.Need-add-next-unmarked Inv-loop μ-loop
-add-next-unmarked c =
-    let turn = turn-of (c .before .before .before) in
-    omega (arith, inside turn, counted (entry turn) .1)
+add-next-unmarked c = let turn = turn-of (c .before .before .before) in omega (arith, inside turn, counted (entry turn) .1)
 
 next-unmarked-requires : tie.Need-next-unmarked-requires Inv-loop μ-loop
 next-unmarked-requires c κs =
-    let marking = c .before .before .before .before .before .before .before in
-    let turn = located (solved-at (settled-at marking)) in
-    let all = counted (entry turn) in
-    (omega (arith, turn .loop-test .taken), omega (arith, all, marking .settle .kept .0, turn .before .loop .inv .3))
+    let taking = c .before .before .before in
+    let turn = turn-of taking in
+    (omega (arith, turn .loop-test .taken), omega (arith, counted (entry turn), taken-at taking .settle .kept .0, turn .before .loop .inv .3))
 
 loop-less : tie.Need-loop-less Inv-loop μ-loop
-loop-less c =
-    let turn = turn-of (c .before .before .before .before) in
-    omega (arith, turn .loop-test .taken, c .next-unmarked .ensures .0)
+loop-less c = omega (arith, turn-of (c .before .before .before .before) .loop-test .taken, c .next-unmarked .ensures .0)
 
 loop-again : tie.Need-loop-again Inv-loop μ-loop
 loop-again c =

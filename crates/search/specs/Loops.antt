@@ -1,9 +1,8 @@
 -- The search over all sets: what is left of a loop over them at a turn, and what it comes to.
-use Prim.Native.Nat.{ℕ, zero, suc, _+_, _-_, _/_, _%_, _≤_, _<_}
+use Prim.Native.Nat.{ℕ, suc, _+_, _-_, _/_, _%_, _≤_, _<_}
 use mathlib.Core.Bool.{Bool, true, false}
 use mathlib.Core.List.{List, [], _∷_, map, _++_, foldl, foldl-append}
 use mathlib.Core.List.{List·Memᴰ·cases-cons, List·Memᴰ·eq-of-singleton, List·Memᴰ·head as here, List·Memᴰ·tail as there}
-use mathlib.Core.List.{Sublistᴰ, Sublistᴰ·cons, Sublistᴰ·refl, Sublistᴰ·slnil}
 use mathlib.Core.Logic.{⊎-elim}
 use mathlib.Core.Path.{_≡_, refl, sym, ap, _∙_}
 use native.Mathlib.Numerals.{add-one}
@@ -26,7 +25,7 @@ use Rattle.exceptions.specs.Select.{sublist-in-order}
 use Rattle.search_best.specs.Sets.{higher, lower, pair, sets, singles, trials}
 use Rattle.search_best.specs.Search.{Best, considered, offered, tried, triedIf}
 use Rattle.search_best.specs.Stands.{grownFrom}
-use Rattle.search_base.specs.Rest.{from-place, loses-more, losesTo, losing, restOf}
+use Rattle.search_base.specs.Rest.{drop-sublist, from-place, loses-more, losesTo, losing, restOf}
 use Rattle.search_base.specs.declared.rest.Rest.{Rest}
 use Rattle.search_set.specs.Grows.{ring}
 use Rattle.search_set.specs.Trials.{Joining, ring-tried, two-tried}
@@ -35,11 +34,6 @@ use Rattle.search.specs.Begun.{Tryable, fitting}
 pair-sum : (c : ℕ → ℕ) (x y : ℕ) → sum c (pair x y) ≡ c x + c y
 unfolding lower higher
 pair-sum c x y = by-test (leb x y) (λ k. rw k (omega arith)) (λ k. rw k (omega arith))
-
-drop-sublist : (l : List ℕ) (i : ℕ) → Sublistᴰ (drop i l) l
-drop-sublist l zero = Sublistᴰ·refl l
-drop-sublist [] (suc i) = Sublistᴰ·slnil
-drop-sublist (x ∷ l) (suc i) = Sublistᴰ·cons (drop-sublist l i)
 
 -- the links from a place on can be tried too; the first of them is the one at the place, and some are left before the end
 pub place-tryable : {ends sums l : List ℕ} (i : ℕ) → Tryable ends sums l → Tryable ends sums (take (length l - i) (drop i l))

@@ -2,7 +2,8 @@
 -- order of cost.
 use Prim.Native.Nat.{ℕ, zero, suc, _+_, _-_, _*_, _≤_, _<_}
 use mathlib.Core.Bool.{Bool, true, false, cond, not, _&&_, _||_}
-use mathlib.Core.List.{List, [], _∷_, foldl, List·Memᴰ·tail as there}
+use mathlib.Core.List.{List, [], _∷_, foldl}
+use mathlib.Core.List.{Sublistᴰ, Sublistᴰ·cons, Sublistᴰ·refl, Sublistᴰ·slnil}
 use mathlib.Core.Path.{_≡_, sym, ap, ap₂, _∙_}
 use native.Mathlib.Nat.{mul-le-mul-right}
 use native.Mathlib.Omega.{arith}
@@ -11,7 +12,7 @@ use lib.Dec.{eqb, ltb}
 use lib.ListN.{drop, length, length-drop, take, take-append-drop}
 use lib.Seq.{take-all}
 use Rattle.order.specs.Test.{by-test, clash, fails, left, right}
-use Rattle.order.specs.Lists.{_⊆_}
+use Rattle.order.specs.Lists.{sublist-⊆}
 use Rattle.order.specs.Order.{orderℕ}
 use Rattle.order.specs.Perm.{sum, sum-append}
 use Rattle.order.specs.Sorted.{Sorted}
@@ -57,10 +58,11 @@ lead-loses {b = b} {c} kept rest cost =
 
 -- ---- links of the base have costs in range
 
-drop-among : (n : ℕ) (l : List ℕ) → drop n l ⊆ l
-drop-among zero l e m = m
-drop-among (suc n) [] e m = m
-drop-among (suc n) (x ∷ l) e m = there (drop-among n l e m)
+-- the links from a place on are some of all, in their order
+pub drop-sublist : (l : List ℕ) (i : ℕ) → Sublistᴰ (drop i l) l
+drop-sublist l zero = Sublistᴰ·refl l
+drop-sublist [] (suc i) = Sublistᴰ·slnil
+drop-sublist (x ∷ l) (suc i) = Sublistᴰ·cons (drop-sublist l i)
 
 -- a list from place i on, as a part of a slice has it
 pub from-place : (l : List ℕ) (i : ℕ) → take (length l - i) (drop i l) ≡ drop i l
@@ -81,7 +83,7 @@ module _ (sums base : List ℕ) (walk : Walkable sums base) where
 
   -- the links behind the first n
   pub behind-known : (n : ℕ) → Below (length sums) (drop n base)
-  behind-known n = record { below = λ e m. walk .usable e (drop-among n base e m) .below }
+  behind-known n = record { below = λ e m. walk .usable e (sublist-⊆ (drop-sublist base n) e m) .below }
 
   pub behind-fits : (n : ℕ) → sumOf sums (drop n base) < 4294967296
   behind-fits n = omega (arith, parts sums base n, base-small)

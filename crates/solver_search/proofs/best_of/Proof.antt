@@ -106,7 +106,8 @@ array-share-prefix-base-3 c = search needs
 
 slice-aggregate-put-flags : tie.Need-slice-aggregate-put-flags
 slice-aggregate-put-flags c =
-    sym (length-take-le _ _ (c .before .before .before .before .before .before .before .before .before .before .before .before .before .put-base .ensures .inside))
+    let made = c .before .before .before .before .before .before .before .before .before .before .before .before .before in
+    sym (length-take-le _ _ (made .put-base .ensures .inside))
 
 put-flags-requires : tie.Need-put-flags-requires
 put-flags-requires c κs =

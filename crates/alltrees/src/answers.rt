@@ -1,6 +1,5 @@
 // The best tree under two bounds, and whether a reply and a tree buffer are those of a tree.
 use crate::listing::NONE;
-use crate::listing::SETS;
 use crate::listing::best_of;
 use crate::listing::link_at;
 use crate::listing::set_of;
@@ -42,7 +41,7 @@ fn allowed(kind: u64, i: u8, bound: u8) -> u8 {
 }
 
 // The best tree of a yard of a kind under two bounds, or none.
-pub fn wanted(kind: u64, trees: [u64; SETS], b1: u8, b2: u8) -> u64 {
+pub fn wanted(kind: u64, trees: &[u64], b1: u8, b2: u8) -> u64 {
     best_of(trees, allowed(kind, 0, b1), allowed(kind, 1, b2))
 }
 
@@ -50,6 +49,15 @@ pub fn wanted(kind: u64, trees: [u64; SETS], b1: u8, b2: u8) -> u64 {
 pub fn has_costs(tree: u64, sum: u32, c1: i16, c2: i16) -> bool {
     let s = (sum == sum_of(tree)) & (tree < NONE);
     s & (c1 == bound(y1(tree) % 8 * 2)) & (c2 == bound(y2(tree) % 8 * 2))
+}
+
+// The links of a set, and 0 past them.
+pub fn drawn(set: u8) -> [u8; 7] {
+    let mut links = [0u8; 7];
+    for j in 0..7usize {
+        links[j] = link_at(set, j, 0);
+    }
+    links
 }
 
 // Whether a buffer holds a tree's links, and is as it was past them.

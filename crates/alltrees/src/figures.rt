@@ -47,9 +47,9 @@ pub fn figures_of(yard: Yard) -> Figures {
     figures
 }
 
-// The same yard with the other kind of yard record.
+// The same yard with the other kind of yard record that has no rest bytes.
 pub fn other_kind(mut yard: Yard) -> Yard {
-    yard.counted = 1 - yard.counted % 2;
+    yard.record = 1 - yard.record % 2;
     yard
 }
 

@@ -4,5 +4,6 @@ pub mod figures;
 pub mod indexes;
 pub mod listing;
 pub mod plans;
+pub mod resting;
 pub mod small;
 pub mod visits;

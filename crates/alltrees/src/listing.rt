@@ -1,26 +1,38 @@
 // All trees of a yard with their costs, first trees first. A set of links has bit 6 - e for link e, so that of two sets of one size the greater
 // is first in dictionary order. A tree is a word that holds, from the low end, 127 less its set, y2 and y1 as codes, and the sum from LOWEST
 // on, so that words compare as trees do.
+use crate::resting::both_ends;
+use crate::resting::tree_size;
+use crate::resting::working;
 use crate::small::Yard;
 use crate::small::ZERO;
 use crate::small::byte;
-use crate::small::pair;
 use crate::small::sum_cost;
 use std::num::wrapping_add_u8;
 use std::num::wrapping_add_u32;
 use std::num::wrapping_add_u64;
+use std::num::wrapping_add_usize;
 use std::num::wrapping_sub_u8;
 use std::num::wrapping_sub_u32;
 use std::num::wrapping_sub_u64;
 
 // How many sets of seven links there are.
-pub const SETS: usize = 128;
+const SETS: usize = 128;
+
+// More trees than a yard here has: at most 35 sets have one size.
+const TREES: usize = 36;
 
 // No tree: above every tree, with no links and the least codes.
 pub const NONE: u64 = 0x100000000000007F;
 
 // Below every sum, in two's complement: -16,777,216.
 const LOWEST: u32 = 0xFF000000;
+
+// The trees of a yard, the greatest set first, and how many there are; what stands past them is none.
+pub struct Trees {
+    pub list: [u64; TREES],
+    pub count: usize,
+}
 
 pub fn set_of(tree: u64) -> u8 {
     127 - (tree % 128) as u8
@@ -40,7 +52,7 @@ pub fn sum_of(tree: u64) -> u32 {
 }
 
 // How many members a set has.
-fn size(set: u8) -> u32 {
+pub fn size(set: u8) -> u32 {
     u8::count_ones(set)
 }
 
@@ -55,28 +67,30 @@ pub fn link_at(set: u8, j: usize, past: u8) -> u8 {
 
 // The stations reached, with both of link e where the set has it and one is reached.
 fn reach(kind: u64, pairs: u64, set: u8, reached: u8, e: u8) -> u8 {
-    let ends = pair(kind, pairs, e);
-    let both = 1 << (ends % 8) | 1 << (ends / 256 % 8);
+    let both = both_ends(kind, pairs, e);
     if (set >> (6 - e % 7) & 1 == 1) & (reached & both != 0) {
         return reached | both;
     }
     reached
 }
 
-// The stations reached from station 0, in five turns through the links.
-fn reached(kind: u64, pairs: u64, set: u8) -> u8 {
-    let mut r = 1;
+// The stations reached from some, in five turns through the links.
+fn reached(kind: u64, pairs: u64, set: u8, from: u8) -> u8 {
+    let mut r = from;
     for i in 0..35u8 {
         r = reach(kind, pairs, set, r, i % 7);
     }
     r
 }
 
-// Whether a set is a tree: no link past the last, fewer links than stations, and all stations reached.
+// Whether a set is a tree: usable links alone, as many as a tree has, and all working stations reached from the lowest of them.
 fn is_tree(yard: Yard, set: u8) -> bool {
-    let n = byte(yard.kind, 0) as u32;
-    let stations = size(reached(yard.kind, yard.pairs, set));
-    (set & 127 >> (yard.m % 8) == 0) & (size(set) < n) & (stations == n)
+    let stations = working(yard.kind, yard.rest);
+    let lowest = stations & wrapping_sub_u8(0, stations);
+    if (set | yard.usable == yard.usable) & (size(set) == tree_size(yard)) {
+        return reached(yard.kind, yard.pairs, set, lowest) == stations;
+    }
+    false
 }
 
 // The links of a set in a column: byte e has all bits where the set has link e.
@@ -139,23 +153,32 @@ fn costs(yard: Yard, set: u8) -> u64 {
     256 * c2 + 4096 * c1 + 65536 * s
 }
 
-// The tree at an index of the list, or none.
-fn tree(yard: Yard, i: usize) -> u64 {
-    let low = i as u64 % 128;
-    let set = set_of(low);
+// The tree of a set, or none.
+pub fn tree(yard: Yard, set: u8) -> u64 {
     if is_tree(yard, set) {
-        return costs(yard, set) | low;
+        return costs(yard, set) | (127 - set % 128) as u64;
     }
     NONE
 }
 
-// The trees of a yard, each in its set's place, the greatest set first.
-pub fn trees_of(yard: Yard) -> [u64; SETS] {
-    let mut list = [NONE; SETS];
+// All trees of a yard.
+pub fn trees_of(yard: Yard) -> Trees {
+    let mut list = [NONE; TREES];
+    let mut count = 0;
     for i in 0..SETS {
-        list[i] = tree(yard, i);
+        let tree = tree(yard, set_of(i as u64));
+        list[count % TREES] = tree;
+        count = wrapping_add_usize(count, (tree < NONE) as usize);
     }
-    list
+    Trees { list, count }
+}
+
+// The first entries of a list of trees, or none where they are not all there.
+pub fn first(list: &[u64], count: usize) -> &[u64] {
+    if count <= list.len() {
+        return &list[0..count];
+    }
+    &list[..0]
 }
 
 // The lesser of two trees without their last bits, the second if it fits under two codes and is not below a given one.
@@ -168,15 +191,15 @@ fn lesser(least: u64, tree: u64, from: u64, c1: u8, c2: u8, bits: u8) -> u64 {
 }
 
 // Of the trees from a given one on that fit under two codes the least without its last bits, the first of several, or none.
-pub fn least(trees: [u64; SETS], from: u64, c1: u8, c2: u8, bits: u8) -> u64 {
+pub fn least(trees: &[u64], from: u64, c1: u8, c2: u8, bits: u8) -> u64 {
     let mut best = NONE;
-    for i in 0..SETS {
+    for i in 0..trees.len() {
         best = lesser(best, trees[i], from, c1, c2, bits);
     }
     best
 }
 
 // The best tree under two codes: the first of the least sum.
-pub fn best_of(trees: [u64; SETS], c1: u8, c2: u8) -> u64 {
+pub fn best_of(trees: &[u64], c1: u8, c2: u8) -> u64 {
     least(trees, 0, c1, c2, 16)
 }

@@ -1,54 +1,51 @@
 // The list of plans, and its bytes.
 use crate::listing::NONE;
-use crate::listing::SETS;
 use crate::listing::least;
 use crate::listing::link_at;
 use crate::listing::set_of;
 use crate::listing::sum_of;
 use crate::listing::y1;
 use crate::listing::y2;
+use crate::resting::tree_size;
+use crate::small::Yard;
 use crate::small::byte;
 use crate::small::cost;
 use std::num::wrapping_add_u64;
-use std::num::wrapping_sub_u8;
 
 // Bytes of a list's head, and of a plan record before its links.
-const HEAD: usize = 10;
+pub const HEAD: usize = 10;
 
 // More plans than a list here has.
 pub const ROWS: usize = 72;
 
-// The plans by rising vector, and none after the last; how many there are, and how many trees.
+// The plans by rising vector, and none after the last; and how many there are.
 pub struct Plans {
     pub rows: [u64; ROWS],
-    pub plans: u64,
-    pub trees: u64,
+    pub count: u64,
 }
 
-// Whether a tree is a plan: the least of the trees whose ceiling costs are at most its own, by sum, y1, y2 and its links. One that dominates it
-// would be less, and so would the first of its vector.
-fn is_plan(trees: [u64; SETS], tree: u64) -> bool {
-    (tree < NONE) & (tree == least(trees, 0, y1(tree), y2(tree), 0))
+// A tree where it is a plan, or else none: a plan is the least of the trees whose ceiling costs are at most its own, by sum, y1, y2 and its links.
+// One that dominates it would be less, and so would the first of its vector.
+fn plan(trees: &[u64], tree: u64) -> u64 {
+    if tree == least(trees, 0, y1(tree), y2(tree), 0) {
+        return tree;
+    }
+    NONE
 }
 
-// The plans of a yard with these trees. What is stored after the last plan is overwritten, at last by none.
-pub fn plans_of(trees: [u64; SETS]) -> Plans {
+// The plans of a yard with these trees.
+pub fn plans_of(trees: &[u64]) -> Plans {
     let mut rows = [NONE; ROWS];
-    let mut plans = 0;
     let mut count = 0;
     let mut from = 0;
-    for i in 0..SETS {
+    for i in 0..trees.len() {
         let tree = least(trees, from, 15, 15, 0);
-        rows[plans as usize % ROWS] = tree;
-        plans = wrapping_add_u64(plans, is_plan(trees, tree) as u64);
-        count = wrapping_add_u64(count, (tree < NONE) as u64);
+        let plan = plan(trees, tree);
+        rows[count as usize % ROWS] = plan;
+        count = wrapping_add_u64(count, (plan < NONE) as u64);
         from = wrapping_add_u64(tree, 1);
     }
-    Plans {
-        rows,
-        plans,
-        trees: count,
-    }
+    Plans { rows, count }
 }
 
 // The first eight bytes of a list's head: mark, plan count and solved count.
@@ -56,9 +53,9 @@ pub fn list_head(plans: u64, solved: u32) -> u64 {
     0x4850 + 65536 * (plans % 65536) + 4294967296 * (solved as u64)
 }
 
-// The last two bytes of the head of a list for a kind: t and p.
-pub fn list_tail(kind: u64) -> u64 {
-    wrapping_sub_u8(byte(kind, 0), 1) as u64 + 256 * (byte(kind, 1) as u64)
+// The last two bytes of the head of a yard's list: t and p.
+pub fn list_tail(yard: Yard) -> u64 {
+    (tree_size(yard) % 256) as u64 + 256 * (byte(yard.kind, 1) as u64)
 }
 
 // The first eight bytes of a plan record: mark, sum and y1.

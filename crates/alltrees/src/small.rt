@@ -104,12 +104,18 @@ pub const ZERO: u8 = 3;
 
 const ZEROS: u64 = 0x0303030303030303;
 
-// A yard of a kind with m links; `counted` is 1 where its survey writes their count, and else 0. Byte e of a column belongs to link e: a number that
-// picks its pair of stations, and the codes of its sum cost and of its ceiling costs.
+// How many bytes the yard record has: the first one, the one with a link count, and the one with rest bytes as well.
+const SIZES: [u8; 3] = [6, 7, 10];
+
+// A yard of a kind with m links; `record` says which of the three yard records its survey has. Bit j of `rest` is 1 where station j is at rest, and
+// `usable` is the set of the links between working stations. Byte e of a column belongs to link e: a number that picks its pair of stations, and the
+// codes of its sum cost and of its ceiling costs.
 pub struct Yard {
     pub kind: u64,
     pub m: u8,
-    pub counted: u8,
+    pub record: u8,
+    pub rest: u8,
+    pub usable: u8,
     pub pairs: u64,
     pub sums: u64,
     pub costs1: u64,
@@ -150,17 +156,21 @@ fn sum_codes(x: u64, way: usize) -> u64 {
     wrapping_add_u64(x & DRAWN[way % 4], LEAST[way % 4])
 }
 
-// The yard of a number, every kind in its turn, and then once more with other sum costs; whether its links are counted is drawn.
+// The yard of a number, every kind in its turn, and then once more with other sum costs; whether its links are counted is drawn. No station is at
+// rest.
 pub fn make(i: usize, x: u64) -> Yard {
     let kind = KIND[i % KINDS];
     let p = byte(kind, 1);
     let pairs = next(x);
     let sums = next(pairs);
     let costs = next(sums);
+    let m = links(x, byte(kind, 0));
     Yard {
         kind,
-        m: links(x, byte(kind, 0)),
-        counted: (x / 16 % 2) as u8,
+        m,
+        record: (x / 16 % 2) as u8,
+        rest: 0,
+        usable: 127 ^ 127 >> (m % 8),
         pairs,
         sums: sum_codes(sums, i / KINDS),
         costs1: codes(costs, p > 0),
@@ -196,22 +206,31 @@ fn link_costs(yard: Yard, e: u8) -> u64 {
     c1 + 65536 * c2
 }
 
-// The mark of the yard record, n, p, k1 and k2, and the link count.
+// The mark of the yard record, n, p, k1 and k2, the link count and the first rest byte.
 fn yard_record(yard: Yard) -> u64 {
-    let mark = 0x4459 + 256 * ((yard.counted % 2) as u64);
-    mark + 65536 * (yard.kind % 4294967296) + 281474976710656 * ((yard.m % 8) as u64)
+    let mark = 0x4459 + 256 * ((yard.record % 3) as u64);
+    let count = (yard.m % 8) as u64 + 256 * (yard.rest as u64);
+    mark + 65536 * (yard.kind % 4294967296) + 281474976710656 * count
+}
+
+// Byte i of the yard record; the other rest bytes are 0.
+fn yard_byte(yard: Yard, i: usize) -> u8 {
+    if i < 8 {
+        return byte(yard_record(yard), i as u8);
+    }
+    0
 }
 
 // How many bytes of it the survey has.
 fn yard_size(yard: Yard) -> u8 {
-    6 + yard.counted % 2
+    SIZES[(yard.record % 3) as usize]
 }
 
 // The byte of the survey at an index.
 pub fn survey_byte(yard: Yard, i: usize) -> u8 {
     let first = yard_size(yard) as usize;
     if i < first {
-        return byte(yard_record(yard), (i % 8) as u8);
+        return yard_byte(yard, i);
     }
     let e = ((i - first) / 12 % 8) as u8;
     let at = ((i - first) % 12) as u8;
@@ -222,9 +241,9 @@ pub fn survey_byte(yard: Yard, i: usize) -> u8 {
 }
 
 // The survey of a yard, with room for seven links.
-pub fn survey_of(yard: Yard) -> [u8; 91] {
-    let mut survey = [0u8; 91];
-    for i in 0..91usize {
+pub fn survey_of(yard: Yard) -> [u8; 94] {
+    let mut survey = [0u8; 94];
+    for i in 0..94usize {
         survey[i] = survey_byte(yard, i);
     }
     survey

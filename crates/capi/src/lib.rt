@@ -22,7 +22,7 @@ ghost use Rattle.capi_reply.specs.Replies.{flatReply};
 ghost use Rattle.capi.specs.Version.{version};
 
 // The version of these calls: it changes whenever a struct, a call or the meaning of a reply does.
-pub const VERSION: u32 = 5;
+pub const VERSION: u32 = 6;
 
 // The version of the calls that this archive has.
 #[no_mangle]

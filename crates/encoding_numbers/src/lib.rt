@@ -21,6 +21,16 @@ pub fn read_u16(s: &[u8], at: usize) -> u16
     low + high * 256
 }
 
+// The unsigned number of three bytes.
+pub fn read_u24(s: &[u8], at: usize) -> u32
+    requires { ⌜ at + 3 ≤ length (now s) ⌝ }
+    ensures { λ r. ⌜ r ≡ spec.u24At (now (s .entry)) at ⌝ }
+{
+    let low = read_u16(s, at) as u32;
+    let high = byte(s[at + 2]) as u32;
+    low + high * 65536
+}
+
 // The unsigned number of four bytes.
 pub fn read_u32(s: &[u8], at: usize) -> u32
     requires { ⌜ at + 4 ≤ length (now s) ⌝ }

@@ -1,15 +1,10 @@
--- Links that pass a test, collected in an array: each link is stored, and counts where it passes.
-use Prim.Native.Nat.{ℕ, _+_, _≤_, _<_}
-use mathlib.Core.Bool.{Bool, cond, true, false}
-use mathlib.Core.List.{List, [], _∷_, _++_, append-nil, Sublistᴰ}
-use mathlib.Core.Path.{_≡_, refl}
-use native.Mathlib.Nat.{add-zero, le-refl}
-use native.Mathlib.Numerals.{add-one}
+-- Links to select from: with a pattern each, and in rising order of cost.
+use Prim.Native.Nat.{ℕ, _≤_, _<_}
+use mathlib.Core.List.{List, Sublistᴰ}
+use mathlib.Core.Path.{_≡_}
 use native.Mathlib.Omega.{arith}
-use lib.ListN.{length, length-set, getD, set, take}
-use mir.Val.{boolByte}
-use lib.Seq.{take-all, take-set-le, take-suc, take-suc-set}
-use Rattle.order.specs.Lists.{_∈_, filter, filter-append, getD-mem, numbersFrom, sublist-few, sublist-⊆}
+use lib.ListN.{length, getD}
+use Rattle.order.specs.Lists.{_∈_, getD-mem, numbersFrom, sublist-few, sublist-⊆}
 use Rattle.order.specs.Order.{orderℕ, pair-first, pairs}
 use Rattle.order.specs.Perm.{pairwise-imp, pairwise-sublist}
 use Rattle.order.specs.Sorted.{Apart, Sorted, sort-sorted}
@@ -17,6 +12,7 @@ use Rattle.order.specs.Least.{ranked}
 use Rattle.network.specs.Capacities.{linksHeld}
 use Rattle.network.specs.Yard.{sumAt}
 use Rattle.kruskal_order.specs.ByCost.{Cheap, linkOrder, order-apart, order-below, order-length}
+use Rattle.kruskal_usable.specs.Usable.{usable-sublist, usableOrder}
 use Rattle.kruskal.specs.Tree.{Walkable}
 
 -- links that have a pattern each, with an array that has room for them
@@ -24,59 +20,9 @@ pub record Selectable (patterns order out : List ℕ) : Type 0 where
   pub known : (e : ℕ) → e ∈ order → e < length patterns
   pub room : length order ≤ length out
 
--- the first n entries of an array are the links l
-pub record Holding (l out : List ℕ) (n : ℕ) : Type 0 where
-  pub links : take n out ≡ l
-  pub few : n ≤ length out
-
 -- the link at a place
 pub known-at : {patterns order out : List ℕ} → Selectable patterns order out → (k : ℕ) → k < length order → getD order k 0 < length patterns
 known-at {order = order} s k h = s .known (getD order k 0) (getD-mem order k 0 h)
-
-pub one-at-most : (b : Bool) → boolByte b ≤ 1
-one-at-most true = omega arith
-one-at-most false = omega arith
-
-module _ (p : ℕ → Bool) where
-  -- a loop over the links l after k of `end` turns: the first n entries of an array are those of the first k links that pass
-  pub record Collected (l link : List ℕ) (n k end : ℕ) : Type 0 where
-    pub turns : k ≤ end
-    pub all : end ≡ length l
-    pub fewer : n ≤ k
-    pub room : length l ≤ length link
-    pub passed : take n link ≡ filter p (take k l)
-
-  pub collect-start : (l link : List ℕ) → length l ≤ length link → Collected l link 0 0 (length l)
-  collect-start l link room = record { turns = omega arith; all = refl; fewer = omega arith; room = room; passed = refl }
-
-  -- one link more
-  more : (link l : List ℕ) (n e : ℕ) → n < length link → take n link ≡ filter p l
-      → take (n + boolByte (p e)) (set link n e) ≡ filter p (l ++ (e ∷ []))
-  more link l n e m h = rw (filter-append p l (e ∷ []), ← h) (go (p e))
-    where
-      go : (c : Bool) → take (n + boolByte c) (set link n e) ≡ take n link ++ cond c (e ∷ []) []
-      go true = rw add-one (take-suc-set link n e m)
-      go false = rw (add-zero, append-nil) (take-set-le n link n e (le-refl n))
-
-  module _ {l link : List ℕ} {n k end : ℕ} (c : Collected l link n k end) where
-    pub collect-room : k < end → n < length link
-    collect-room h = omega (arith, c .all, c .fewer, c .room)
-
-    pub collect-turn : {b : Bool} → k < end → b ≡ p (getD l k 0) → Collected l (set link n (getD l k 0)) (n + boolByte b) (k + 1) end
-    collect-turn {b} h e =
-        let there : k < length l = omega (arith, c .all) in
-        record {
-          turns = omega arith;
-          all = c .all;
-          fewer = omega (arith, one-at-most b, c .fewer);
-          room = omega (arith, length-set link n (getD l k 0), c .room);
-          passed = rw (e, add-one k, take-suc l k 0 there) (more link (take k l) n (getD l k 0) (collect-room h) (c .passed));
-        }
-
-    pub collect-end : end ≤ k → Holding (filter p l) link n
-    collect-end h =
-        let all : length l ≤ k = omega (arith, c .all) in
-        record { links = rw (take-all k l all) at (c .passed); few = omega (arith, c .room, c .all, c .fewer, c .turns) }
 
 -- ---- links in rising order of cost, and those selected of them
 
@@ -87,11 +33,12 @@ pub record InOrder (sums l : List ℕ) : Type 0 where
   pub apart : Apart (λ x. x) l
 
 module _ (sums : List ℕ) where
-  pub order-in-order : {l : List ℕ} → length sums ≤ linksHeld → Cheap sums → l ≡ linkOrder sums → InOrder sums l
+  -- all links by cost
+  all-in-order : length sums ≤ linksHeld → Cheap sums → InOrder sums (linkOrder sums)
   unfolding linkOrder
-  order-in-order h cheap e =
+  all-in-order h cheap =
       let key = ranked (sumAt sums) (λ c. c) in
-      rw e (record {
+      record {
         walkable = record {
           few = omega (arith, order-length sums);
           usable = λ e k. let b = order-below sums e k in record { below = b; cheap = cheap e b };
@@ -99,7 +46,7 @@ module _ (sums : List ℕ) where
         sorted = pairwise-imp (λ x y k. pair-first orderℕ orderℕ (key x) (key y) k) (linkOrder sums)
             (sort-sorted (pairs orderℕ orderℕ) key (numbersFrom (length sums) 0));
         apart = order-apart sums;
-      })
+      }
 
   -- so is each sublist
   pub sublist-in-order : {xs ys : List ℕ} → Sublistᴰ xs ys → InOrder sums ys → InOrder sums xs
@@ -110,3 +57,7 @@ module _ (sums : List ℕ) where
         sorted = pairwise-sublist _ s (v .sorted);
         apart = pairwise-sublist _ s (v .apart);
       }
+
+  -- the usable links by cost
+  pub order-in-order : (rest : ℕ) (ends : List ℕ) {l : List ℕ} → length sums ≤ linksHeld → Cheap sums → l ≡ usableOrder rest ends sums → InOrder sums l
+  order-in-order rest ends h cheap e = rw e (sublist-in-order (usable-sublist rest ends sums) (all-in-order h cheap))

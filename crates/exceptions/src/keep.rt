@@ -7,7 +7,8 @@ ghost use mathlib.Core.Path.{_≡_};
 ghost use lib.ListN.{length};
 ghost use Rattle.kruskal.specs.Grown.{Near};
 ghost use Rattle.exceptions_patterns.specs.Patterns.{Patterned};
-ghost use Rattle.exceptions.specs.Select.{Holding, Selectable};
+ghost use Rattle.kruskal_usable.specs.Collect.{Holding};
+ghost use Rattle.exceptions.specs.Select.{Selectable};
 ghost use Rattle.exceptions.specs.Keep.{keptExceptions};
 
 // Writes the links of an order that may be exceptions and join two groups of the links kept of their pattern, and returns their number.

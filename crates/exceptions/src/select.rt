@@ -1,7 +1,8 @@
 // The normal links, in their order.
 ghost use Rattle.order.specs.Lists.{filter};
 ghost use Rattle.exceptions_patterns.specs.Patterns.{normal};
-ghost use Rattle.exceptions.specs.Select.{Holding, Selectable};
+ghost use Rattle.kruskal_usable.specs.Collect.{Holding};
+ghost use Rattle.exceptions.specs.Select.{Selectable};
 
 // Writes the links of an order that are above no bound, in their order, and returns their number.
 pub fn put_normal(order: &[u8], patterns: &[u8], links: &mut [u8]) -> usize

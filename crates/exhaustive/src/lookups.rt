@@ -6,7 +6,6 @@ use alltrees::answers::wanted;
 use alltrees::indexes::first_of;
 use alltrees::indexes::is_index;
 use alltrees::listing::NONE;
-use alltrees::listing::SETS;
 use alltrees::plans::Plans;
 use alltrees::plans::ROWS;
 use network::Found;
@@ -24,7 +23,7 @@ fn agrees(found: Found, rows: [u64; ROWS], tree: u64) -> bool {
 }
 
 // How often the planner differs in the lookups under the 16 bounds, with a yard of a kind.
-fn looked(given: &[u8], buffer: &[u8], kind: u64, trees: [u64; SETS], rows: [u64; ROWS]) -> u64 {
+fn looked(given: &[u8], buffer: &[u8], kind: u64, trees: &[u64], rows: [u64; ROWS]) -> u64 {
     let mut n = 0;
     for b1 in 0..16u8 {
         let found = index_lookup(given, buffer, bound(b1));
@@ -35,12 +34,12 @@ fn looked(given: &[u8], buffer: &[u8], kind: u64, trees: [u64; SETS], rows: [u64
 }
 
 // How often the planner differs: in building the index of its list, and in the lookups.
-pub fn differences(survey: &[u8], kind: u64, trees: [u64; SETS], plans: Plans) -> u64 {
+pub fn differences(survey: &[u8], kind: u64, trees: &[u64], plans: Plans) -> u64 {
     let rows = plans.rows;
     let mut given = [DIRT; ROOM];
     let _listed = list(survey, 4294967295, &mut given);
     let mut buffer = [DIRT; 2 * ROWS];
     let reply = index(&given, &mut buffer);
-    let built = (reply.number == 0) & (reply.place == 0) & is_index(&buffer, rows, plans.plans);
+    let built = (reply.number == 0) & (reply.place == 0) & is_index(&buffer, rows, plans.count);
     wrapping_add_u64(!built as u64, looked(&given, &buffer, kind, trees, rows))
 }

@@ -1,10 +1,10 @@
-// Surveys written from the figures of a yard with both kinds of yard record, held against its surveys and the plans among the trees listed.
+// Surveys written from the figures of a yard with both kinds of yard record that are written, held against its surveys and the plans among the trees listed.
 use crate::lists;
 use alltrees::answers::DIRT;
+use alltrees::figures::Figures;
 use alltrees::figures::figures_of;
 use alltrees::figures::is_survey;
 use alltrees::figures::other_kind;
-use alltrees::listing::SETS;
 use alltrees::plans::Plans;
 use alltrees::small::Yard;
 use alltrees::small::byte;
@@ -39,17 +39,16 @@ fn yard_figures(kind: u64) -> YardFigures {
     }
 }
 
-// The call with the figures of a yard, and with ends and costs of links that it does not have.
-fn write(yard: Yard, output: &mut [u8]) -> Status {
-    let figures = figures_of(yard);
+// The call with the figures of a yard of a kind with m links, and with ends and costs of links that it does not have.
+fn write(record: u8, kind: u64, m: u8, figures: Figures, output: &mut [u8]) -> Status {
     let ends = figures.ends;
     let sums = figures.sums;
     let costs = figures.costs;
     write_survey(
-        UNCOUNTED + (yard.counted % 2) as u32,
-        yard_figures(yard.kind),
+        UNCOUNTED + (record % 2) as u32,
+        yard_figures(kind),
         &ends,
-        first(&sums, yard.m as usize),
+        first(&sums, m as usize),
         &costs,
         output,
     )
@@ -57,16 +56,18 @@ fn write(yard: Yard, output: &mut [u8]) -> Status {
 
 // 1 where the reply or the output differs from what is wanted.
 fn differs(yard: Yard, output: &mut [u8]) -> u64 {
-    let reply = write(yard, output);
+    let figures = figures_of(yard);
+    let reply = write(yard.record, yard.kind, yard.m, figures, output);
     !((reply.number == 0) & (reply.place == 0) & is_survey(output, yard)) as u64
 }
 
 // How often the planner differs: in writing the survey with both kinds, and in listing the one with the other kind.
-pub fn differences(yard: Yard, trees: [u64; SETS], plans: Plans) -> u64 {
+pub fn differences(yard: Yard, trees: &[u64], plans: Plans) -> u64 {
     let other = other_kind(yard);
     let mut own = [DIRT; ROOM];
     let mut output = [DIRT; ROOM];
     let written = wrapping_add_u64(differs(yard, &mut own), differs(other, &mut output));
-    let listed = lists::differences(part(&output, 0, length(other)), other, trees, plans);
+    let survey = part(&output, 0, length(other));
+    let listed = lists::differences(survey, lists::ROOM, other, trees, plans);
     wrapping_add_u64(written, listed)
 }

@@ -9,6 +9,7 @@ use lib.Seq.{append-snoc, drop-cons, take-suc-set}
 use Rattle.order.specs.Test.{by-test}
 use Rattle.order.specs.Lists.{_∈_}
 use Rattle.order.specs.Perm as perm
+use Rattle.order.specs.Sorted.{Apart}
 use Rattle.spanning.specs.Labelling.{crosses}
 use Rattle.spanning.specs.LabelList.{labelOf}
 use Rattle.spanning.specs.Tree.{Within}
@@ -69,9 +70,13 @@ pub record Recorded (ends links history : List ℕ) : Type 0 where
   pub room : length links * stationsHeld ≤ length history
   pub row : (k : ℕ) → k < length links → take stationsHeld (drop (k * stationsHeld) history) ≡ groupsAfter ends (take (k + 1) links) .leader
 
--- the links of a list join the stations 0 .. goal, of which there are no more than arrays hold
+-- the links of a list join stations, one more than `goal` and each there once, which arrays hold
 pub record Joinable (ends links : List ℕ) (goal : ℕ) : Type 0 where
-  pub within : (e : ℕ) → e ∈ links → Within (goal + 1) (endsAt ends e)
+  pub stations : List ℕ
+  pub size : length stations ≡ goal + 1
+  pub different : Apart (λ x. x) stations
+  pub known : (v : ℕ) → v ∈ stations → v < stationsHeld
+  pub within : (e : ℕ) → e ∈ links → Within stations (endsAt ends e)
   pub held : goal ≤ treeHeld
 
 -- an array holds the links that are kept of a list, of which r has the number and the sum, and another the leaders after each of them

@@ -31,7 +31,7 @@ use Rattle.kruskal.specs.Grown.{Near, kept-kruskal}
 module _ {ends links : List ℕ} {goal : ℕ} (j : Joinable ends links goal) where
   -- the links join stations
   pub joinable-near : Near ends links
-  joinable-near e m = let w = j .within e m in let h = j .held in (omega arith, omega arith)
+  joinable-near e m = let w = j .within e m in (j .known (endsAt ends e .a) (w .0), j .known (endsAt ends e .b) (w .1))
 
   pub kept-few : length (kept ends apart links) ≤ goal
   kept-few =
@@ -39,13 +39,13 @@ module _ {ends links : List ℕ} {goal : ℕ} (j : Joinable ends links goal) whe
       let same : ks ≡ kruskal (endsAt ends) identity links =
       kept-kruskal ends apart links apart-led joinable-near ∙ ap (λ (L : Labelling). kruskal (endsAt ends) L links) (fun-ext apart-labels) in
       let ringless : Ringless identity (map (endsAt ends) ks) = rw same (greedy-forest (endsAt ends) (kruskal-greedy (endsAt ends) identity links)) in
-      let few = forest-few (goal + 1) (omega arith) (map (endsAt ends) ks) within ringless in
-      omega (arith, length-map ks (endsAt ends))
+      let few = forest-few (j .stations) (omega (arith, j .size)) (j .different) (map (endsAt ends) ks) within ringless in
+      omega (arith, j .size, length-map ks (endsAt ends))
     where
-      within : AllWithin (goal + 1) (map (endsAt ends) (kept ends apart links))
+      within : AllWithin (j .stations) (map (endsAt ends) (kept ends apart links))
       within x m =
           let e = map-mem (endsAt ends) (kept ends apart links) x m in
-          subst (λ (y : Edge). Within (goal + 1) y) (sym (e .2)) (j .within (e .0) (sublist-⊆ (kept-sublist ends apart links) (e .0) (e .1)))
+          subst (λ (y : Edge). Within (j .stations) y) (sym (e .2)) (j .within (e .0) (sublist-⊆ (kept-sublist ends apart links) (e .0) (e .1)))
 
 -- ---- one row more
 

@@ -11,7 +11,7 @@ use Rattle.order.specs.Lists.{_∈_}
 use Rattle.order.specs.Perm as perm
 use Rattle.spanning.specs.Labelling.{Labelling, crosses, merge}
 use Rattle.spanning.specs.LabelList.{labelOf}
-use Rattle.spanning.specs.Tree.{Within, identity, mergeAll, mergeAll-append}
+use Rattle.spanning.specs.Tree.{EndsBelow, identity, mergeAll, mergeAll-append}
 use Rattle.spanning.specs.Kruskal.{kruskal}
 use Rattle.network.specs.Capacities.{linksHeld, stationsHeld}
 use Rattle.network.specs.Yard.{endsAt, sumAt}
@@ -31,7 +31,7 @@ flagsOf ts = foldl withFlag (replicate linksHeld false) ts
 
 -- the links of a list join stations
 abbrev pub Near : List ℕ → List ℕ → Type 0
-Near ends l = (e : ℕ) → e ∈ l → Within stationsHeld (endsAt ends e)
+Near ends l = (e : ℕ) → e ∈ l → EndsBelow stationsHeld (endsAt ends e)
 
 module _ (ends sums : List ℕ) where
   -- the forest value t holds the links ts
@@ -46,12 +46,12 @@ module _ (ends sums : List ℕ) where
   unfolding bare flagsOf
   bare-holds = record { led = apart-led; labels = fun-ext apart-labels; flags = refl; total = refl; size = refl }
 
-  added-labels : (t : Tree) (e : ℕ) → Within stationsHeld (endsAt ends e) → Led (t .forest)
+  added-labels : (t : Tree) (e : ℕ) → EndsBelow stationsHeld (endsAt ends e) → Led (t .forest)
       → labelOf (added ends sums t e .forest .leader) ≡ merge (labelOf (t .forest .leader)) (endsAt ends e)
   unfolding added
   added-labels t e w led = joined-labels (t .forest) (endsAt ends e .a) (endsAt ends e .b) led (w .0) (w .1)
 
-  added-holds : (ts : List ℕ) (t : Tree) (e : ℕ) → Within stationsHeld (endsAt ends e) → Holds ts t → Holds (ts ++ (e ∷ [])) (added ends sums t e)
+  added-holds : (ts : List ℕ) (t : Tree) (e : ℕ) → EndsBelow stationsHeld (endsAt ends e) → Holds ts t → Holds (ts ++ (e ∷ [])) (added ends sums t e)
   unfolding added flagsOf
   added-holds ts t e w h =
       record {

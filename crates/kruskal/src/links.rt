@@ -15,7 +15,7 @@ pub struct Base {
 }
 
 // Writes the links that are kept, in the order in which they come in, and after each of them the leaders, a row behind those of the links before.
-// `goal` links join all stations, so that no link is kept after them.
+// `goal` links join all stations that are to be joined, so that no link is kept after them.
 pub fn put_base(
     ends: &[u8],
     sums: &[u32],

@@ -1,4 +1,5 @@
 -- The grid of the ceilings: their values in parts of an array, and their positions as numbers.
+use mathlib.Core.Bool.{Bool}
 use mathlib.Core.List.{List, [], _∷_}
 use mathlib.Core.Path.{_≡_, refl, sym, ap, _∙_}
 use Prim.Native.Nat.{ℕ, zero, suc, _+_, _*_, _≤_, _<_}
@@ -14,7 +15,7 @@ use Rattle.network.specs.Capacities.{ceilingsHeld, linksHeld}
 use Rattle.network.specs.Network.{Network}
 use Rattle.network.specs.Tabulate.{tabulate, tabulate-at, tabulate-length}
 use Rattle.network.specs.Walk.{values}
-use Rattle.network.specs.Yard.{graph}
+use Rattle.network.specs.Yard.{graph, usable}
 use Rattle.marking_values.specs.Values.{falling-values}
 use Rattle.marking_grid.specs.Digits.{Few, Steps, digits-places, digitsBy, sizes, total, total-product, weights, weights-steps}
 use Rattle.marking_grid.specs.Parts.{Filled, ceilingValues, columnValues, parts-apart}
@@ -57,11 +58,11 @@ module _ (G : Graph) where
   values-at j zero (k ∷ js) h d = ap (valuesAt G) (omega arith)
   values-at j (suc i) (k ∷ js) h d = values-at (suc j) i js (omega arith) d ∙ ap (valuesAt G) (omega arith)
 
--- THE LAW: the different values of p columns are the values that the walk of their network goes through
-pub ceiling-values : (net : Network) → length (net .k) ≡ net .p → ceilingValues (net .p) (net .m) (net .costs) ≡ values net
+-- THE LAW: the different values of p columns over the usable links are the values that the walk of their network goes through
+pub ceiling-values : (net : Network) → length (net .k) ≡ net .p → ceilingValues (usable net) (net .p) (net .m) (net .costs) ≡ values net
 unfolding ceilingValues columnValues
 ceiling-values net e =
-    let f = columnValues (net .m) (net .costs) in
+    let f = columnValues (usable net) (net .m) (net .costs) in
     let G = graph net in
     let size = tabulate-length f (net .p) in
     ext-getD [] (tabulate f (net .p)) (values net) (size ∙ sym e ∙ sym (values-length G 0 (net .k)))
@@ -73,18 +74,18 @@ value-count net = values-length (graph net) 0 (net .k)
 
 -- ---- the grid, when the values of p ceilings are filled in
 
-module _ {p m : ℕ} {costs array : List ℤ} {counts : List ℕ} (f : Filled m costs array counts p) (room : length array ≡ p * m)
+module _ {u : ℕ → Bool} {p m : ℕ} {costs array : List ℤ} {counts : List ℕ} (f : Filled u m costs array counts p) (room : length array ≡ p * m)
     (held : length counts ≡ ceilingsHeld) (ceilings : p ≤ ceilingsHeld) where
   abbrev lists : List (List ℤ)
-  lists = ceilingValues p m costs
+  lists = ceilingValues u p m costs
 
   lists-length : length lists ≡ p
   unfolding ceilingValues
-  lists-length = tabulate-length (columnValues m costs) p
+  lists-length = tabulate-length (columnValues u m costs) p
 
-  list-at : (i : ℕ) → i < p → getD lists i [] ≡ columnValues m costs i
+  list-at : (i : ℕ) → i < p → getD lists i [] ≡ columnValues u m costs i
   unfolding ceilingValues
-  list-at i h = tabulate-at (columnValues m costs) p i h []
+  list-at i h = tabulate-at (columnValues u m costs) p i h []
 
   -- a ceiling has as many values as are counted
   count-at : (i : ℕ) → i < p → length (getD lists i []) ≡ getD counts i 0

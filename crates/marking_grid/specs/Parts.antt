@@ -1,4 +1,5 @@
 -- The values of each ceiling at the front of its part of one array, in which every ceiling has as many places as there are links.
+use mathlib.Core.Bool.{Bool}
 use mathlib.Core.List.{List, _++_}
 use mathlib.Core.Logic.{⊎-elim}
 use mathlib.Core.Path.{_≡_, sym, ap, ap₂, _∙_}
@@ -13,21 +14,21 @@ use Rattle.network.specs.Tabulate.{tabulate}
 use Rattle.network.specs.Yard.{ceilingPart, costAt}
 use Rattle.marking_values.specs.Values.{fallingTo}
 
--- the different values of ceiling i in falling order, by the costs of all m links
-unfoldable pub columnValues : ℕ → List ℤ → ℕ → List ℤ
-columnValues m costs i = fallingTo (costAt (ceilingPart m costs i)) m
+-- the different values of ceiling i in falling order, by the costs of those of m links that u says
+unfoldable pub columnValues : (ℕ → Bool) → ℕ → List ℤ → ℕ → List ℤ
+columnValues u m costs i = fallingTo u (costAt (ceilingPart m costs i)) m
 
 -- the same of each of p ceilings
-unfoldable pub ceilingValues : ℕ → ℕ → List ℤ → List (List ℤ)
-ceilingValues p m costs = tabulate (columnValues m costs) p
+unfoldable pub ceilingValues : (ℕ → Bool) → ℕ → ℕ → List ℤ → List (List ℤ)
+ceilingValues u p m costs = tabulate (columnValues u m costs) p
 
 -- the first i ceilings have their values at the front of their parts, and their numbers in `counts`
-pub record Filled (m : ℕ) (costs values : List ℤ) (counts : List ℕ) (i : ℕ) : Type 0 where
+pub record Filled (u : ℕ → Bool) (m : ℕ) (costs values : List ℤ) (counts : List ℕ) (i : ℕ) : Type 0 where
   pub few : (j : ℕ) → j < i → getD counts j 0 ≤ m
-  pub part : (j : ℕ) → j < i → take (getD counts j 0) (drop (j * m) values) ≡ columnValues m costs j
+  pub part : (j : ℕ) → j < i → take (getD counts j 0) (drop (j * m) values) ≡ columnValues u m costs j
 
-pub none-filled : (m : ℕ) (costs values : List ℤ) (counts : List ℕ) → Filled m costs values counts 0
-none-filled m costs values counts = record { few = λ j h. absurd (omega arith); part = λ j h. absurd (omega arith) }
+pub none-filled : (u : ℕ → Bool) (m : ℕ) (costs values : List ℤ) (counts : List ℕ) → Filled u m costs values counts 0
+none-filled u m costs values counts = record { few = λ j h. absurd (omega arith); part = λ j h. absurd (omega arith) }
 
 module _ {A : Type 0} where
   -- a part is the front without what is before it
@@ -60,10 +61,10 @@ pub parts-apart : (i j m c : ℕ) → j < i → c ≤ m → j * m + c ≤ i * m
 parts-apart i j m c h g = omega (arith, mul-le-mul-right m h, suc-mul j m)
 
 -- one ceiling more, whose part is written anew
-filled-more : {m : ℕ} {costs values : List ℤ} {counts : List ℕ} {i : ℕ} → Filled m costs values counts i → (new : List ℤ) (c n : ℕ)
-    → i < length counts → i * m ≤ length values → c ≤ m → c ≤ length new → take c new ≡ columnValues m costs i
-    → Filled m costs (putMid (i * m) n values new) (set counts i c) (i + 1)
-filled-more {m} {costs} {values} {counts} {i} f new c n inside room few fits is =
+filled-more : {u : ℕ → Bool} {m : ℕ} {costs values : List ℤ} {counts : List ℕ} {i : ℕ} → Filled u m costs values counts i → (new : List ℤ) (c n : ℕ)
+    → i < length counts → i * m ≤ length values → c ≤ m → c ≤ length new → take c new ≡ columnValues u m costs i
+    → Filled u m costs (putMid (i * m) n values new) (set counts i c) (i + 1)
+filled-more {u} {m} {costs} {values} {counts} {i} f new c n inside room few fits is =
     record {
       few = λ j h. ⊎-elim (λ (q : j ≡ i). rw q (rw own few)) (λ (q : j < i). rw (other j q) (f .few j q)) (eq-or-lt-of-le (omega arith));
       part = λ j h. ⊎-elim (λ (q : j ≡ i). rw q new-part) (old-part j) (eq-or-lt-of-le (omega arith));
@@ -75,25 +76,25 @@ filled-more {m} {costs} {values} {counts} {i} f new c n inside room few fits is 
     other : (j : ℕ) → j < i → getD (set counts i c) j 0 ≡ getD counts j 0
     other j q = getD-set-other counts i j c 0 (omega arith)
 
-    new-part : take (getD (set counts i c) i 0) (drop (i * m) (putMid (i * m) n values new)) ≡ columnValues m costs i
+    new-part : take (getD (set counts i c) i 0) (drop (i * m) (putMid (i * m) n values new)) ≡ columnValues u m costs i
     new-part = ap (λ (k : ℕ). take k (drop (i * m) (putMid (i * m) n values new))) own ∙ part-new values new (i * m) n c room fits ∙ is
 
-    old-part : (j : ℕ) → j < i → take (getD (set counts i c) j 0) (drop (j * m) (putMid (i * m) n values new)) ≡ columnValues m costs j
+    old-part : (j : ℕ) → j < i → take (getD (set counts i c) j 0) (drop (j * m) (putMid (i * m) n values new)) ≡ columnValues u m costs j
     old-part j q =
         ap (λ (k : ℕ). take k (drop (j * m) (putMid (i * m) n values new))) (other j q)
         ∙ part-before values new (i * m) n (j * m) (getD counts j 0) room (parts-apart i j m (getD counts j 0) q (f .few j q)) ∙ f .part j q
 
 -- the same by code that finds the different values of a column of `width` costs from `at` on
-pub filled-turn : {m : ℕ} {costs values : List ℤ} {counts : List ℕ} {i : ℕ} → Filled m costs values counts i → (at width c : ℕ) (new : List ℤ)
+pub filled-turn : {u : ℕ → Bool} {m : ℕ} {costs values : List ℤ} {counts : List ℕ} {i : ℕ} → Filled u m costs values counts i → (at width c : ℕ) (new : List ℤ)
     → at ≡ i * m → width ≡ m → i < length counts → at + m ≤ length costs → at + m ≤ length values → length new ≡ m
     → let column = take width (drop at costs) in
-    (c ≤ length column) × (take c new ≡ fallingTo (costAt column) (length column))
-    → Filled m costs (putMid at width values new) (set counts i c) (i + 1)
+    (c ≤ length column) × (take c new ≡ fallingTo u (costAt column) (length column))
+    → Filled u m costs (putMid at width values new) (set counts i c) (i + 1)
 unfolding columnValues
-filled-turn {m} {costs} {values} {counts} {i} f at width c new e w inside room fits size found =
+filled-turn {u} {m} {costs} {values} {counts} {i} f at width c new e w inside room fits size found =
     let long = length-take-le m (drop (i * m) costs) (omega (arith, length-drop (i * m) costs)) in
-    let there : (c ≤ length (ceilingPart m costs i)) × (take c new ≡ fallingTo (costAt (ceilingPart m costs i)) (length (ceilingPart m costs i))) =
+    let there : (c ≤ length (ceilingPart m costs i)) × (take c new ≡ fallingTo u (costAt (ceilingPart m costs i)) (length (ceilingPart m costs i))) =
     rw (e, w) at found in
     let few = there .0 in
     rw (e, w)
-    (filled-more f new c m inside (omega arith) (omega arith) (omega arith) (there .1 ∙ ap (fallingTo (costAt (ceilingPart m costs i))) long))
+    (filled-more f new c m inside (omega arith) (omega arith) (omega arith) (there .1 ∙ ap (fallingTo u (costAt (ceilingPart m costs i))) long))

@@ -6,6 +6,8 @@ ghost use mathlib.Core.Path.{_≡_};
 ghost use Prim.Native.Nat.{_/_, _%_, _<_};
 ghost use lib.ListN.{length};
 ghost use Rattle.network.specs.Capacities.{ceilingsHeld};
+ghost use Rattle.network.specs.Yard.{usableAt};
+ghost use Rattle.stations.specs.Stations.{Stations};
 ghost use Rattle.marking_grid.specs.Digits.{Few, Steps, digitsBy, total, weights};
 ghost use Rattle.marking_grid.specs.Parts.{Filled, ceilingValues};
 ghost use Rattle.marking_grid.specs.Gridded.{Griddable, Gridded};
@@ -17,18 +19,20 @@ pub struct Grid {
     pub total: usize,
 }
 
-// The different values of each ceiling, at the front of its part of `values`, and their numbers.
-fn values_of(shape: Shape, costs: &[i16], values: &mut [i16]) -> [usize; CEILINGS_HELD]
-    requires { ⌜ Griddable (shape .p) (shape .m) (now costs) (now values) ⌝ }
-    ensures { λ r. ⌜ (length r ≡ ceilingsHeld) × Filled (shape .m) (now (costs .entry)) (now (values .exit)) r (shape .p) ⌝ }
+// The different values of each ceiling over the usable links, at the front of its part of `values`, and their numbers.
+fn values_of(shape: Shape, ends: &[u8], costs: &[i16], values: &mut [i16]) -> [usize; CEILINGS_HELD]
+    requires { ⌜ Stations (now ends) × Griddable (shape .p) (shape .m) (now costs) (now values) ⌝ }
+    ensures { λ r. ⌜ (length r ≡ ceilingsHeld)
+        × Filled (usableAt (shape .rest) (now (ends .entry))) (shape .m) (now (costs .entry)) (now (values .exit)) r (shape .p) ⌝ }
 {
     let p = shape.p as usize;
     let m = shape.m;
+    let rest = shape.rest;
     let mut counts = [0usize; CEILINGS_HELD];
     let mut from = 0;
     for i in 0..p {
         let to = from + m;
-        counts[i] = different_values(&costs[from..to], &mut values[from..to]);
+        counts[i] = different_values(rest, ends, &costs[from..to], &mut values[from..to]);
         from = to;
     }
     counts
@@ -50,12 +54,13 @@ fn strides_of(counts: &[usize], strides: &mut [usize]) -> usize
 }
 
 // The grid of a network, with the values of ceiling i at the front of its part of `values`, which holds m for each.
-pub fn grid_of(shape: Shape, costs: &[i16], values: &mut [i16]) -> Grid
-    requires { ⌜ Griddable (shape .p) (shape .m) (now costs) (now values) ⌝ }
-    ensures { λ r. ⌜ Gridded (ceilingValues (shape .p) (shape .m) (now (costs .entry))) (shape .m) (now (values .exit)) r ⌝ }
+pub fn grid_of(shape: Shape, ends: &[u8], costs: &[i16], values: &mut [i16]) -> Grid
+    requires { ⌜ Stations (now ends) × Griddable (shape .p) (shape .m) (now costs) (now values) ⌝ }
+    ensures { λ r. ⌜ Gridded (ceilingValues (usableAt (shape .rest) (now (ends .entry))) (shape .p) (shape .m) (now (costs .entry))) (shape .m)
+        (now (values .exit)) r ⌝ }
 {
     let p = shape.p as usize;
-    let counts = values_of(shape, costs, values);
+    let counts = values_of(shape, ends, costs, values);
     let mut strides = [0usize; CEILINGS_HELD];
     let total = strides_of(&counts[..p], &mut strides[..p]);
     Grid {

@@ -9,10 +9,10 @@ use borrow.Author.Tests.{eqb-true, leb-false, ltb-false, not-false}
 use lib.ListN.{length}
 use Rattle.network.specs.Limits.{maxCeilings, maxLinks, maxStations}
 use Rattle.network.specs.Bytes.{byteAt, markAt}
-use Rattle.network.specs.Survey.{ceilingsIn, endIn, linkCount, linkSize, linkStart, ranksIn, stationsIn, sumIn}
+use Rattle.network.specs.Survey.{ceilingsIn, endIn, linkCount, linkSize, linkStart, ranksIn, restIn, stationsIn, sumIn, workingIn}
 use Rattle.network.specs.Layouts.{Roomy}
 use Rattle.network.specs.Checked.{fine-both, first-fine, refuse-fine}
-use Rattle.network.specs.Refusals.{badCount, badLength, badRanks, badSum, checkedWith, linkChecked, linkCheckedAt, yardChecked}
+use Rattle.network.specs.Refusals.{badCount, badLength, badRanks, badRest, badSum, checkedWith, linkChecked, linkCheckedAt, yardChecked}
 use Rattle.network.specs.declared.Checked.the-variants.{Fine}
 use Rattle.network.specs.declared.Layout.{Layout}
 
@@ -47,15 +47,17 @@ pub record YardFine (s : List ℕ) (l : Layout) (m : ℕ) : Type 0 where
   pub few-stations : stationsIn s ≤ maxStations
   pub few-links : m ≤ maxLinks
   pub count : badCount s l m ≡ false
+  pub resting : badRest (stationsIn s) (restIn l s) ≡ false
   pub few-ceilings : ceilingsIn s ≤ maxCeilings
-  pub ranks : badRanks (stationsIn s) (ceilingsIn s) (ranksIn s) ≡ false
+  pub ranks : badRanks (length (workingIn l s)) (ceilingsIn s) (ranksIn s) ≡ false
 
 pub yard-fine : (s : List ℕ) (l : Layout) (m : ℕ) → yardChecked s l m ≡ Fine → YardFine s l m
 unfolding yardChecked
 yard-fine s l m e =
     let to6 = fine-both _ _ e in
     let to5 = fine-both _ _ (to6 .0) in
-    let to15 = fine-both _ _ (to5 .0) in
+    let to18 = fine-both _ _ (to5 .0) in
+    let to15 = fine-both _ _ (to18 .0) in
     let to4 = fine-both _ _ (to15 .0) in
     let to3 = fine-both _ _ (to4 .0) in
     let stations = or-false _ _ (refuse-fine _ _ _ (to3 .1)) in
@@ -65,6 +67,7 @@ yard-fine s l m e =
       few-stations = ltb-false _ _ (stations .1);
       few-links = ltb-false _ _ (refuse-fine _ _ _ (to4 .1));
       count = refuse-fine _ _ _ (to15 .1);
+      resting = refuse-fine _ _ _ (to18 .1);
       few-ceilings = ltb-false _ _ (refuse-fine _ _ _ (to5 .1));
       ranks = refuse-fine _ _ _ (to6 .1);
     }

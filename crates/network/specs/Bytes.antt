@@ -16,6 +16,10 @@ byteAt bs i = getD bs i 0
 abbrev pub u16At : List ℕ → ℕ → ℕ
 u16At bs i = byteAt bs i + byteAt bs (i + 1) * 256
 
+-- the number of three bytes
+abbrev pub u24At : List ℕ → ℕ → ℕ
+u24At bs i = u16At bs i + byteAt bs (i + 2) * 65536
+
 -- the number of four bytes
 abbrev pub u32At : List ℕ → ℕ → ℕ
 u32At bs i = u16At bs i + u16At bs (i + 2) * 65536

@@ -55,7 +55,7 @@ ifFine (Refused r) a b = b
 
 -- ---- the judge of a drawn tree
 
--- 1 to 8 and 15, then 11: not t links, not strictly rising, one not in the survey, or no tree
+-- 1 to 8, 15 and 18, then 11: not t links, not strictly rising, one not in the survey, or no tree
 unfoldable pub drawnChecked : List ℕ → List ℕ → Checked
 drawnChecked s drawn = checkedOf s orElse refuseIf (not (isTree (networkOf s) drawn)) 11 0
 
@@ -79,7 +79,7 @@ isNone (some ts) = false
 unfoldable pub bestTree : List ℕ → ℤ → ℤ → Option (List ℕ)
 bestTree s b1 b2 = let net = networkOf s in best net (bounds net b1 b2)
 
--- 1 to 8 and 15, then 9: a tree buffer of `size` bytes is below t; then 14: no tree fits
+-- 1 to 8, 15 and 18, then 9: a tree buffer of `size` bytes is below t; then 14: no tree fits
 unfoldable pub askedChecked : List ℕ → ℤ → ℤ → ℕ → Checked
 askedChecked s b1 b2 size =
     checkedOf s
@@ -114,7 +114,7 @@ plansAfter net allowance buffer =
     let size = length buffer in
     ifFine (roomChecked net size) (cond (passes net allowance) (replicate size 0) (filled net size)) buffer
 
--- 1 to 8 and 15, then 9 and 10
+-- 1 to 8, 15 and 18, then 9 and 10
 unfoldable pub listChecked : List ℕ → ℕ → ℕ → Checked
 listChecked s allowance size = checkedOf s orElse plansChecked (networkOf s) allowance size
 
@@ -122,6 +122,6 @@ listChecked s allowance size = checkedOf s orElse plansChecked (networkOf s) all
 unfoldable pub listStatus : List ℕ → ℕ → ℕ → Status
 listStatus s allowance size = status (listChecked s allowance size)
 
--- the list buffer after it: as it was on 1 to 8 and 15, and else that of the yard
+-- the list buffer after it: as it was on 1 to 8, 15 and 18, and else that of the yard
 unfoldable pub listAfter : List ℕ → ℕ → List ℕ → List ℕ
 listAfter s allowance buffer = ifFine (checkedOf s) (plansAfter (networkOf s) allowance buffer) buffer

@@ -1,5 +1,5 @@
 -- What holds of the layout of any survey, shown over the table of the layouts that are known.
-use Prim.Native.Nat.{ℕ, _≤_, _<_}
+use Prim.Native.Nat.{ℕ, _+_, _≤_, _<_}
 use mathlib.Core.Path.{_≡_, refl}
 use mathlib.Core.Bool.{Bool, true, false, cond, not, _&&_}
 use mathlib.Core.List.{List, [], _∷_, List·Memᴰ·head as here, List·Memᴰ·tail as there}
@@ -11,26 +11,31 @@ use lib.Seq.{getD-take}
 use Rattle.order.specs.Lists.{_∈_, all, all-mem}
 use Rattle.order.specs.Test.{left, right}
 use Rattle.network.specs.Bytes.{byteAt, markAt}
-use Rattle.network.specs.Survey.{layoutOf, layouts, linkSize, opens, plain, rowWhere, yardSize}
+use Rattle.network.specs.Survey.{layoutOf, layouts, linkSize, opens, plain, restSize, rowWhere, yardSize}
 use Rattle.network.specs.declared.Layout.{Layout}
 
--- the records of a layout have room for the fields that all share, and the yard record for its link count
+-- the records of a layout have room for the fields that all share, and the yard record for its link count and its stations at rest
 pub record Roomy (l : Layout) : Type 0 where
   pub yard : yardSize ≤ l .yard .size
   pub count : l .count < l .yard .size
+  pub rest : l .rest + restSize ≤ l .yard .size
   pub link : linkSize ≤ l .link .size
 
 -- the same as a test
 abbrev roomy : Layout → Bool
-roomy l = leb yardSize (l .yard .size) && (ltb (l .count) (l .yard .size) && leb linkSize (l .link .size))
+roomy l =
+    leb yardSize (l .yard .size)
+    && (ltb (l .count) (l .yard .size) && (leb (l .rest + restSize) (l .yard .size) && leb linkSize (l .link .size)))
 
 roomy-row : (l : Layout) → roomy l ≡ true → Roomy l
 roomy-row l e =
-    let rest : ltb (l .count) (l .yard .size) && leb linkSize (l .link .size) ≡ true = right (leb yardSize (l .yard .size)) _ e in
+    let first = right (leb yardSize (l .yard .size)) _ e in
+    let second = right (ltb (l .count) (l .yard .size)) _ first in
     record {
       yard = leb-true _ _ (left (leb yardSize (l .yard .size)) _ e);
-      count = ltb-true _ _ (left (ltb (l .count) (l .yard .size)) _ rest);
-      link = leb-true _ _ (right (ltb (l .count) (l .yard .size)) _ rest);
+      count = ltb-true _ _ (left (ltb (l .count) (l .yard .size)) _ first);
+      rest = leb-true _ _ (left (leb (l .rest + restSize) (l .yard .size)) _ second);
+      link = leb-true _ _ (right (leb (l .rest + restSize) (l .yard .size)) _ second);
     }
 
 -- what holds of the old layout and of each row of a table holds of the row that a test finds

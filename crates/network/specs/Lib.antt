@@ -13,7 +13,7 @@ pub mod Column
 pub mod Tabulate
 pub mod Survey
 pub mod PlanList
--- when the planner declines: the first of several refusals, numbers 1 to 8 and 15, then the calls with 9, 10, 11, 14
+-- when the planner declines: the first of several refusals, numbers 1 to 8, 15 and 18, then the calls with 9, 10, 11, 14
 pub mod Checked
 pub mod Refusals
 pub mod Calls
@@ -25,9 +25,12 @@ pub mod Indexing
 pub mod Writing
 -- printing
 pub mod Printing
--- the yards worked through, P1 to P33
+-- the yards worked through, P1 to P40
+pub mod WorkedYards
 pub mod Worked
--- theorems: what the definitions mean, what holds of a survey's layout, of an accepted survey's bytes, of its costs and of its network
+-- theorems: which stations work, what the definitions mean, what holds of a survey's layout, of an accepted survey's bytes, of its costs and of its
+-- network
+pub mod Resting
 pub mod Meaning
 pub mod Layouts
 pub mod Accepted
@@ -38,11 +41,14 @@ pub mod NetworkFine
 pub mod Shaped
 -- the same bytes in another place
 pub mod Moved
--- the link count: surveys that are planned alike, the right count, and surveys that are cut off
+-- surveys that are planned alike: those that say the same in two layouts, with the right link count or with no station at rest; surveys that are cut off
 pub mod Alike
+pub mod SameYard
 pub mod Count
 pub mod Cut
 -- demand 3, and what callers rely on in an index and in a survey that is written
 pub mod Promise
 pub mod IndexPromise
 pub mod WritingPromise
+-- the stations at rest, byte by byte
+pub mod RestBits

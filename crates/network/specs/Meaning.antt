@@ -1,5 +1,5 @@
--- What the definitions of Yard.antt mean: the test of a tree says that a list of links connects all stations and has no ring, and dominance
--- and the best tree are what document 01 calls so.
+-- What the definitions of Yard.antt mean: the test of a tree says that a list of usable links connects all working stations and has no ring, and
+-- dominance and the best tree are what document 01 calls so.
 use mathlib.Core.Bool.{Bool, true, false, _&&_, not}
 use mathlib.Core.List.{List, map}
 use mathlib.Core.Logic.{_↔_}
@@ -22,7 +22,8 @@ use Rattle.frontier.specs.Dominance.{leAll, same}
 use Rattle.frontier.specs.Best.{best-none, best-some}
 use Rattle.planning.specs.Graph.{Sound, searchTree}
 use Rattle.planning.specs.Search.{search-best}
-use Rattle.network.specs.Yard.{Tree, best, dominates, ends, fits, graph, isTree, ranks, treeSize, treeSum, trees, yard}
+use Rattle.network.specs.Yard.{Tree, best, dominates, ends, fits, graph, isTree, ranks, stations, treeSize, treeSum, trees, usable, yard}
+use Rattle.network.specs.Resting.{mem-working, working-mem}
 use Rattle.network.specs.Calls.{Reply, says}
 use Rattle.network.specs.declared.Answer.{Answer}
 use Rattle.network.specs.declared.Answer.the-variants.{Plan, Refused as Answer·Refused}
@@ -43,27 +44,41 @@ module _ (net : Network) (sound : Sound (graph net)) where
   pub trees-iff : (ts : List ℕ) → (ts ∈ trees net) ↔ Tree net ts
   trees-iff ts = (
     λ m.
-        let r = listing-iff (ends net) (net .n) (net .m) (sound .stations) (sound .within) ts .0 m in
-        let j = spanning-iff (net .n) (map (ends net) ts) .0 (r .1) in
-        record { rising = r .0; connects = j .0; no-ring = j .1 },
+        let r = listing-iff (ends net) (stations net) (net .m) (usable net) (sound .some-station) (sound .apart) (sound .within) ts .0 m in
+        let j = spanning-iff (stations net) (map (ends net) ts) .0 (r .2) in
+        record {
+          rising = r .0;
+          used = r .1;
+          connects = λ a b g h u v. j .0 a b (mem-working (net .n) (net .rest) a g u) (mem-working (net .n) (net .rest) b h v);
+          no-ring = j .1;
+        },
     λ t.
-        listing-iff (ends net) (net .n) (net .m) (sound .stations) (sound .within) ts .1
-        (t .rising, spanning-iff (net .n) (map (ends net) ts) .1 (t .connects, t .no-ring)),
+        listing-iff (ends net) (stations net) (net .m) (usable net) (sound .some-station) (sound .apart) (sound .within) ts .1 (
+          t .rising,
+          t .used,
+          spanning-iff (stations net) (map (ends net) ts) .1 (
+            λ a b g h.
+                let i = working-mem (net .n) (net .rest) g in
+                let j = working-mem (net .n) (net .rest) h in
+                t .connects a b (i .0) (j .0) (i .1) (j .1),
+            t .no-ring,
+          ),
+        ),
   )
 
   -- each with t links,
   pub tree-size : (ts : List ℕ) → Tree net ts → length ts ≡ treeSize net
-  tree-size ts t = listing-length (ends net) (net .n) (net .m) ts (trees-iff ts .1 t)
+  tree-size ts t = listing-length (ends net) (stations net) (net .m) (usable net) ts (trees-iff ts .1 t)
 
   -- once, in dictionary order
   pub trees-rising : Rising (dictionary orderℕ) (λ ts. ts) (trees net)
-  trees-rising = listing-sorted (ends net) (net .n) (net .m)
+  trees-rising = listing-sorted (ends net) (stations net) (net .m) (usable net)
 
   -- the test of a drawn tree
   pub isTree-iff : (ts : List ℕ) → (isTree net ts ≡ true) ↔ Tree net ts
   isTree-iff ts = (
-    λ e. trees-iff ts .0 (isListed-iff (ends net) (net .n) (net .m) ts .0 e),
-    λ t. isListed-iff (ends net) (net .n) (net .m) ts .1 (trees-iff ts .1 t),
+    λ e. trees-iff ts .0 (isListed-iff (ends net) (stations net) (net .m) (usable net) ts .0 e),
+    λ t. isListed-iff (ends net) (stations net) (net .m) (usable net) ts .1 (trees-iff ts .1 t),
   )
 
   -- the best tree under ceilings: a tree that fits, of the least sum among those that fit, and of these the first

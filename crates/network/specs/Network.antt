@@ -10,6 +10,8 @@ pub record Network : Type 0 where
   pub p : ℕ
   -- the rank of each ceiling
   pub k : List ℕ
+  -- the stations at rest: bit j is 1 where station j rests
+  pub rest : ℕ
   -- the number of links
   pub m : ℕ
   -- the ends of the links, two for each

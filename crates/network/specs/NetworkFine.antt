@@ -2,12 +2,12 @@
 -- code hold it.
 use Prim.Native.Nat.{ℕ, zero, suc, _+_, _-_, _*_, _/_, _%_, _^_, _≤_, _<_}
 use mathlib.Core.Path.{_≡_, ap, _∙_}
-use mathlib.Core.Bool.{_&&_, false}
+use mathlib.Core.Bool.{_&&_, false, not}
 use mathlib.Core.List.{List, [], _∷_}
 use native.Mathlib.Nat.{le-of-eq, le-trans, mul-comm, mul-le-mul, pow-le-pow-right, pow-suc, pow-zero}
 use native.Mathlib.Omega.{arith}
-use borrow.Author.Tests.{leb-false, ltb-false, lt-ltb}
-use lib.Dec.{ltb}
+use borrow.Author.Tests.{eqb-false, leb-false, ltb-false, lt-ltb}
+use lib.Dec.{eqb, ltb}
 use lib.ListN.{getD, length, length-take, take}
 use lib.Seq.{getD-take, length-take-le}
 use Rattle.order.specs.Lists.{_∈_, mem-getD}
@@ -21,9 +21,11 @@ use Rattle.network.specs.Capacities.{ceilingsHeld, exceptionsHeld, links
 use Rattle.network.specs.Bytes.{byteAt}
 use Rattle.network.specs.Network.{Network}
 use Rattle.network.specs.Tabulate.{tabulate-at, tabulate-length}
-use Rattle.network.specs.Survey.{ceilingsIn, endIn, endsIn, layoutOf, linkCount, linkStart, networkOf, networkWith, ranksIn, stationsIn}
-use Rattle.network.specs.Refusals.{anyBadRank, badPresent, badRank, badRanks, checkedOf}
-use Rattle.network.specs.Yard.{graph, ranks, sumAt, treeSize}
+use Rattle.network.specs.Survey.{ceilingsIn, endIn, endsIn, layoutOf, linkCount, linkStart, networkOf, networkWith, ranksIn, restIn, stationsIn}
+use Rattle.network.specs.Survey.{workingIn}
+use Rattle.network.specs.Refusals.{anyBadRank, badPresent, badRank, badRanks, badRest, checkedOf}
+use Rattle.network.specs.Yard.{ends, graph, ranks, stations, sumAt, treeSize}
+use Rattle.network.specs.Resting.{joins-within, working-apart, working-few}
 use Rattle.network.specs.Walk.{positionCount}
 use Rattle.network.specs.PlanList.{bufferNeed, maxNeed, planSize, planSlots}
 use Rattle.network.specs.Accepted.{Accepted, accepted, or-false}
@@ -90,11 +92,15 @@ pub position-limit : (net : Network) → WithinLimits net → positionCount net 
 position-limit net few =
     le-trans (position-power (graph net) maxLinks (few .links) 0 (ranks net)) (pow-le-pow-right {n = maxLinks} (omega arith) (few .ceilings))
 
+-- a tree has at most 23 links
+pub tree-limit : (net : Network) → WithinLimits net → treeSize net ≤ maxTree
+tree-limit net few = omega (arith, few .stations, working-few (net .n) (net .rest))
+
 -- what a list buffer needs is at most 52,810 bytes
 pub need-limit : (net : Network) → WithinLimits net → bufferNeed net ≤ maxNeed
 need-limit net few =
     let positions = position-limit net few in
-    let links : planSize planSlots (treeSize net) ≤ planSize planSlots maxTree = omega (arith, few .stations) in
+    let links : planSize planSlots (treeSize net) ≤ planSize planSlots maxTree = omega (arith, tree-limit net few) in
     omega (arith, mul-le-mul positions links)
 
 -- ---- the network
@@ -102,7 +108,7 @@ need-limit net few =
 -- A network that the code can plan: columns of just its links and ceilings, links between its stations, ranks of its trees, and all of it held by the
 -- arrays.
 pub record NetworkFine (net : Network) : Type 0 where
-  pub some-station : 1 ≤ net .n
+  pub some-station : 1 ≤ length (stations net)
   -- as many ranks, ends, sum costs and ceiling costs as there should be
   pub rank-count : length (net .k) ≡ net .p
   pub end-count : length (net .ends) ≡ 2 * net .m
@@ -160,13 +166,23 @@ module _ (s : List ℕ) (l : Layout) (fine : Accepted s l) where
   unfolding endsIn
   ends-length = tabulate-length _ (2 * m)
 
+  -- the number of working stations, of which there is one at least
+  abbrev working : ℕ
+  working = length (workingIn l s)
+
+  pub some-working : 1 ≤ working
+  unfolding badRest
+  some-working =
+      let both = or-false (not (eqb (restIn l s / 2 ^ stationsIn s) 0)) (eqb working 0) (fine .yard .resting) in
+      omega (arith, eqb-false working 0 (both .1))
+
   slack : slackOf (take (ceilingsIn s) (ranksIn s)) ≤ exceptionsHeld
   unfolding badRanks
   slack =
-      let all = ltb-false maxSlack (slackOf (ranksIn s)) (or-false (anyBadRank (stationsIn s) (ceilingsIn s) 0 (ranksIn s)) _ (fine .yard .ranks) .1) in
+      let all = ltb-false maxSlack (slackOf (ranksIn s)) (or-false (anyBadRank working (ceilingsIn s) 0 (ranksIn s)) _ (fine .yard .ranks) .1) in
       omega (arith, slack-take (ceilingsIn s) (ranksIn s))
 
-  rank-rule : anyBadRank (stationsIn s) (ceilingsIn s) 0 (ranksIn s) ≡ false
+  rank-rule : anyBadRank working (ceilingsIn s) 0 (ranksIn s) ≡ false
   unfolding badRanks
   rank-rule = or-false _ _ (fine .yard .ranks) .0
 
@@ -175,12 +191,12 @@ module _ (s : List ℕ) (l : Layout) (fine : Accepted s l) where
   unfolding networkWith
   network-fine =
       record {
-        some-station = fine .yard .some-station;
+        some-station = some-working;
         rank-count = length-take-le (ceilingsIn s) (ranksIn s) (fine .yard .few-ceilings);
         end-count = ends-length;
         sum-count = sums-length l s m;
         cost-count = costs-length l s m (ceilingsIn s);
-        ranked = ranks-present (stationsIn s) (ceilingsIn s) (ranksIn s) rank-rule;
+        ranked = ranks-present working (ceilingsIn s) (ranksIn s) rank-rule;
         first-end = λ i h. rw (first i h) (fine .link i h .first-end);
         second-end = λ i h. rw (second i h) (fine .link i h .second-end);
         few-stations = fine .yard .few-stations;
@@ -202,8 +218,9 @@ survey-limits s e = network-limits s (layoutOf s) (accepted s (layoutOf s) (layo
 pub graph-sound : (net : Network) → NetworkFine net → Sound (graph net)
 graph-sound net fine =
     record {
-      stations = fine .some-station;
-      within = λ c h. (fine .first-end c h, fine .second-end c h);
+      some-station = fine .some-station;
+      apart = working-apart (net .n) (net .rest);
+      within = λ c h u. joins-within (net .n) (net .rest) (ends net c) (fine .first-end c h) (fine .second-end c h) u;
       weighs = lowered-weighs raise (sumAt (net .sums));
       ranks = fine .ranked;
     }

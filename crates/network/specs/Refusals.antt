@@ -1,6 +1,6 @@
--- Document 01, "When the planner declines": numbers 1 to 8 and 15, which a survey alone decides, in their order and with their
+-- Document 01, "When the planner declines": numbers 1 to 8, 15 and 18, which a survey alone decides, in their order and with their
 -- places.
-use Prim.Native.Nat.{ℕ, _+_, _-_, _%_}
+use Prim.Native.Nat.{ℕ, _+_, _-_, _/_, _%_, _^_}
 use mathlib.Core.Bool.{Bool, false, not, _&&_, _||_}
 use mathlib.Core.List.{List, [], _∷_}
 use lib.IntN.{ℤ, pos}
@@ -10,7 +10,9 @@ use lib.Dec.{leb, ltb, eqb}
 use Rattle.kmax.specs.Ceilings.{slackOf}
 use Rattle.network.specs.Limits.{maxCeilings, maxLinks, maxRank, maxSlack, maxStations, maxSum, minSum}
 use Rattle.network.specs.Bytes.{markAt}
-use Rattle.network.specs.Survey.{ceilingsIn, costBitsIn, countIn, endIn, hasCount, layoutOf, linkCount, linkStart, ranksIn, stationsIn, sumIn}
+use Rattle.network.specs.Yard.{working}
+use Rattle.network.specs.Survey.{ceilingsIn, costBitsIn, countIn, endIn, hasCount, layoutOf, linkCount, linkStart, ranksIn, restIn, stationsIn}
+use Rattle.network.specs.Survey.{sumIn, workingIn}
 use Rattle.network.specs.Checked.{refuseIf, _orElse_, firstRefusal}
 use Rattle.network.specs.declared.Checked.{Checked}
 use Rattle.network.specs.declared.Layout.{Layout}
@@ -27,7 +29,11 @@ badLength l len = ltb len (l .yard .size) || not (eqb ((len - l .yard .size) % l
 unfoldable pub badCount : List ℕ → Layout → ℕ → Bool
 badCount s l m = hasCount l && not (eqb (countIn l s) m)
 
--- 6, of a present k: it is 1 to 3 and never above t, so below n
+-- 18, of the bits of the stations at rest among n: one is set at or above n, or no station works
+unfoldable pub badRest : ℕ → ℕ → Bool
+badRest n rest = not (eqb (rest / 2 ^ n) 0) || eqb (length (working n rest)) 0
+
+-- 6, of a present k, with n working stations: it is 1 to 3 and never above t, so below n
 abbrev pub badPresent : ℕ → ℕ → Bool
 badPresent n k = outside k 1 maxRank || leb n k
 
@@ -60,15 +66,16 @@ badSum s = ltZ s minSum || ltZ (pos maxSum) s
 abbrev pub badCosts : ℕ → ℤ → ℕ → ℕ → Bool
 badCosts p s bits1 bits2 = badSum s || absentCost p 0 bits1 || absentCost p 1 bits2
 
--- the yard record of a survey with m links: its mark, 3, 4, 15, 5, 6, all at place 0
+-- the yard record of a survey with m links: its mark, 3, 4, 15, 18, 5, 6, all at place 0
 unfoldable pub yardChecked : List ℕ → Layout → ℕ → Checked
 yardChecked s l m =
     refuseIf (not (markAt s 0 (l .yard .mark))) 2 0
     orElse refuseIf (outside (stationsIn s) 1 maxStations) 3 0
     orElse refuseIf (ltb maxLinks m) 4 0
     orElse refuseIf (badCount s l m) 15 0
+    orElse refuseIf (badRest (stationsIn s) (restIn l s)) 18 0
     orElse refuseIf (ltb maxCeilings (ceilingsIn s)) 5 0
-    orElse refuseIf (badRanks (stationsIn s) (ceilingsIn s) (ranksIn s)) 6 0
+    orElse refuseIf (badRanks (length (workingIn l s)) (ceilingsIn s) (ranksIn s)) 6 0
 
 -- the link record at an index, with n stations and p ceilings: its mark, 7, 8
 unfoldable pub linkChecked : List ℕ → ℕ → List ℕ → ℕ → ℕ → ℕ → Checked

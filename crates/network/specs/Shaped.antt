@@ -13,7 +13,7 @@ use Rattle.network.specs.declared.Shape.{Shape}
 -- the network that a shape and its columns say
 abbrev pub netOf : Shape → List ℕ → List ℕ → List ℤ → Network
 netOf shape ends sums costs =
-    record { n = shape .n; p = shape .p; k = take (shape .p) (shape .k); m = shape .m; ends = ends; sums = sums; costs = costs }
+    record { n = shape .n; p = shape .p; k = take (shape .p) (shape .k); rest = shape .rest; m = shape .m; ends = ends; sums = sums; costs = costs }
 
 -- a shape and columns whose network can be planned
 pub record Plannable (shape : Shape) (ends sums : List ℕ) (costs : List ℤ) : Type 0 where

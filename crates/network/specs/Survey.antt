@@ -7,15 +7,20 @@ use lib.IntN.{ℤ, negsuc, pos}
 use lib.ListN.{length, take}
 use mir.Syntax.{w16}
 use Rattle.network.specs.Capacities.{raise}
-use Rattle.network.specs.Bytes.{byteAt, i32At, markAt, signed, u16At}
+use Rattle.network.specs.Bytes.{byteAt, i32At, markAt, signed, u16At, u24At}
 use Rattle.network.specs.Tabulate.{tabulate}
 use Rattle.network.specs.Network.{Network}
+use Rattle.network.specs.Yard.{working}
 use Rattle.network.specs.declared.Form.{Form}
 use Rattle.network.specs.declared.Layout.{Layout}
 
 -- the bytes that each yard record has: mark, n, p, k1, k2
 abbrev pub yardSize : ℕ
 yardSize = 6
+
+-- the bytes that say which stations rest, where a yard record has them
+abbrev pub restSize : ℕ
+restSize = 3
 
 -- the bytes that each link record has: mark, two stations, s, c1, c2
 abbrev pub linkSize : ℕ
@@ -29,15 +34,25 @@ linkForm = record { mark = 0x4C ∷ 0x4B ∷ []; size = linkSize }
 
 -- surveys whose yard record is that of document 01, with mark 59 44
 abbrev pub plain : Layout
-plain = record { yard = record { mark = 0x59 ∷ 0x44 ∷ []; size = yardSize }; count = 0; link = linkForm }
+plain = record { yard = record { mark = 0x59 ∷ 0x44 ∷ []; size = yardSize }; count = 0; rest = 0; link = linkForm }
 
 -- surveys whose yard record has mark 59 45 and the link count behind the other fields
 abbrev pub withCount : Layout
-withCount = record { yard = record { mark = 0x59 ∷ 0x45 ∷ []; size = yardSize + 1 }; count = yardSize; link = linkForm }
+withCount = record { yard = record { mark = 0x59 ∷ 0x45 ∷ []; size = yardSize + 1 }; count = yardSize; rest = 0; link = linkForm }
+
+-- surveys whose yard record has mark 59 46, and the stations at rest behind the link count
+abbrev pub withRest : Layout
+withRest =
+    record {
+      yard = record { mark = 0x59 ∷ 0x46 ∷ []; size = yardSize + 1 + restSize };
+      count = yardSize;
+      rest = yardSize + 1;
+      link = linkForm;
+    }
 
 -- the layouts that are known: a row for each mark of a yard record
 abbrev pub layouts : List Layout
-layouts = plain ∷ withCount ∷ []
+layouts = plain ∷ withCount ∷ withRest ∷ []
 
 -- the first row of a table that passes a test; where none does, the old layout
 unfoldable pub rowWhere : (Layout → Bool) → List Layout → Layout
@@ -56,6 +71,10 @@ layoutOf s = rowWhere (opens s) layouts
 abbrev pub hasCount : Layout → Bool
 hasCount l = ltb 0 (l .count)
 
+-- the yard record says which stations rest
+abbrev pub hasRest : Layout → Bool
+hasRest l = ltb 0 (l .rest)
+
 -- how many link records follow the yard record
 abbrev pub linkCount : Layout → List ℕ → ℕ
 linkCount l s = (length s - l .yard .size) / l .link .size
@@ -64,7 +83,7 @@ linkCount l s = (length s - l .yard .size) / l .link .size
 abbrev pub linkStart : Layout → ℕ → ℕ
 linkStart l i = l .yard .size + i * l .link .size
 
--- ---- the fields of the yard record: mark, n, p, k1, k2, and in some layouts the link count
+-- ---- the fields of the yard record: mark, n, p, k1, k2, and in some layouts the link count and the stations at rest
 
 -- n, the number of stations
 abbrev pub stationsIn : List ℕ → ℕ
@@ -85,6 +104,14 @@ ranksIn s = rankIn s 0 ∷ rankIn s 1 ∷ []
 -- the link count as it is written
 abbrev pub countIn : Layout → List ℕ → ℕ
 countIn l s = byteAt s (l .count)
+
+-- the stations at rest, of 24 bits, low bit of the first byte first: bit j is set where station j rests, and no bit is where the layout has none
+unfoldable pub restIn : Layout → List ℕ → ℕ
+restIn l s = cond (hasRest l) (u24At s (l .rest)) 0
+
+-- the working stations
+abbrev pub workingIn : Layout → List ℕ → List ℕ
+workingIn l s = working (stationsIn s) (restIn l s)
 
 -- ---- the fields of a link record that starts at an index: mark, two stations, s, c1, c2
 
@@ -135,6 +162,7 @@ networkWith l s m =
       n = stationsIn s;
       p = ceilingsIn s;
       k = take (ceilingsIn s) (ranksIn s);
+      rest = restIn l s;
       m = m;
       ends = endsIn l s m;
       sums = sumsIn l s m;

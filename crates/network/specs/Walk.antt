@@ -10,7 +10,7 @@ use Rattle.frontier.specs.Frontier as walk
 use Rattle.network.specs.Yard.{yard}
 use Rattle.network.specs.Network.{Network}
 
--- for each present ceiling i its m_i different values over all links, in falling order: the value at place j is number j from the front
+-- for each present ceiling i its m_i different values over all usable links, in falling order: the value at place j is number j from the front
 abbrev pub values : Network → List (List ℤ)
 values net = yard net .values
 

@@ -1,11 +1,14 @@
--- Document 01, "The yard and its plans": stations, links, trees, cost vectors, the best tree under ceilings. `Tree` says what a tree is, and the
--- test beside it computes; Meaning.antt says that they agree, and what dominance and the best tree are.
-use mathlib.Core.Bool.{Bool}
+-- Document 01, "The yard and its plans", with stations at rest: stations, links, trees, cost vectors, the best tree under ceilings. `Tree` says what a
+-- tree is, and the test beside it computes; Meaning.antt says that they agree, and what dominance and the best tree are.
+use mathlib.Core.Bool.{Bool, true, _&&_}
 use mathlib.Core.List.{List, [], _∷_, map}
 use mathlib.Core.Option.{Option}
-use Prim.Native.Nat.{ℕ, _+_, _*_, _-_, _<_}
+use mathlib.Core.Path.{_≡_}
+use Prim.Native.Nat.{ℕ, _+_, _*_, _-_, _/_, _%_, _^_, _<_}
+use lib.Dec.{eqb}
 use lib.IntN.{ℤ, pos}
-use lib.ListN.{drop, getD, take}
+use lib.ListN.{drop, getD, length, take}
+use Rattle.order.specs.Lists.{_∈_, filter, numbersFrom}
 use Rattle.order.specs.Order.{orderℤ}
 use Rattle.order.specs.Lowered.{lowered, sumℤ}
 use Rattle.spanning.specs.Labelling.{Edge}
@@ -20,9 +23,25 @@ use Rattle.network.specs.Network.{Network}
 
 -- ---- stations and links
 
+-- station j works: its bit among those of the stations at rest is 0
+unfoldable pub works : ℕ → ℕ → Bool
+works rest j = eqb (rest / 2 ^ j % 2) 0
+
+-- the working stations of n, by the bits of those at rest
+unfoldable pub working : ℕ → ℕ → List ℕ
+working n rest = filter (works rest) (numbersFrom n 0)
+
 -- the two stations that link c joins, in the ends of all links
 abbrev pub endsAt : List ℕ → ℕ → Edge
 endsAt ends c = record { a = getD ends (2 * c) 0; b = getD ends (2 * c + 1) 0 }
+
+-- a link is usable: neither of the two stations that it joins is at rest
+unfoldable pub joinsWorking : ℕ → Edge → Bool
+joinsWorking rest e = works rest (e .a) && works rest (e .b)
+
+-- link c is usable, by the stations at rest and the ends of all links
+abbrev pub usableAt : ℕ → List ℕ → ℕ → Bool
+usableAt rest ends c = joinsWorking rest (endsAt ends c)
 
 -- the sum cost of link c raised by 1,000,000, in the raised sum costs of all links
 abbrev pub sumAt : List ℕ → ℕ → ℕ
@@ -36,9 +55,17 @@ ceilingPart m costs i = take m (drop (i * m) costs)
 abbrev pub costAt : List ℤ → ℕ → ℤ
 costAt column c = getD column c (pos 0)
 
--- the same of a yard
+-- the working stations of a yard
+abbrev pub stations : Network → List ℕ
+stations net = working (net .n) (net .rest)
+
+-- the two stations that link c of a yard joins
 abbrev pub ends : Network → ℕ → Edge
 ends net = endsAt (net .ends)
+
+-- link c of a yard is usable
+abbrev pub usable : Network → ℕ → Bool
+usable net = usableAt (net .rest) (net .ends)
 
 -- s, the sum cost of link c
 abbrev pub sumCost : Network → ℕ → ℤ
@@ -55,27 +82,37 @@ ranks net = net .k
 -- the yard as a graph with costs, of which the theory speaks
 abbrev pub graph : Network → Graph
 graph net =
-    record { n = net .n; m = net .m; ends = ends net; s = sumCost net; weight = sumAt (net .sums); cost = ceilingCost net; ks = ranks net }
+    record {
+      stations = stations net;
+      m = net .m;
+      usable = usable net;
+      ends = ends net;
+      s = sumCost net;
+      weight = sumAt (net .sums);
+      cost = ceilingCost net;
+      ks = ranks net;
+    }
 
 -- ---- trees
 
--- t: the links of a tree
+-- t: the links of a tree, one fewer than there are working stations
 abbrev pub treeSize : Network → ℕ
-treeSize net = net .n - 1
+treeSize net = length (stations net) - 1
 
--- A tree, written as its link numbers, rising: a set of links that connects all stations and has no ring.
+-- A tree, written as its link numbers, rising: a set of usable links that connects all working stations and has no ring.
 pub record Tree (net : Network) (ts : List ℕ) : Type 0 where
   pub rising : RisingIn 0 (net .m) ts
-  pub connects : (i j : ℕ) → i < net .n → j < net .n → Joined (map (ends net) ts) i j
+  pub used : (c : ℕ) → c ∈ ts → usable net c ≡ true
+  pub connects : (i j : ℕ) → i < net .n → j < net .n → works (net .rest) i ≡ true → works (net .rest) j ≡ true → Joined (map (ends net) ts) i j
   pub no-ring : NoRing (map (ends net) ts)
 
--- the same as a test: t links of the survey, rising, and a tree
+-- the same as a test: t usable links of the survey, rising, and a tree
 abbrev pub isTree : Network → List ℕ → Bool
-isTree net ts = isListed (ends net) (net .n) (net .m) ts
+isTree net ts = isListed (ends net) (stations net) (net .m) (usable net) ts
 
 -- All trees, in dictionary order: of several trees, the first is the one that stands first here.
 abbrev pub trees : Network → List (List ℕ)
-trees net = spanningTrees (ends net) (net .n) (net .m)
+trees net = spanningTrees (ends net) (stations net) (net .m) (usable net)
 
 -- ---- costs
 

@@ -5,13 +5,14 @@ pub mod capacities;
 pub mod limits;
 pub mod records;
 
-// What is small of a yard, which goes by value: n stations, p ceilings with their ranks k, of which the first p count, m links, and t, the links of a
-// tree. Its columns go beside it as slices of just their length: link e joins the stations ends[2 * e] and ends[2 * e + 1], has the sum cost
-// sums[e] - RAISE, which is kept raised so that none is below 0, and costs[i * m + e] is its cost by ceiling i.
+// What is small of a yard, which goes by value: n stations, of which those rest whose bits are set in `rest`, p ceilings with their ranks k, of which
+// the first p count, m links, and t, the links of a tree. Its columns go beside it as slices of just their length: link e joins the stations ends[2 * e]
+// and ends[2 * e + 1], has the sum cost sums[e] - RAISE, which is kept raised so that none is below 0, and costs[i * m + e] is its cost by ceiling i.
 pub struct Shape {
     pub n: u8,
     pub p: u8,
     pub k: [u8; CEILINGS_HELD],
+    pub rest: u32,
     pub m: usize,
     pub t: u8,
 }
@@ -69,9 +70,11 @@ pub struct Form {
     pub size: usize,
 }
 
-// What the records of a survey are: its yard record, the place of the link count in it, 0 where it has none, and its link records.
+// What the records of a survey are: its yard record, the places of the link count and of the stations at rest in it, 0 where it has none, and its link
+// records.
 pub struct Layout {
     pub yard: Form,
     pub count: u8,
+    pub rest: u8,
     pub link: Form,
 }

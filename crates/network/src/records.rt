@@ -5,6 +5,9 @@ pub const YARD_SIZE: usize = 6;
 
 pub const LINK_SIZE: usize = 12;
 
+// Bytes that say which stations rest, where a yard record has them.
+pub const REST_SIZE: usize = 3;
+
 // Ceiling costs that a plan record holds, absent ones included.
 pub const PLAN_SLOTS: usize = 2;
 

@@ -7,7 +7,7 @@ use native.Mathlib.Omega.{arith}
 use lib.ListN.{length, drop}
 use lib.Signed.{leZ}
 use Rattle.order.specs.Test.{by-test, clash, refute}
-use Rattle.order.specs.Lists.{_∈_, filter, none-any}
+use Rattle.order.specs.Lists.{_∈_, filter-all, none-any}
 use Rattle.order.specs.Order.{Less, TotalOrder, dictionary-trans, le-refl, leZ-trans, orderℤ}
 use Rattle.order.specs.Perm.{pairwise-imp}
 use Rattle.order.specs.Sorted.{Rising}
@@ -30,11 +30,6 @@ pub record Level (v : Costs) (bs : List (List ℕ)) : Type 0 where
 leading-few : {A : Type 0} (p : A → Bool) (l : List A) → leading p l ≤ length l
 leading-few p [] = omega arith
 leading-few p (x ∷ l) = let ih = leading-few p l in by-test (p x) (λ e. rw e (omega arith)) (λ e. rw e (omega arith))
-
--- a filter that all pass
-filter-all : {A : Type 0} (p : A → Bool) (l : List A) → ((x : A) → x ∈ l → p x ≡ true) → filter p l ≡ l
-filter-all p [] h = refl
-filter-all p (x ∷ l) h = rw (h x (here refl)) (ap (λ (r : List _). x ∷ r) (filter-all p l (λ y m. h y (there m))))
 
 -- the members from a place on
 drop-mem : {A : Type 0} (n : ℕ) (l : List A) {x : A} → x ∈ drop n l → x ∈ l

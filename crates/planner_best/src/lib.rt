@@ -1,5 +1,5 @@
 // The ceilings question.
-use kruskal_order::order_links;
+use kruskal_usable::order_usable;
 use network::Answer;
 use network::Checked;
 use network::Refusal;
@@ -36,14 +36,16 @@ pub fn best(survey: &[u8], b1: i16, b2: i16, tree: &mut [u8]) -> Answer
             let m = shape.m;
             let p = shape.p as usize;
             let size = p * m;
-            let order = order_links(&sums[..m]);
+            let usable = order_usable(shape.rest, &ends[..2 * m], &sums[..m]);
+            let order = usable.link;
+            let count = usable.count;
             let bounds = [b1, b2];
             solve(
                 shape,
                 &ends[..2 * m],
                 &sums[..m],
                 &costs[..size],
-                &order[..m],
+                &order[..count],
                 &bounds[..p],
                 tree,
             )

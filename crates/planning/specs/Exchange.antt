@@ -5,7 +5,7 @@ use mathlib.Core.Bool.{Bool, true, false, not}
 use mathlib.Core.List.{List, map, List·Memᴰ·append-cases}
 use mathlib.Core.Logic.{_⊎_, ⊎-elim}
 use mathlib.Core.Path.{_≡_, refl, fun-ext, subst}
-use Prim.Native.Nat.{ℕ, _<_}
+use Prim.Native.Nat.{ℕ}
 use native.Mathlib.Omega.{arith}
 use lib.IntN.{ℤ, pos}
 use lib.ListN.{length, length-append}
@@ -18,19 +18,19 @@ use Rattle.order.specs.Sorted.{ascending, sort-mem, sort-perm}
 use Rattle.spanning.specs.Tree.{identity, mergeAll, mergeAll-keeps}
 use Rattle.spanning.specs.Kruskal.{greedy-⊆, kruskal-again, kruskal-greedy}
 use Rattle.spanning.specs.Best.{added, added-among, byCost, whole, whole-below}
-use Rattle.spanning.specs.Listing.{ascending-listed, listing-length, spanningTrees}
+use Rattle.spanning.specs.Listing.{ascending-listed, listing-length}
 use Rattle.kmax.specs.Ceilings.{Ceiling, exceeds, meets, meets-alike}
 use Rattle.kmax.specs.Pattern.{OnePattern, count-alike}
-use Rattle.planning.specs.Graph.{Graph, NoWorse, Sound, links, under}
+use Rattle.planning.specs.Graph.{Graph, IsLink, NoWorse, Sound, links, trees, under}
 use Rattle.planning.specs.Complete.{other, others, replaced-better, replaced-spans, stay-below}
 use Rattle.planning.specs.Search.{base, trees-ranked}
 
 module _ (G : Graph) (S : Sound G) (bs : List ℤ) where
-  open Graph G using (n, m, ends, weight)
+  open Graph G using (stations, m, usable, ends, weight)
 
   -- us does for ts: a tree that fits where ts fits, and is no worse
   pub record DoesFor (ts us : List ℕ) : Type 0 where
-    pub tree : us ∈ spanningTrees ends n m
+    pub tree : us ∈ trees G
     pub fits : meets orderℤ (under G bs) (pos 0) us ≡ meets orderℤ (under G bs) (pos 0) ts
     pub better : NoWorse G us ts
 
@@ -41,7 +41,7 @@ module _ (G : Graph) (S : Sound G) (bs : List ℤ) where
     pub stays : (x : ℕ) → x ∈ us → p x ≡ false → x ∈ ts
 
   -- the links that pass the test q stay
-  module _ (q : ℕ → Bool) (one : OnePattern orderℤ (under G bs) (λ c. not (q c))) (ts : List ℕ) (k : ts ∈ spanningTrees ends n m) where
+  module _ (q : ℕ → Bool) (one : OnePattern orderℤ (under G bs) (λ c. not (q c))) (ts : List ℕ) (k : ts ∈ trees G) where
     -- the links that stay
     abbrev X : List ℕ
     X = filter q ts
@@ -54,11 +54,11 @@ module _ (G : Graph) (S : Sound G) (bs : List ℤ) where
     abbrev us : List ℕ
     us = whole ends (others G q) X
 
-    below : (t : ℕ) → t ∈ us → t < m
-    below = whole-below ends n m (S .stations) (S .within) (others G q) X (λ c i. other G S q c i .0) (stay-below G S q ts k)
+    below : (t : ℕ) → t ∈ us → IsLink G t
+    below = whole-below ends stations m usable (S .some-station) (S .apart) (S .within) (others G q) X (λ c i. other G S q c i .0) (stay-below G S q ts k)
 
-    listed : ascending us ∈ spanningTrees ends n m
-    listed = ascending-listed ends n m (S .stations) (S .within) us below (replaced-spans G S q ts k)
+    listed : ascending us ∈ trees G
+    listed = ascending-listed ends stations m usable (S .some-station) (S .apart) (S .within) us below (replaced-spans G S q ts k)
 
     -- what is new is kept of the links that do not pass, and none of it passes
     new-kept : (x : ℕ) → x ∈ new → x ∈ base G (others G q)
@@ -67,7 +67,9 @@ module _ (G : Graph) (S : Sound G) (bs : List ℤ) where
         (rw (kruskal-again ends (others G q) (mergeAll-keeps identity (map ends X))) i)
 
     new-other : (x : ℕ) → x ∈ new → q x ≡ false
-    new-other x i = other G S q x (added-among ends n m (S .stations) (S .within) (others G q) X (λ c j. other G S q c j .0) (stay-below G S q ts k) x i) .1
+    new-other x i =
+        let among = added-among ends stations m usable (S .some-station) (S .apart) (S .within) (others G q) X in
+        other G S q x (among (λ c j. other G S q c j .0) (stay-below G S q ts k) x i) .1
 
     -- the links that are given up
     abbrev gone : List ℕ
@@ -78,8 +80,8 @@ module _ (G : Graph) (S : Sound G) (bs : List ℤ) where
     same-length =
         omega (
           arith,
-          listing-length ends n m (ascending us) listed,
-          listing-length ends n m ts k,
+          listing-length ends stations m usable (ascending us) listed,
+          listing-length ends stations m usable ts k,
           perm-length (sort-perm orderℕ (λ x. x) us),
           length-append X new,
           perm-length (perm-split q ts),
@@ -110,7 +112,7 @@ module _ (G : Graph) (S : Sound G) (bs : List ℤ) where
         }
 
   -- THE THEOREM
-  pub exchange : (p : ℕ → Bool) → OnePattern orderℤ (under G bs) p → (ts : List ℕ) → ts ∈ spanningTrees ends n m → (us : List ℕ) × Exchanged p ts us
+  pub exchange : (p : ℕ → Bool) → OnePattern orderℤ (under G bs) p → (ts : List ℕ) → ts ∈ trees G → (us : List ℕ) × Exchanged p ts us
   exchange p one ts k =
       subst (λ (r : ℕ → Bool). OnePattern orderℤ (under G bs) r → (us : List ℕ) × Exchanged r ts us) (fun-ext (λ c. not-not (p c)))
       (λ o. (ascending (us (λ c. not (p c)) o ts k), exchanged (λ c. not (p c)) o ts k)) one

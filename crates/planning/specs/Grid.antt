@@ -6,7 +6,8 @@ use Prim.Native.Nat.{ℕ, suc, _≤_, _<_}
 use native.Mathlib.Omega.{arith}
 use lib.IntN.{ℤ, pos}
 use lib.ListN.{length, length-map}
-use Rattle.order.specs.Lists.{_∈_, distinct, distinct-few, first-distinct, first-exists, first-mem, map-mem}
+use Rattle.order.specs.Lists.{_∈_, count-le-length, distinct, distinct-few, first-distinct, first-exists, first-mem}
+use Rattle.order.specs.Lists.{length-filter, map-mem, mem-filter, numbersFrom}
 use Rattle.order.specs.Perm.{perm-length}
 use Rattle.order.specs.Order.{TotalOrder, equal, equal-refl, equal→≡, orderℤ, reverse, ≡→equal}
 use Rattle.order.specs.Sorted.{distinct-apart, mem-numbers, mem-sort, numbers-length, sort-perm, sort-rising}
@@ -16,7 +17,7 @@ use Rattle.frontier.specs.Frontier.{OnGrid, Picks, listed, picks-cons, picks-ni
 use Rattle.frontier.specs.Plans.{plans-listed}
 use Rattle.frontier.specs.Places.{AllFalling, Falling, all-cons, all-nil}
 use Rattle.kmax.specs.KMax.{kmax, kmax-mem}
-use Rattle.planning.specs.Graph.{Graph, Sound, costsFrom, links, problem, valuesAt, valuesFrom}
+use Rattle.planning.specs.Graph.{Graph, IsLink, Sound, costsFrom, links, problem, valuesAt, valuesFrom}
 
 -- a member is among the different ones, where the test decides equality
 distinct-has : {C : Type 0} (O : TotalOrder C) (l : List C) {v : C} → v ∈ l → v ∈ distinct (equal O) l
@@ -26,7 +27,7 @@ distinct-has {C} O l {v} m =
     first-distinct (equal O) (equal-refl O) (λ x y h. ≡→equal O y x (sym (equal→≡ O x y h))) l (w .1 ∙ ap some e)
 
 module _ (G : Graph) where
-  open Graph G using (n, m, ends, cost, ks)
+  open Graph G using (stations, m, usable, ends, cost, ks)
 
   -- the values of a ceiling fall strictly
   pub values-fall : (i : ℕ) → Falling orderℤ (valuesAt G i)
@@ -35,23 +36,32 @@ module _ (G : Graph) where
       sort-rising (reverse orderℤ) (λ v. v) (distinct (equal orderℤ) vs) (distinct-apart (λ v. v) (equal orderℤ) (λ x y q. ≡→equal orderℤ y x q) vs)
 
   -- the value of a link is among the values of its ceiling
-  pub value-has : (i c : ℕ) → c < m → cost i c ∈ valuesAt G i
+  pub value-has : (i c : ℕ) → IsLink G c → cost i c ∈ valuesAt G i
   value-has i c h =
-      mem-sort (reverse orderℤ) (λ v. v) (distinct-has orderℤ (map (cost i) (links G)) (Memᴰ·map (cost i) (mem-numbers m 0 c (omega arith) (omega arith))))
+      let among = mem-filter usable (mem-numbers m 0 c (omega arith) (omega (arith, h .0))) (h .1) in
+      mem-sort (reverse orderℤ) (λ v. v) (distinct-has orderℤ (map (cost i) (links G)) (Memᴰ·map (cost i) among))
 
   -- a ceiling has no more different values than there are links
   pub values-few : (i : ℕ) → length (valuesAt G i) ≤ m
   values-few i =
       let vs : List ℤ = map (cost i) (links G) in
       let sorted = perm-length (sort-perm (reverse orderℤ) (λ v. v) (distinct (equal orderℤ) vs)) in
-      omega (arith, distinct-few (equal orderℤ) vs, length-map (links G) (cost i), numbers-length m 0)
+      let all : List ℕ = numbersFrom m 0 in
+      omega (
+        arith,
+        distinct-few (equal orderℤ) vs,
+        length-map (links G) (cost i),
+        length-filter usable all,
+        count-le-length usable all,
+        numbers-length m 0,
+      )
 
   pub all-fall : (i : ℕ) (js : List ℕ) → AllFalling orderℤ (valuesFrom G i js)
   all-fall i [] = all-nil
   all-fall i (k ∷ js) = all-cons (values-fall i) (all-fall (suc i) js)
 
-  -- the ceiling costs of links below m, as many as each rank at least
-  costs-picks : (ts : List ℕ) → ((t : ℕ) → t ∈ ts → t < m) → (i : ℕ) (js : List ℕ) → ((k : ℕ) → k ∈ js → (0 < k) × (k ≤ length ts))
+  -- the ceiling costs of links that may be used, as many as each rank at least
+  costs-picks : (ts : List ℕ) → ((t : ℕ) → t ∈ ts → IsLink G t) → (i : ℕ) (js : List ℕ) → ((k : ℕ) → k ∈ js → (0 < k) × (k ≤ length ts))
       → Picks (costsFrom G i js ts) (valuesFrom G i js)
   costs-picks ts below i [] h = picks-nil
   costs-picks ts below i (k ∷ js) h =
@@ -63,9 +73,9 @@ module _ (G : Graph) where
   -- the walk and the promised list
   pub on-grid : Sound G → OnGrid (problem G)
   on-grid S ts k =
-      let r = listing-iff ends n m (S .stations) (S .within) ts .0 k in
-      let l = listing-length ends n m ts k in
-      costs-picks ts (λ t j. rising-range 0 m ts (r .0) t j .1) 0 ks (λ j q. let b = S .ranks j q in (b .0, omega arith))
+      let r = listing-iff ends stations m usable (S .some-station) (S .apart) (S .within) ts .0 k in
+      let l = listing-length ends stations m usable ts k in
+      costs-picks ts (λ t j. (rising-range 0 m ts (r .0) t j .1, r .1 t j)) 0 ks (λ j q. let b = S .ranks j q in (b .0, omega arith))
 
   pub walk-lists : Sound G → plans (problem G) ≡ listed (problem G)
   walk-lists S = plans-listed (problem G) (on-grid S)

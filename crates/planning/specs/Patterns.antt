@@ -15,11 +15,10 @@ use Rattle.order.specs.Test.{by-test}
 use Rattle.order.specs.Lists.{_∈_, filter, filter-mem, filter-sublist, sublist-⊆}
 use Rattle.order.specs.Order.{le-refl, orderℤ}
 use Rattle.spanning.specs.Best.{byCost}
-use Rattle.spanning.specs.Listing.{spanningTrees}
 use Rattle.kmax.specs.Ceilings.{ceilings-slack, exceptional, meets-admissible, meets-few, slackOf}
 use Rattle.kmax.specs.Pattern.{OnePattern, exceptional-lone, lone}
 use Rattle.kmax.specs.Digits.{pattern, pattern-alike}
-use Rattle.planning.specs.Graph.{Graph, Sound, exceptionals, links, sumKey, sumOrder, under}
+use Rattle.planning.specs.Graph.{Graph, Sound, exceptionals, links, sumKey, sumOrder, trees, under}
 use Rattle.planning.specs.Search.{EnoughSets, base, trees-ranked}
 use Rattle.planning.specs.Exchange.{DoesFor, exchange}
 
@@ -48,10 +47,10 @@ module _ (G : Graph) (bs : List ℤ) where
   one-pattern q c m x y e f = pattern-alike orderℤ (under G bs) c m x y (eqb-true _ q e ∙ sym (eqb-true _ q f))
 
 module _ (G : Graph) (S : Sound G) (bs : List ℤ) where
-  open Graph G using (n, m, ends, cost, ks)
+  open Graph G using (cost, ks)
 
   -- by induction on the patterns: a link of a pattern done before is not of the pattern in turn, so it stays, and stays kept
-  exchange-all : (qs ts : List ℕ) → ts ∈ spanningTrees ends n m → (us : List ℕ) × AllExchanged G bs S qs ts us
+  exchange-all : (qs ts : List ℕ) → ts ∈ trees G → (us : List ℕ) × AllExchanged G bs S qs ts us
   exchange-all [] ts k =
       (ts, record { does = record { tree = k; fits = refl; better = le-refl sumOrder (sumKey G ts) }; kept = λ q i. elim i [ ] })
   exchange-all (q ∷ qs) ts k =

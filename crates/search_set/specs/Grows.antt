@@ -12,7 +12,7 @@ use Rattle.order.specs.Test.{by-test, clash}
 use Rattle.order.specs.Perm.{Perm, perm-cons, perm-map, perm-nil, perm-refl, perm-swap, perm-sym, perm-trans, perm-⊆}
 use Rattle.spanning.specs.Labelling.{Crosses→crosses, Labelling, crosses, crosses→Crosses, merge}
 use Rattle.spanning.specs.LabelList.{labelOf}
-use Rattle.spanning.specs.Tree.{Forest, Within, forest-perm, identity, mergeAll}
+use Rattle.spanning.specs.Tree.{EndsBelow, Forest, forest-perm, identity, mergeAll}
 use Rattle.spanning.specs.Kruskal.{kruskal}
 use Rattle.spanning_lost.specs.Lost.{kruskal-all, kruskal-whole}
 use Rattle.network.specs.Capacities.{linksHeld, stationsHeld}
@@ -54,7 +54,7 @@ module _ (ends : List ℕ) where
       let b : ℕ = endsAt ends e .b in
       let more : List ℕ = kept ends (joined f a b) l in
       let all : Near ends (e ∷ more) = rw c at near in
-      let w : Within stationsHeld (endsAt ends e) = all e (here refl) in
+      let w : EndsBelow stationsHeld (endsAt ends e) = all e (here refl) in
       let later = kept-forest (joined f a b) l (joined-led f a b led (w .0) (w .1)) (λ x m. all x (there m)) in
       rw c (
         crosses→Crosses (labelOf (f .leader)) (endsAt ends e) c,
@@ -106,8 +106,8 @@ module _ (ends sums : List ℕ) where
 
 -- ---- sets of one and of two links
 
-pub one-near : (ends : List ℕ) (x : ℕ) → Within stationsHeld (endsAt ends x) → Near ends (x ∷ [])
-one-near ends x w e m = subst (λ (y : ℕ). Within stationsHeld (endsAt ends y)) (sym (List·Memᴰ·eq-of-singleton m)) w
+pub one-near : (ends : List ℕ) (x : ℕ) → EndsBelow stationsHeld (endsAt ends x) → Near ends (x ∷ [])
+one-near ends x w e m = subst (λ (y : ℕ). EndsBelow stationsHeld (endsAt ends y)) (sym (List·Memᴰ·eq-of-singleton m)) w
 
 pub one-whole : (ends : List ℕ) (x : ℕ) → crosses identity (endsAt ends x) ≡ true → NoRing ends (x ∷ [])
 one-whole ends x c = (crosses→Crosses identity (endsAt ends x) c, tt)
@@ -117,10 +117,10 @@ unfolding lower higher
 pair-perm x y = by-test (leb x y) (λ e. rw e (perm-refl (x ∷ y ∷ []))) (λ e. rw e perm-swap)
 
 module _ (ends : List ℕ) (x y : ℕ) where
-  pub pair-near : Within stationsHeld (endsAt ends x) → Within stationsHeld (endsAt ends y) → Near ends (pair x y)
+  pub pair-near : EndsBelow stationsHeld (endsAt ends x) → EndsBelow stationsHeld (endsAt ends y) → Near ends (pair x y)
   pair-near v w e m =
       ⊎-elim
-      (λ q. subst (λ (z : ℕ). Within stationsHeld (endsAt ends z)) (sym q) v)
+      (λ q. subst (λ (z : ℕ). EndsBelow stationsHeld (endsAt ends z)) (sym q) v)
       (λ n. one-near ends y w e n)
       (List·Memᴰ·cases-cons (perm-⊆ (perm-sym (pair-perm x y)) e m))
 

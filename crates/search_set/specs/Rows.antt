@@ -13,7 +13,7 @@ use Rattle.order.specs.Test.{by-test, left, right, test-iff}
 use Rattle.order.specs.Lists.{_⊆_, getD-default}
 use Rattle.spanning.specs.Labelling.{Edge, Labelling, Linked, Same, crosses, crosses-false, merge, merge-joins, merge-keeps, same-crosses, same-merge}
 use Rattle.spanning.specs.LabelList.{labelOf}
-use Rattle.spanning.specs.Tree.{Within, identity, mergeAll}
+use Rattle.spanning.specs.Tree.{EndsBelow, identity, mergeAll}
 use Rattle.spanning_lost.specs.Places.{first-same, firstPlace}
 use Rattle.spanning_lost.specs.Lost.{firstRow, lostOne, lostTwo, rowAt}
 use Rattle.network.specs.Capacities.{stationsHeld}
@@ -146,7 +146,7 @@ module _ (ends : List ℕ) where
         ∙ ap (λ (L : Labelling). L v) (groups-labels l some-near)
 
     -- the place that joins the ends of e
-    pub place-one : (e : Edge) → Within stationsHeld e
+    pub place-one : (e : Edge) → EndsBelow stationsHeld e
         → firstPlace (joinedAt history (e .a) (e .b)) 0 (length base) ≡ lostOne (endsAt ends) identity base e
     unfolding joinedAt lostOne firstRow crosses
     place-one e w =
@@ -156,7 +156,7 @@ module _ (ends : List ℕ) where
         rw (row-label k (e .a) below (w .0), row-label k (e .b) below (w .1), Bool·not-not))
 
     -- the place that joins the ends of f beside e
-    pub place-two : (e f : Edge) → Within stationsHeld e → Within stationsHeld f
+    pub place-two : (e f : Edge) → EndsBelow stationsHeld e → EndsBelow stationsHeld f
         → firstPlace (besideAt history (e .a) (e .b) (f .a) (f .b)) 0 (length base) ≡ lostTwo (endsAt ends) identity base e f
     unfolding besideAt lostTwo firstRow
     place-two e f w u =

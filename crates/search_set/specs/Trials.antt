@@ -9,7 +9,7 @@ use lib.ListN.{getD, length, length-append}
 use Rattle.order.specs.Perm.{perm-map, perm-sym, perm-⊆, sum, sum-append, sum-perm}
 use Rattle.trees_sums.specs.Added.{sum-le}
 use Rattle.spanning.specs.Labelling.{Crosses, Edge, Labelling, _≈_, crosses, crosses→Crosses, merge}
-use Rattle.spanning.specs.Tree.{Within, identity, mergeAll, mergeAll-⊑}
+use Rattle.spanning.specs.Tree.{EndsBelow, identity, mergeAll, mergeAll-⊑}
 use Rattle.spanning.specs.Kruskal.{kruskal}
 use Rattle.spanning_lost.specs.Places.{atPlaces, length-sum, other, otherTwo, sum-without, sum-without-two, two-past, weight-at, weight-none, weightAt}
 use Rattle.spanning_lost.specs.Lost.{kept-one, kept-two, lost-apart, lostOne, lostTwo}
@@ -52,7 +52,7 @@ pub record Ready (ends sums base history : List ℕ) : Type 0 where
 -- link e is one of the links, with a cost in range, and joins two stations
 pub record Joining (ends sums : List ℕ) (e : ℕ) : Type 0 where
   pub usable : Usable sums e
-  pub within : Within stationsHeld (endsAt ends e)
+  pub within : EndsBelow stationsHeld (endsAt ends e)
   pub joins : crosses identity (endsAt ends e) ≡ true
 
 -- so it has a flag

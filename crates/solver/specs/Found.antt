@@ -25,9 +25,9 @@ use Rattle.spanning.specs.Rising.{trichotomy}
 use Rattle.spanning.specs.Best.{forest-apart, whole, whole-below, whole-tree}
 use Rattle.kmax.specs.Ceilings.{admissible}
 use Rattle.kmax.specs.Search.{offer, search-snoc, searchIn, tryOne}
-use Rattle.planning.specs.Graph.{by-weight, completed, searchSets, total, under}
+use Rattle.planning.specs.Graph.{IsLink, by-weight, completed, searchSets, total, under}
 use Rattle.network.specs.Capacities.{linksHeld}
-use Rattle.network.specs.Yard.{endsAt, graph, sumAt, treeSize}
+use Rattle.network.specs.Yard.{endsAt, graph, stations, sumAt, treeSize, usable}
 use Rattle.network.specs.NetworkFine.{NetworkFine, graph-sound}
 use Rattle.network.specs.Network.{Network}
 use Rattle.kruskal.specs.Tree.{bare, linked}
@@ -140,17 +140,16 @@ module _ (net : Network) (fine : NetworkFine net) where
           (λ e. rw (f, compared ys old l, e) (new l))
           (λ e. rw (f, compared ys old l, e) (tree-shown refl q r w g))
 
-  -- links below m join stations, and have flags
-  pub near : (l : List ℕ) → ((e : ℕ) → e ∈ l → e < net .m) → Near ends l
+  -- usable links join stations
+  pub near : (l : List ℕ) → ((e : ℕ) → e ∈ l → IsLink (graph net) e) → Near ends l
   near l below e k =
-      let w = graph-sound net fine .within e (below e k) in
       let few = fine .few-stations in
-      (omega arith, omega arith)
+      (omega (arith, fine .first-end e (below e k .0)), omega (arith, fine .second-end e (below e k .0)))
 
   -- ---- one exception set, under ceilings that the ranks ks and the patterns stand for
 
-  module _ (bs : List ℤ) (ks patterns base : List ℕ) (base-below : (e : ℕ) → e ∈ base → e < net .m)
-      (agree : (X : List ℕ) → ((x : ℕ) → x ∈ X → x < net .m) → admitted ks patterns X ≡ admissible orderℤ (under (graph net) bs) X) where
+  module _ (bs : List ℤ) (ks patterns base : List ℕ) (base-below : (e : ℕ) → e ∈ base → IsLink (graph net) e)
+      (agree : (X : List ℕ) → ((x : ℕ) → x ∈ X → IsLink (graph net) x) → admitted ks patterns X ≡ admissible orderℤ (under (graph net) bs) X) where
     -- the theory's search tries one set
     abbrev try : Option (List ℕ) → List ℕ → Option (List ℕ)
     try = tryOne orderℤ (under (graph net) bs) (pairs orderℤ (dictionary orderℕ)) (ranked (total (graph net)) (λ ts. ts)) (completed (graph net) base)
@@ -160,13 +159,13 @@ module _ (net : Network) (fine : NetworkFine net) where
     grow = foldl (linked ends (net .sums))
 
     -- the forest of X alone
-    alone : (X : List ℕ) → ((x : ℕ) → x ∈ X → x < net .m) → Holds ends (net .sums) (kruskal (endsAt ends) identity X) (grow bare X)
+    alone : (X : List ℕ) → ((x : ℕ) → x ∈ X → IsLink (graph net) x) → Holds ends (net .sums) (kruskal (endsAt ends) identity X) (grow bare X)
     alone X below =
         subst (λ (L : Labelling). Holds ends (net .sums) (kruskal (endsAt ends) L X) (grow bare X)) (bare-holds ends (net .sums) .labels)
         (grown-holds ends (net .sums) [] bare X (near X below) (bare-holds ends (net .sums)))
 
     -- and with what the base adds to it
-    grown : (X : List ℕ) → ((x : ℕ) → x ∈ X → x < net .m) → isForest identity (map (endsAt ends) X) ≡ true
+    grown : (X : List ℕ) → ((x : ℕ) → x ∈ X → IsLink (graph net) x) → isForest identity (map (endsAt ends) X) ≡ true
         → Holds ends (net .sums) (whole (endsAt ends) base X) (grow (grow bare X) base)
     grown X below f =
         let a : Holds ends (net .sums) X (grow bare X) =
@@ -174,18 +173,22 @@ module _ (net : Network) (fine : NetworkFine net) where
         subst (λ (L : Labelling). Holds ends (net .sums) (X ++ kruskal (endsAt ends) L base) (grow (grow bare X) base)) (a .labels)
         (grown-holds ends (net .sums) X (grow bare X) base (near base base-below) a)
 
-    whole-links : (X : List ℕ) → ((x : ℕ) → x ∈ X → x < net .m) → (x : ℕ) → x ∈ whole (endsAt ends) base X → x < linksHeld
+    whole-links : (X : List ℕ) → ((x : ℕ) → x ∈ X → IsLink (graph net) x) → (x : ℕ) → x ∈ whole (endsAt ends) base X → x < linksHeld
     whole-links X below x k =
-        let few = fine .few-links in
-        omega (arith, whole-below (endsAt ends) (net .n) (net .m) (fine .some-station) (graph-sound net fine .within) base X base-below below x k)
+        let sound = graph-sound net fine in
+        let link =
+        whole-below (endsAt ends) (stations net) (net .m) (usable net) (sound .some-station) (sound .apart) (sound .within) base X base-below below x k in
+        omega (arith, link .0, fine .few-links)
 
-    whole-apart : (X : List ℕ) → ((x : ℕ) → x ∈ X → x < net .m) → isForest identity (map (endsAt ends) X) ≡ true → length (whole (endsAt ends) base X) ≡ goal
-        → Apart (λ x. x) (whole (endsAt ends) base X)
+    whole-apart : (X : List ℕ) → ((x : ℕ) → x ∈ X → IsLink (graph net) x) → isForest identity (map (endsAt ends) X) ≡ true
+        → length (whole (endsAt ends) base X) ≡ goal → Apart (λ x. x) (whole (endsAt ends) base X)
     whole-apart X below f l =
-        let tree = whole-tree (endsAt ends) (net .n) (net .m) (fine .some-station) (graph-sound net fine .within) base X base-below below in
+        let sound = graph-sound net fine in
+        let tree =
+        whole-tree (endsAt ends) (stations net) (net .m) (usable net) (sound .some-station) (sound .apart) (sound .within) base X base-below below in
         forest-apart (endsAt ends) identity (whole (endsAt ends) base X) (tree .1 (isForest-iff identity (map (endsAt ends) X) .0 f, l) .forest)
 
-    step : (o : Option (List ℕ)) (b : Best) (X : List ℕ) → ((x : ℕ) → x ∈ X → x < net .m) → Shows s goal o b
+    step : (o : Option (List ℕ)) (b : Best) (X : List ℕ) → ((x : ℕ) → x ∈ X → IsLink (graph net) x) → Shows s goal o b
         → Shows s goal (try o X) (considered ends (net .sums) goal ks patterns base b X)
     unfolding tried triedIf completed
     step o b X below shown =
@@ -200,8 +203,8 @@ module _ (net : Network) (fine : NetworkFine net) where
 
     -- ---- all of them
 
-    pub fold-shown : (Xs : List (List ℕ)) → ((X : List ℕ) → X ∈ Xs → (x : ℕ) → x ∈ X → x < net .m) → (o : Option (List ℕ)) (b : Best) → Shows s goal o b
-        → Shows s goal (foldl try o Xs) (foldl (considered ends (net .sums) goal ks patterns base) b Xs)
+    pub fold-shown : (Xs : List (List ℕ)) → ((X : List ℕ) → X ∈ Xs → (x : ℕ) → x ∈ X → IsLink (graph net) x) → (o : Option (List ℕ)) (b : Best)
+        → Shows s goal o b → Shows s goal (foldl try o Xs) (foldl (considered ends (net .sums) goal ks patterns base) b Xs)
     fold-shown [] below o b shown = shown
     fold-shown (X ∷ Xs) below o b shown =
         fold-shown Xs (λ Y m. below Y (there m)) (try o X) (considered ends (net .sums) goal ks patterns base b X) (step o b X (below X (here refl)) shown)
@@ -215,7 +218,7 @@ module _ (net : Network) (fine : NetworkFine net) where
         ∙ fold-search (Ys ++ (X ∷ [])) Xs ∙ ap (searchSets (graph net) bs base) (append-snoc Ys X Xs)
 
     -- what the program keeps after the sets Xs is what the theory's search finds among them
-    pub search-shown : (Xs : List (List ℕ)) → ((X : List ℕ) → X ∈ Xs → (x : ℕ) → x ∈ X → x < net .m)
+    pub search-shown : (Xs : List (List ℕ)) → ((X : List ℕ) → X ∈ Xs → (x : ℕ) → x ∈ X → IsLink (graph net) x)
         → Shows s goal (searchSets (graph net) bs base Xs) (foldl (considered ends (net .sums) goal ks patterns base) nothing Xs)
     unfolding nothing searchIn
     search-shown Xs below =

@@ -11,7 +11,7 @@ use lib.Seq.{take-append-seam}
 use Rattle.order.specs.Test.{clash}
 use Rattle.spanning.specs.Listing.{isListed-iff, listing-length}
 use Rattle.frontier.specs.Best.{best-some}
-use Rattle.network.specs.Yard.{best, ends as ends-of, treeSize, yard}
+use Rattle.network.specs.Yard.{best, ends as ends-of, stations, treeSize, usable, yard}
 use Rattle.network.specs.Calls.{isNone, treeWith}
 use Rattle.network.specs.PlanList.{costsOf}
 use Rattle.network.specs.Shaped.{Plannable, netOf}
@@ -55,7 +55,7 @@ tree-front o ts tree e = ap (λ (q : Option (List ℕ)). take (length ts) (treeW
 
 -- a best tree has t links
 pub best-length : (net : Network) (b : List ℤ) (ts : List ℕ) → best net b ≡ some ts → length ts ≡ treeSize net
-best-length net b ts e = listing-length (ends-of net) (net .n) (net .m) ts (best-some (yard net) b ts e .member)
+best-length net b ts e = listing-length (ends-of net) (stations net) (net .m) (usable net) ts (best-some (yard net) b ts e .member)
 
 -- what the search finds: the answer of none, and that of a tree with the costs of its links
 module _ (sums : List ℕ) (o : Option (List ℕ)) {r : best.Found} (tells : Tells sums o r) where
@@ -87,7 +87,7 @@ module _ (shape : Shape) (ends sums : List ℕ) (costs bs : List ℤ) (can : Pla
       ∙ ap (take (length ts)) e ∙ tree-front (best net bs) ts tree is
 
   listed : TreeLinks net ts
-  listed = tree-links net ts (isListed-iff (ends-of net) (net .n) (net .m) ts .1 (best-some (yard net) bs ts is .member))
+  listed = tree-links net ts (isListed-iff (ends-of net) (stations net) (net .m) (usable net) ts .1 (best-some (yard net) bs ts is .member))
 
   pub front-priceable : {raised : ℕ} → raised ≡ sumOf sums ts → Priceable shape costs (take (shape .t) left) raised
   front-priceable q = rw (front, q) (priceable shape ends sums costs can ts listed)

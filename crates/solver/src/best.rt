@@ -9,7 +9,7 @@ ghost use Prim.Native.Nat.{_≤_};
 ghost use lib.ListN.{length};
 ghost use Rattle.network.specs.Calls.{treeWith};
 ghost use Rattle.network.specs.Shaped.{Plannable};
-ghost use Rattle.kruskal_order.specs.ByCost.{linkOrder};
+ghost use Rattle.kruskal_usable.specs.Usable.{usableOrder};
 ghost use Rattle.solver.specs.Answer.{Tells, bestUnder};
 
 // Whether a tree fits under the bounds. The links of the best one go to the front of the buffer, whose other bytes stay.
@@ -22,8 +22,8 @@ pub fn best_links(
     bounds: &[i16],
     tree: &mut [u8],
 ) -> Found
-    requires { ⌜ Plannable shape (now ends) (now sums) (now costs) × (now order ≡ linkOrder (now sums)) × (length (now bounds) ≡ shape .p)
-        × (shape .t ≤ length (now tree)) ⌝ }
+    requires { ⌜ Plannable shape (now ends) (now sums) (now costs) × (now order ≡ usableOrder (shape .rest) (now ends) (now sums))
+        × (length (now bounds) ≡ shape .p) × (shape .t ≤ length (now tree)) ⌝ }
     ensures { λ r. ⌜
         Tells (now (sums .entry)) (bestUnder shape (now (ends .entry)) (now (sums .entry)) (now (costs .entry)) (now (bounds .entry))) r
         × (now (tree .exit)

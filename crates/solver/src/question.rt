@@ -9,7 +9,7 @@ ghost use Prim.Native.Nat.{_≤_};
 ghost use lib.ListN.{length};
 ghost use Rattle.network.specs.Calls.{treeWith};
 ghost use Rattle.network.specs.Shaped.{Plannable, netOf};
-ghost use Rattle.kruskal_order.specs.ByCost.{linkOrder};
+ghost use Rattle.kruskal_usable.specs.Usable.{usableOrder};
 ghost use Rattle.solver.specs.Answer.{bestUnder};
 ghost use Rattle.solver.specs.Question.{answerOf};
 
@@ -23,8 +23,8 @@ pub fn solve(
     bounds: &[i16],
     tree: &mut [u8],
 ) -> Answer
-    requires { ⌜ Plannable shape (now ends) (now sums) (now costs) × (now order ≡ linkOrder (now sums)) × (length (now bounds) ≡ shape .p)
-        × (shape .t ≤ length (now tree)) ⌝ }
+    requires { ⌜ Plannable shape (now ends) (now sums) (now costs) × (now order ≡ usableOrder (shape .rest) (now ends) (now sums))
+        × (length (now bounds) ≡ shape .p) × (shape .t ≤ length (now tree)) ⌝ }
     ensures { λ r. ⌜
         (r ≡ answerOf (netOf shape (now (ends .entry)) (now (sums .entry)) (now (costs .entry)))
         (bestUnder shape (now (ends .entry)) (now (sums .entry)) (now (costs .entry)) (now (bounds .entry))))

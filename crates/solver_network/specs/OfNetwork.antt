@@ -7,41 +7,49 @@ use native.Mathlib.Omega.{arith}
 use lib.IntN.{ℤ}
 use lib.ListN.{length, replicate, take}
 use Rattle.order.specs.Lists.{_∈_}
-use Rattle.network.specs.Yard.{ranks, treeSize}
+use Rattle.network.specs.Resting.{working-apart, working-few, working-mem}
+use Rattle.network.specs.Yard.{ranks, stations, treeSize}
 use Rattle.network.specs.Network.{Network}
-use Rattle.network.specs.NetworkFine.{NetworkFine}
-use Rattle.kruskal_order.specs.ByCost.{linkOrder, order-below}
+use Rattle.network.specs.NetworkFine.{NetworkFine, graph-sound}
+use Rattle.kruskal_usable.specs.Usable.{usable-below, usable-joins, usableOrder}
 use Rattle.kruskal.specs.Base.{Joinable}
 use Rattle.exceptions_patterns.specs.OfNetwork.{netPatterns}
-use Rattle.search_best.specs.Search.{bestOf}
-use Rattle.search_best.specs.Search.{Best}
+use Rattle.search_best.specs.Search.{Best, bestOf}
 use Rattle.solver_search.specs.Assembled.{Reports}
 use Rattle.solver_search.specs.declared.Found.{Found}
 
+-- the usable links of a network by cost
+abbrev pub orderOf : Network → List ℕ
+orderOf net = usableOrder (net .rest) (net .ends) (net .sums)
+
 -- the best tree of a network under the bounds bs, as the search finds it
 unfoldable pub netBest : Network → List ℤ → Best
-netBest net bs = bestOf (net .ends) (net .sums) (treeSize net) (ranks net) (netPatterns net bs) (linkOrder (net .sums))
+netBest net bs = bestOf (net .ends) (net .sums) (treeSize net) (ranks net) (netPatterns net bs) (orderOf net)
 
 -- what reports the best tree of the search, by the figures that the code has, reports the best tree of the network
 pub assembled-network : (net : Network) (bs : List ℤ) (t : ℕ) (patterns order : List ℕ) (r : Found) (taken : List Bool) → t ≡ treeSize net
-    → patterns ≡ netPatterns net bs → order ≡ linkOrder (net .sums) → Reports (bestOf (net .ends) (net .sums) t (ranks net) patterns order) r taken
+    → patterns ≡ netPatterns net bs → order ≡ orderOf net → Reports (bestOf (net .ends) (net .sums) t (ranks net) patterns order) r taken
     → Reports (netBest net bs) r taken
 unfolding netBest
 assembled-network net bs t patterns order r taken g e o q = rw (← g, ← e, ← o) q
 
--- the links in order join the stations of the network
-pub order-joinable : (net : Network) → NetworkFine net → (t : ℕ) (order : List ℕ) → t ≡ treeSize net → order ≡ linkOrder (net .sums)
+-- the links in order join the working stations of the network
+pub order-joinable : (net : Network) → NetworkFine net → (t : ℕ) (order : List ℕ) → t ≡ treeSize net → order ≡ orderOf net
     → Joinable (net .ends) order t
 order-joinable net fine t order g o =
     let some = fine .some-station in
     let few = fine .few-stations in
     record {
+      stations = stations net;
+      size = omega arith;
+      different = working-apart (net .n) (net .rest);
+      known = λ v m. omega (arith, working-mem (net .n) (net .rest) m .0);
       within =
           λ e m.
-          let m′ : e ∈ linkOrder (net .sums) = rw (← o) m in
-          let below : e < net .m = omega (arith, order-below (net .sums) e m′, fine .sum-count) in
-          (omega (arith, fine .first-end e below), omega (arith, fine .second-end e below));
-      held = omega arith;
+          let m′ : e ∈ orderOf net = rw (← o) m in
+          let below : e < net .m = omega (arith, usable-below (net .rest) (net .ends) (net .sums) e m′, fine .sum-count) in
+          graph-sound net fine .within e below (usable-joins (net .rest) (net .ends) (net .sums) e m′);
+      held = omega (arith, working-few (net .n) (net .rest));
     }
 
 -- a front of zeros is zeros

@@ -9,7 +9,7 @@ ghost use mathlib.Core.Path.{_≡_};
 ghost use lib.ListN.{length, replicate};
 ghost use Rattle.network.specs.Capacities.{linksHeld};
 ghost use Rattle.network.specs.Shaped.{Plannable, netOf};
-ghost use Rattle.kruskal_order.specs.ByCost.{linkOrder};
+ghost use Rattle.kruskal_usable.specs.Usable.{usableOrder};
 ghost use Rattle.solver_search.specs.Assembled.{Reports};
 ghost use Rattle.solver_network.specs.OfNetwork.{netBest};
 
@@ -23,8 +23,8 @@ pub fn best_in_order(
     bounds: &[i16],
     taken: &mut [bool],
 ) -> Found
-    requires { ⌜ Plannable shape (now ends) (now sums) (now costs) × (now order ≡ linkOrder (now sums)) × (length (now bounds) ≡ shape .p)
-        × (now taken ≡ replicate linksHeld false) ⌝ }
+    requires { ⌜ Plannable shape (now ends) (now sums) (now costs) × (now order ≡ usableOrder (shape .rest) (now ends) (now sums))
+        × (length (now bounds) ≡ shape .p) × (now taken ≡ replicate linksHeld false) ⌝ }
     ensures { λ r. ⌜ Reports (netBest (netOf shape (now (ends .entry)) (now (sums .entry)) (now (costs .entry))) (now (bounds .entry))) r
         (now (taken .exit)) ⌝ }
 {

@@ -65,7 +65,15 @@ module _ (patterns : List ℕ) {order : List ℕ} where
   normals-in-order {sums} v = sublist-in-order sums (filter-among (normal patterns) order) v
 
   pub normals-joinable : {ends : List ℕ} {goal : ℕ} → Joinable ends order goal → Joinable ends (filter (normal patterns) order) goal
-  normals-joinable j = record { within = λ e m. j .within e (sublist-⊆ (filter-among (normal patterns) order) e m); held = j .held }
+  normals-joinable j =
+      record {
+        stations = j .stations;
+        size = j .size;
+        different = j .different;
+        known = j .known;
+        within = λ e m. j .within e (sublist-⊆ (filter-among (normal patterns) order) e m);
+        held = j .held;
+      }
 
 module _ {ends sums links : List ℕ} {goal : ℕ} (columns : Columns ends sums) (v : InOrder sums links) (j : Joinable ends links goal) where
   -- the base is in order too

@@ -9,7 +9,7 @@ use lib.ListN.{length, length-take, take}
 use Rattle.network.specs.Accepted.{Accepted}
 use Rattle.network.specs.Capacities.{ceilingsHeld, linksHeld}
 use Rattle.network.specs.Network.{Network}
-use Rattle.network.specs.NetworkFine.{NetworkFine, network-fine}
+use Rattle.network.specs.NetworkFine.{NetworkFine, network-fine, some-working}
 use Rattle.network.specs.Shaped.{Plannable}
 use Rattle.network.specs.Survey.{linkCount, networkWith}
 use Rattle.network.specs.Yard.{treeSize}
@@ -52,7 +52,7 @@ module _ {s : List ℕ} {l : Layout} (fine : Accepted s l) where
       record {
         whole = fine .records;
         priced = record { each = λ i h. fine .link i h .priced };
-        some-station = fine .yard .some-station;
+        some-station = some-working s l fine;
         held = omega arith;
         ends-room = omega (arith, lent .ends-size);
         sums-room = omega (arith, lent .sums-size);

@@ -1,4 +1,4 @@
-// Reads a survey from bytes: its first refusal of the numbers 1 to 8 and 15, or the network that it says.
+// Reads a survey from bytes: its first refusal of the numbers 1 to 8, 15 and 18, or the network that it says.
 use crate::rules::check_with;
 use network::Checked;
 use network::Layout;
@@ -25,6 +25,7 @@ fn no_shape() -> Shape {
         n: 0,
         p: 0,
         k: [0u8; CEILINGS_HELD],
+        rest: 0,
         m: 0,
         t: 0,
     }

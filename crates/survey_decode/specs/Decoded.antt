@@ -8,7 +8,7 @@ use Rattle.network.specs.Accepted.{Priced, Whole}
 use Rattle.network.specs.Capacities.{ceilingsHeld}
 use Rattle.network.specs.Network.{Network}
 use Rattle.network.specs.Shaped.{netOf}
-use Rattle.network.specs.Survey.{ceilingsIn, costsIn, endsIn, networkWith, ranksIn, stationsIn, sumsIn}
+use Rattle.network.specs.Survey.{ceilingsIn, costsIn, endsIn, networkWith, ranksIn, restIn, stationsIn, sumsIn, workingIn}
 use Rattle.network.specs.Yard.{treeSize}
 use Rattle.network.specs.declared.Layout.{Layout}
 use Rattle.network.specs.declared.Shape.{Shape}
@@ -18,7 +18,7 @@ use Rattle.survey_columns.specs.Columns.{HasCosts}
 pub record Decodable (s : List ℕ) (l : Layout) (m : ℕ) (ends sums : List ℕ) (costs : List ℤ) : Type 0 where
   pub whole : Whole s l m
   pub priced : Priced s l m
-  pub some-station : 1 ≤ stationsIn s
+  pub some-station : 1 ≤ length (workingIn l s)
   pub held : HasCosts (ceilingsIn s)
   pub ends-room : 2 * m ≤ length ends
   pub sums-room : m ≤ length sums
@@ -37,11 +37,12 @@ pub record Decoded (net : Network) (shape : Shape) (ends sums : List ℕ) (costs
   pub ranks : length (shape .k) ≡ ceilingsHeld
 
 -- the shape of a survey with m links
-abbrev pub shapeIn : List ℕ → ℕ → Shape
-shapeIn s m = record { n = stationsIn s; p = ceilingsIn s; k = ranksIn s; m = m; t = stationsIn s - 1 }
+abbrev pub shapeIn : Layout → List ℕ → ℕ → Shape
+shapeIn l s m =
+    record { n = stationsIn s; p = ceilingsIn s; k = ranksIn s; rest = restIn l s; m = m; t = length (workingIn l s) - 1 }
 
 -- with the columns of a survey at the fronts, its shape and the lent columns say its network
 pub decoded : (s : List ℕ) (l : Layout) (m : ℕ) {ends sums : List ℕ} {costs : List ℤ} → take (2 * m) ends ≡ endsIn l s m → take m sums ≡ sumsIn l s m
-    → take (ceilingsIn s * m) costs ≡ costsIn l s m (ceilingsIn s) → Decoded (networkWith l s m) (shapeIn s m) ends sums costs
+    → take (ceilingsIn s * m) costs ≡ costsIn l s m (ceilingsIn s) → Decoded (networkWith l s m) (shapeIn l s m) ends sums costs
 unfolding networkWith
-decoded s l m e f g = record { network = λ i. netOf (shapeIn s m) (e i) (f i) (g i); tree = refl; ranks = refl }
+decoded s l m e f g = record { network = λ i. netOf (shapeIn l s m) (e i) (f i) (g i); tree = refl; ranks = refl }

@@ -1,11 +1,13 @@
 // The network that a survey's records say.
 use network::Layout;
 use network::Shape;
+use stations::count_working;
 use survey_columns::decode_costs;
 use survey_columns::decode_ends;
 use survey_layout::fields::CEILINGS;
 use survey_layout::fields::RANKS;
 use survey_layout::fields::STATIONS;
+use survey_rest::rest_in;
 use survey_sums::decode_sums;
 ghost use Rattle.network.specs.Survey.{networkWith};
 ghost use Rattle.survey_decode.specs.Decoded.{Decodable, Decoded};
@@ -26,6 +28,8 @@ pub fn decode(
     let p = s[CEILINGS];
     let k1 = s[RANKS];
     let k2 = s[RANKS + 1];
+    let rest = rest_in(s, l);
+    let working = count_working(n, rest);
     decode_ends(s, l, m, ends);
     decode_sums(s, l, m, sums);
     decode_costs(s, l, m, p as usize, costs);
@@ -33,7 +37,8 @@ pub fn decode(
         n,
         p,
         k: [k1, k2],
+        rest,
         m,
-        t: n - 1,
+        t: working.count - 1,
     }
 }

@@ -3,6 +3,7 @@ use encoding_numbers::mark_at;
 use network::Form;
 use network::Layout;
 use network::records::LINK_SIZE;
+use network::records::REST_SIZE;
 use network::records::YARD_SIZE;
 ghost use mathlib.Core.Path.{_≡_};
 ghost use Prim.Native.Nat.{_+_, _≤_, _<_};
@@ -25,6 +26,7 @@ pub const PLAIN: Layout = Layout {
         size: YARD_SIZE,
     },
     count: 0,
+    rest: 0,
     link: LINK,
 };
 
@@ -35,11 +37,23 @@ pub const WITH_COUNT: Layout = Layout {
         size: YARD_SIZE + 1,
     },
     count: YARD_SIZE as u8,
+    rest: 0,
+    link: LINK,
+};
+
+// Surveys with the yard record that says which stations rest, behind the link count.
+const WITH_REST: Layout = Layout {
+    yard: Form {
+        mark: *b"YF",
+        size: YARD_SIZE + 1 + REST_SIZE,
+    },
+    count: YARD_SIZE as u8,
+    rest: YARD_SIZE as u8 + 1,
     link: LINK,
 };
 
 // The layouts that are known, a row for each mark of a yard record.
-const LAYOUTS: [Layout; 2] = [PLAIN, WITH_COUNT];
+const LAYOUTS: [Layout; 3] = [PLAIN, WITH_COUNT, WITH_REST];
 
 // The layout of a survey; where no known mark opens it, the old one.
 pub fn layout_of(s: &[u8]) -> Layout

@@ -9,17 +9,20 @@ use lib.ListN.{length}
 use borrow.Author.Tests.{eqb-true, ne-eqb, not-false}
 use lib.Dec.{eqb}
 use Rattle.order.specs.Every.{_▸_, done, every}
-use Rattle.network.specs.Survey.{hasCount, layoutOf, linkSize, plain, rowWhere, withCount, yardSize}
+use Rattle.order.specs.Test.{clash}
+use Rattle.network.specs.Survey.{hasCount, layoutOf, linkSize, plain, restIn, rowWhere, withCount, withRest, yardSize}
 use Rattle.network.specs.Layouts.{layout-has, row-has}
 use Rattle.network.specs.Writing.{isOfKind, kindOf, layoutFor, unknownKind, writable}
 use Rattle.network.specs.WritingPromise.{Known}
 use Rattle.network.specs.declared.Layout.{Layout}
 
--- its marks have two bytes; its yard record has the shared fields and then the link count, if it has one; and a survey with its mark is read by it
+-- its marks have two bytes; its yard record has the shared fields and then the link count, if it has one, and no stations at rest; and a survey with its
+-- mark is read by it
 pub record Writable (l : Layout) : Type 0 where
   pub marked : length (l .yard .mark) ≡ 2
   pub size : l .yard .size ≡ yardSize + cond (hasCount l) 1 0
   pub counted : l .count ≡ cond (hasCount l) yardSize 0
+  pub awake : l .rest ≡ 0
   pub link-marked : length (l .link .mark) ≡ 2
   pub link-size : l .link .size ≡ linkSize
   pub read : layoutOf (l .yard .mark) ≡ l
@@ -32,13 +35,18 @@ yard-small {l} w = go (hasCount l) (w .size)
     go true e = omega arith
     go false e = omega arith
 
+-- a survey of such a layout has no station at rest
+pub none-at-rest : (l : Layout) → Writable l → (s : List ℕ) → restIn l s ≡ 0
+unfolding restIn
+none-at-rest l w s = rw (w .awake)
+
 plain-writable : Writable plain
 unfolding layoutOf rowWhere
-plain-writable = record { marked = refl; size = refl; counted = refl; link-marked = refl; link-size = refl; read = refl }
+plain-writable = record { marked = refl; size = refl; counted = refl; awake = refl; link-marked = refl; link-size = refl; read = refl }
 
 counted-writable : Writable withCount
 unfolding layoutOf rowWhere
-counted-writable = record { marked = refl; size = refl; counted = refl; link-marked = refl; link-size = refl; read = refl }
+counted-writable = record { marked = refl; size = refl; counted = refl; awake = refl; link-marked = refl; link-size = refl; read = refl }
 
 -- the layout of any kind that is asked for is one of them
 pub writable-for : (kind : ℕ) → Writable (layoutFor kind)
@@ -57,9 +65,13 @@ counted-named : Named withCount
 unfolding layoutFor rowWhere
 counted-named e = refl
 
+rested-named : Named withRest
+unfolding unknownKind layoutFor rowWhere
+rested-named e = clash refl e
+
 -- the layout of a survey of a kind that is known is the layout of that kind
 pub layout-known : (s : List ℕ) (kind : ℕ) → kindOf (layoutOf s) ≡ kind → unknownKind kind ≡ false → layoutFor kind ≡ layoutOf s
-layout-known s kind e known = rw (← e) (layout-has Named (every Named (plain-named ▸ counted-named ▸ done)) s (rw (← e) at known))
+layout-known s kind e known = rw (← e) (layout-has Named (every Named (plain-named ▸ counted-named ▸ rested-named ▸ done)) s (rw (← e) at known))
 
 -- the kinds of the table are known,
 pub kind-listed : (kind : ℕ) → Known kind → unknownKind kind ≡ false

@@ -1,4 +1,5 @@
--- What the planner plans of a survey is what its figures say: surveys that say the same figures are planned alike, whatever their yard records are.
+-- What the planner plans of a survey of a kind that is written is what its figures say: surveys that say the same figures are planned alike, whichever of
+-- these kinds their yard records are.
 use mathlib.Core.List.{List, [], _∷_, _++_}
 use mathlib.Core.Path.{_≡_, refl, sym, ap, ap₂, _∙_}
 use Prim.Native.Nat.{ℕ, zero, suc, _*_, _/_, _%_, _≤_, _<_}
@@ -9,16 +10,16 @@ use lib.ListN.{getD, length, length-map, take}
 use Rattle.order.specs.Lists.{getD-map, numbersFrom}
 use Rattle.order.specs.Sorted.{number-at, numbers-length}
 use Rattle.network.specs.Tabulate.{tabulate, tabulate-same}
-use Rattle.network.specs.Survey.{ceilingIn, ceilingsIn, costIn, costsIn, endIn, endsIn, layoutOf, linkCount, linkStart, networkOf, networkWith, raised, sumsIn}
+use Rattle.network.specs.Survey.{ceilingIn, ceilingsIn, costIn, costsIn, endIn, endsIn, layoutOf, linkCount, linkStart, networkOf, networkWith, raised}
+use Rattle.network.specs.Survey.{restIn, sumsIn}
 use Rattle.network.specs.Accepted.{accepted}
 use Rattle.network.specs.Layouts.{layout-roomy}
-use Rattle.network.specs.Refusals.{checkedOf}
 use Rattle.network.specs.Alike.{Alike, alike}
-use Rattle.network.specs.Writing.{Figures, Link, figuresIn, figuresOf, linkIn, noLink}
-use Rattle.network.specs.WritingPromise.{Says}
-use Rattle.network.specs.declared.Checked.the-variants.{Fine}
+use Rattle.network.specs.Writing.{Figures, Link, figuresIn, linkIn, noLink}
+use Rattle.network.specs.WritingPromise.{Known, Says}
 use Rattle.network.specs.declared.Layout.{Layout}
 use Rattle.network.specs.Network.{Network}
+use Rattle.survey_written.specs.Layouts.{Writable, kind-listed, layout-known, none-at-rest, writable-for}
 
 -- what holds of 0 and of 1
 below-two : (P : ℕ → Type 0) → P 0 → P 1 → (j : ℕ) → j < 2 → P j
@@ -52,6 +53,7 @@ networkOn f m =
       n = f .yard .n;
       p = f .yard .p;
       k = take (f .yard .p) (f .yard .k1 ∷ f .yard .k2 ∷ []);
+      rest = 0;
       m = m;
       ends = tabulate (λ q. endAt (linkOf f (q / 2)) (q % 2)) (2 * m);
       sums = tabulate (λ i. raised (linkOf f i .sum)) m;
@@ -103,14 +105,15 @@ module _ (l : Layout) (s : List ℕ) where
   costs-same zero h = refl
   costs-same (suc p) h = ap₂ _++_ (costs-same p (omega arith)) (ceiling-same p (omega arith))
 
-  network-figures : ceilingsIn s ≤ 2 → networkWith l s m ≡ networkFrom f
+  network-figures : ceilingsIn s ≤ 2 → restIn l s ≡ 0 → networkWith l s m ≡ networkFrom f
   unfolding networkWith networkFrom figuresIn
-  network-figures few =
+  network-figures few awake =
       (λ i.
       record {
         n = f .yard .n;
         p = f .yard .p;
         k = take (f .yard .p) (f .yard .k1 ∷ f .yard .k2 ∷ []);
+        rest = awake i;
         m = m;
         ends = ends-same i;
         sums = sums-same i;
@@ -118,12 +121,15 @@ module _ (l : Layout) (s : List ℕ) where
       })
       ∙ ap (networkOn f) (sym many)
 
--- the network of an accepted survey is that of its figures
-pub figures-network : (s : List ℕ) → checkedOf s ≡ Fine → networkOf s ≡ networkFrom (figuresOf s)
-figures-network s e = network-figures (layoutOf s) s (accepted s (layoutOf s) (layout-roomy s) e .yard .few-ceilings)
+-- the network of a survey of a kind that is written is that of its figures
+pub figures-network : (s : List ℕ) (kind : ℕ) (f : Figures) → Says s kind f → Known kind → networkOf s ≡ networkFrom f
+figures-network s kind f says known =
+    let l = layoutOf s in
+    let few = accepted s l (layout-roomy s) (says .accepted) .yard .few-ceilings in
+    let written : Writable l = rw (← (layout-known s kind (says .kept) (kind-listed kind known))) (writable-for kind) in
+    network-figures l s few (none-at-rest l written s) ∙ ap networkFrom (says .read)
 
--- THE THEOREM: accepted surveys that say the same figures are planned alike
-pub figures-alike : (s t : List ℕ) {kind kind′ : ℕ} {f : Figures} → Says s kind f → Says t kind′ f → Alike s t
-figures-alike s t a b =
-    alike (b .accepted ∙ sym (a .accepted))
-    (figures-network t (b .accepted) ∙ ap networkFrom (b .read ∙ sym (a .read)) ∙ sym (figures-network s (a .accepted)))
+-- THE THEOREM: surveys of kinds that are written that say the same figures are planned alike
+pub figures-alike : (s t : List ℕ) (kind kind′ : ℕ) (f : Figures) → Says s kind f → Says t kind′ f → Known kind → Known kind′ → Alike s t
+figures-alike s t kind kind′ f a b known known′ =
+    alike (b .accepted ∙ sym (a .accepted)) (figures-network t kind′ f b known′ ∙ sym (figures-network s kind f a known))

@@ -1,40 +1,46 @@
 -- What the reader says of a survey that was written: the refusal of its figures, or none, and the figures.
-use mathlib.Core.Bool.{Bool, true, false}
+use mathlib.Core.Bool.{Bool, false}
 use mathlib.Core.List.{List, [], _∷_, map}
 use mathlib.Core.Logic.{⊎-elim}
 use mathlib.Core.Path.{_≡_, refl, sym, ap, ap₂, _∙_}
-use Prim.Native.Nat.{ℕ, zero, suc, _+_, _-_, _*_, _%_, _≤_, _<_}
-use native.Mathlib.Nat.{add-zero, eq-or-lt-of-le, zero-add}
+use Prim.Native.Nat.{ℕ, zero, suc, _+_, _-_, _*_, _%_, _^_, _≤_, _<_}
+use native.Mathlib.Nat.{add-zero, eq-or-lt-of-le, zero-add, zero-div}
 use native.Mathlib.Omega.{arith}
 use lib.Dec.{ltb}
 use lib.ListN.{getD, length}
-use borrow.Author.Tests.{le-ltb, ltb-false}
+use borrow.Author.Tests.{le-ltb, ltb-false, ne-eqb}
 use mir.Syntax.{w16, w32}
 use mir.ValLaws.{toZ-ofZ}
 use Rattle.order.specs.Lists.{numbersFrom}
 use Rattle.network.specs.Limits.{maxCeilings, maxLinks, maxStations}
 use Rattle.network.specs.Bytes.{bitsOf, signed}
 use Rattle.network.specs.Survey.{linkCount, linkSize, linkStart}
-use Rattle.network.specs.Checked.{fine-both, firstRefusal, refuseIf, _orElse_}
-use Rattle.network.specs.Refusals.{badCount, badLength, badRanks, checkedOf, checkedWith, linkChecked, linkCheckedAt, linksChecked, outside, yardChecked}
+use Rattle.network.specs.Accepted.{or-false}
+use Rattle.network.specs.Checked.{fine-both, firstRefusal, refuse-fine, refuseIf, _orElse_}
+use Rattle.network.specs.Refusals.{badCount, badLength, badRanks, badRest, checkedOf, checkedWith, linkChecked, linkCheckedAt, linksChecked, outside}
+use Rattle.network.specs.Refusals.{yardChecked}
+use Rattle.network.specs.Resting.{all-counted}
 use Rattle.network.specs.Writing.{Figures, Link, figuresChecked, figuresIn, figuresOf, linkFiguresChecked, linkIn, linksFiguresChecked, noLink}
 use Rattle.network.specs.Writing.{surveyIn, yardFiguresChecked}
 use Rattle.network.specs.declared.Checked.{Checked}
 use Rattle.network.specs.declared.Checked.the-variants.{Fine, Refused}
 use Rattle.network.specs.declared.Layout.{Layout}
-use Rattle.survey_written.specs.Layouts.{Writable}
+use Rattle.survey_written.specs.Layouts.{Writable, none-at-rest}
 use Rattle.survey_written.specs.Columns.{first-agree}
 use Rattle.survey_written.specs.Fields.{Fitting, Met, link-held, survey-layout, survey-length, yard-held}
 
 -- ---- the order of the refusals
 
--- a wrong count does not show where there are too many links
-no-count : (before : Checked) (many wrong : Bool) → (many ≡ false → wrong ≡ false)
-    → before orElse refuseIf many 4 0 orElse refuseIf wrong 15 0 ≡ before orElse refuseIf many 4 0
+-- a check that finds nothing wherever those before it find nothing does not show
+no-more : (before : Checked) (bad : Bool) (number place : ℕ) → (before ≡ Fine → bad ≡ false) → before orElse refuseIf bad number place ≡ before
 unfolding refuseIf _orElse_
-no-count (Refused r) many wrong e = refl
-no-count Fine true wrong e = refl
-no-count Fine false wrong e = rw (e refl)
+no-more (Refused r) bad number place e = refl
+no-more Fine bad number place e = rw (e refl)
+
+-- with no station at rest some station works
+none-rest : (n : ℕ) → 1 ≤ n → badRest n 0 ≡ false
+unfolding badRest
+none-rest n h = rw (zero-div (2 ^ n), all-counted n) (ne-eqb n 0 (λ e. omega arith))
 
 -- where nothing is refused, nothing is among the first checks
 first-part : (f : ℕ → Checked) (m : ℕ) → firstRefusal f m ≡ Fine → (i : ℕ) → i ≤ m → firstRefusal f i ≡ Fine
@@ -72,14 +78,25 @@ module _ (l : Layout) (w : Writable l) (f : Figures) where
   link-count : linkCount l s ≡ m
   link-count = rw (rest, w .link-size) (omega arith)
 
+  -- the checks of stations and of the number of links
+  abbrev first : Checked
+  first = refuseIf (outside (f .yard .n) 1 maxStations) 3 0 orElse refuseIf (ltb maxLinks m) 4 0
+
+  few-links : first ≡ Fine → m ≤ maxLinks
+  few-links e = ltb-false maxLinks m (refuse-fine _ _ _ (fine-both _ _ e .1))
+
+  some-station : first ≡ Fine → 1 ≤ f .yard .n
+  some-station e = ltb-false _ _ (or-false _ _ (refuse-fine _ _ _ (fine-both _ _ e .0)) .0)
+
   yard-agrees : yardChecked s l m ≡ yardFiguresChecked (f .yard) m
   unfolding yardChecked yardFiguresChecked refuseIf _orElse_
   yard-agrees =
       let held = yard-held l w f in
       let y = f .yard in
-      rw (held .marked, held .stations, held .ceilings, held .rank1, held .rank2)
+      rw (held .marked, held .stations, held .ceilings, held .rank1, held .rank2, none-at-rest l w s, all-counted (y .n))
       (ap (λ (c : Checked). c orElse refuseIf (ltb maxCeilings (y .p)) 5 0 orElse refuseIf (badRanks (y .n) (y .p) (y .k1 ∷ y .k2 ∷ [])) 6 0)
-      (no-count (refuseIf (outside (y .n) 1 maxStations) 3 0) (ltb maxLinks m) (badCount s l m) (λ e. held .count (ltb-false maxLinks m e))))
+      (ap (λ (c : Checked). c orElse refuseIf (badRest (y .n) 0) 18 0) (no-more first (badCount s l m) 15 0 (λ e. held .count (few-links e)))
+      ∙ no-more first (badRest (y .n) 0) 18 0 (λ e. none-rest (y .n) (some-station e))))
 
   -- the bytes of link record i get what its figures get
   link-agrees : (i : ℕ) → i < m → Fitting (getD (f .links) i noLink)

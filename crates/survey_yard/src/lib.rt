@@ -1,10 +1,11 @@
-// The rules of a survey's yard record: its mark, the numbers 3 to 6, and 15 between 4 and 5.
+// The rules of a survey's yard record: its mark, the numbers 3 to 6, and 15 and 18 between 4 and 5.
 use encoding_numbers::mark_at;
 use network::Checked;
 use network::Layout;
 use network::limits::MAX_CEILINGS;
 use network::limits::MAX_LINKS;
 use network::limits::MAX_STATIONS;
+use stations::count_working;
 use survey_checks::is_outside;
 use survey_checks::or_refuse_if;
 use survey_checks::refuse_if;
@@ -13,6 +14,7 @@ use survey_layout::fields::CEILINGS;
 use survey_layout::fields::RANKS;
 use survey_layout::fields::STATIONS;
 use survey_ranks::bad_ranks;
+use survey_rest::rest_in;
 ghost use mathlib.Core.Path.{_≡_};
 ghost use Prim.Native.Nat.{_≤_};
 ghost use lib.ListN.{length};
@@ -33,6 +35,16 @@ pub fn check_yard(s: &[u8], l: Layout, m: usize) -> Checked
     let c3 = or_refuse_if(c2, is_outside(n, 1, MAX_STATIONS as u8), 3, 0);
     let c4 = or_refuse_if(c3, MAX_LINKS < m, 4, 0);
     let c15 = or_refuse_if(c4, miscounted, 15, 0);
-    let c5 = or_refuse_if(c15, too_many_ceilings, 5, 0);
-    or_refuse_if(c5, bad_ranks(n, p, &s[RANKS..RANKS + MAX_CEILINGS]), 6, 0)
+    let working = count_working(n, rest_in(s, l));
+    let count = working.count;
+    let above = working.above;
+    let bad_rest = (above != 0) | (count == 0);
+    let c18 = or_refuse_if(c15, bad_rest, 18, 0);
+    let c5 = or_refuse_if(c18, too_many_ceilings, 5, 0);
+    or_refuse_if(
+        c5,
+        bad_ranks(count, p, &s[RANKS..RANKS + MAX_CEILINGS]),
+        6,
+        0,
+    )
 }

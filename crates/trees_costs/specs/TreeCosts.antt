@@ -11,7 +11,7 @@ use lib.IntN.{ℤ, pos}
 use lib.ListN.{drop, getD, length, length-drop, length-take, replicate, set, take}
 use lib.Seq.{getD-take}
 use Rattle.order.specs.Test.{by-test, left, right}
-use Rattle.order.specs.Lists.{getD-mem}
+use Rattle.order.specs.Lists.{all, getD-mem}
 use Rattle.order.specs.Order.{orderℤ}
 use Rattle.order.specs.Lowered.{sum-lowered}
 use Rattle.kmax.specs.KMax.{kmax}
@@ -24,7 +24,8 @@ use Rattle.network.specs.Column.{column, column-at, column-more, column-none, c
 use Rattle.network.specs.Network.{Network}
 use Rattle.network.specs.PlanList.{costsOf}
 use Rattle.network.specs.Shaped.{Plannable, netOf}
-use Rattle.network.specs.Yard.{ceilingCosts, ceilingPart, ends, graph, isTree, sumAt, treeSize, treeSum}
+use Rattle.network.specs.Resting.{working-few}
+use Rattle.network.specs.Yard.{ceilingCosts, ceilingPart, ends, graph, isTree, stations, sumAt, treeSize, treeSum, usable}
 use Rattle.network.specs.declared.Costs.{Costs}
 use Rattle.network.specs.declared.Shape.{Shape}
 use Rattle.trees_sums.specs.Added.{Below, loweredSum, sum-le, sumOf}
@@ -155,7 +156,7 @@ module _ (shape : Shape) (ends sums : List ℕ) (costs : List ℤ) (can : Planna
   module _ (links : TreeLinks net ts) where
     -- t links are few
     pub links-few : length ts ≤ treeHeld
-    links-few = let size = links .size in let few = can .fine .few-stations in omega arith
+    links-few = let size = links .size in let few = can .fine .few-stations in omega (arith, working-few (shape .n) (shape .rest))
 
     -- their raised sum costs add up to no more than those of all links can
     sum-small : sumOf sums ts ≤ linksHeld * sumHeld
@@ -186,8 +187,9 @@ module _ (shape : Shape) (ends sums : List ℕ) (costs : List ℤ) (can : Planna
 pub tree-links : (net : Network) (ts : List ℕ) → isTree net ts ≡ true → TreeLinks net ts
 unfolding isListed
 tree-links net ts e =
-    let rest = isRisingIn 0 (net .m) ts && tree.isTree (net .n) (map (ends net) ts) in
-    let rising = left (isRisingIn 0 (net .m) ts) (tree.isTree (net .n) (map (ends net) ts)) (right (eqb (length ts) (treeSize net)) rest e) in
+    let used = all (usable net) ts && tree.isTree (stations net) (map (ends net) ts) in
+    let rest = isRisingIn 0 (net .m) ts && used in
+    let rising = left (isRisingIn 0 (net .m) ts) used (right (eqb (length ts) (treeSize net)) rest e) in
     record {
       size = eqb-true (length ts) (treeSize net) (left (eqb (length ts) (treeSize net)) rest e);
       known = record { below = λ c m. rising-range 0 (net .m) ts (isRisingIn-iff 0 (net .m) ts .0 rising) c m .1 };

@@ -1,8 +1,10 @@
 // One link more of a drawn tree.
 use forest::Forest;
+use stations::joins_working;
+use stations::station_at;
 ghost use mathlib.Core.Path.{_≡_};
-ghost use lib.ListN.{getD};
-ghost use Rattle.trees_drawing.specs.Drawing.{Stations, drawing};
+ghost use Rattle.stations.specs.Stations.{Stations};
+ghost use Rattle.trees_drawing.specs.Drawing.{drawing};
 
 // The links so far: the groups that they join, the least number that the next one may have, and whether each of them kept to the rules.
 pub struct Drawn {
@@ -11,26 +13,20 @@ pub struct Drawn {
     pub fine: bool,
 }
 
-// The station at an index; 0 past the end.
-fn station(ends: &[u8], i: usize) -> u8
-    ensures { λ r. ⌜ r ≡ getD (now (ends .entry)) i 0 ⌝ }
-{
-    if i < ends.len() { ends[i] } else { 0 }
-}
-
-// One link more: it is to be above the one before, one of the m links, and to join two groups.
-pub fn draw(drawn: Drawn, ends: &[u8], m: usize, link: u8) -> Drawn
+// One link more: it is to be above the one before, one of the m links, usable, and to join two groups.
+pub fn draw(drawn: Drawn, rest: u32, ends: &[u8], m: usize, link: u8) -> Drawn
     requires { ⌜ Stations (now ends) ⌝ }
-    ensures { λ r. ⌜ r ≡ drawing (now (ends .entry)) m drawn link ⌝ }
+    ensures { λ r. ⌜ r ≡ drawing rest (now (ends .entry)) m drawn link ⌝ }
 {
     let number = link as usize;
-    let a = station(ends, 2 * number);
-    let b = station(ends, 2 * number + 1);
+    let a = station_at(ends, 2 * number);
+    let b = station_at(ends, 2 * number + 1);
+    let usable = joins_working(rest, a, b);
     let groups = drawn.groups;
     let new = groups.find(a);
     let old = groups.find(b);
     let low = drawn.low;
-    let keeps = (low <= number) & ((number < m) & (new != old));
+    let keeps = (low <= number) & ((number < m) & (usable & (new != old)));
     Drawn {
         groups: groups.led(old, new),
         low: number + 1,

@@ -65,7 +65,7 @@ pub fn list_plans(
 {
     let size = costs.len();
     let mut values = [0i16; CEILINGS_HELD * LINKS_HELD];
-    let grid = grid_of(shape, costs, &mut values[..size]);
+    let grid = grid_of(shape, ends, costs, &mut values[..size]);
     if out.len() < need(grid.total, shape.t) {
         return Status {
             number: 9,

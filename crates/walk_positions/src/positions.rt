@@ -1,5 +1,5 @@
 // The walk over all positions.
-use kruskal_order::order_links;
+use kruskal_usable::order_usable;
 use marking_grid::Grid;
 use marking_marks::mark::next_unmarked;
 use network::Shape;
@@ -52,10 +52,11 @@ pub fn visit_all(
     ensures { λ r. ⌜ Outcome (netOf shape (now (ends .entry)) (now (sums .entry)) (now (costs .entry))) allowance (now (out .exit)) r ⌝ }
 {
     let p = shape.p as usize;
-    let m = shape.m;
     let t = shape.t as usize;
     let total = grid.total;
-    let order = order_links(sums);
+    let usable = order_usable(shape.rest, ends, sums);
+    let order = usable.link;
+    let count = usable.count;
     let mut places = [0usize; CEILINGS_HELD];
     let mut bounds = [0i16; CEILINGS_HELD];
     let mut tree = [0u8; TREE_HELD];
@@ -73,7 +74,7 @@ pub fn visit_all(
             ends,
             sums,
             costs,
-            &order[..m],
+            &order[..count],
             &bounds[..p],
             &mut tree,
         );

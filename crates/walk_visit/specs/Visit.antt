@@ -17,7 +17,7 @@ use Rattle.frontier.specs.Places as by
 use Rattle.frontier.specs.Places.{AllFalling, InRange, pick, places-number, places-range}
 use Rattle.planning.specs.Graph.{Sound}
 use Rattle.planning.specs.Grid.{all-fall, on-grid}
-use Rattle.network.specs.Yard.{best, ceilingCosts, graph, yard}
+use Rattle.network.specs.Yard.{best, ceilingCosts, graph, usableAt, yard}
 use Rattle.network.specs.Walk.{positionCount, positions, values}
 use Rattle.network.specs.PlanList.{costsOf}
 use Rattle.network.specs.NetworkFine.{NetworkFine, graph-sound}
@@ -104,7 +104,8 @@ module _ {shape : Shape} {ends sums : List ℕ} {costs array : List ℤ} (planna
     ceilings = plannable .fine .few-ceilings;
   }
 
-  pub ready-grid : {grid : Grid} → Gridded (ceilingValues (shape .p) (shape .m) costs) (shape .m) array grid → Ready shape ends sums costs array grid
+  pub ready-grid : {grid : Grid} → Gridded (ceilingValues (usableAt (shape .rest) ends) (shape .p) (shape .m) costs) (shape .m) array grid
+      → Ready shape ends sums costs array grid
   ready-grid {grid} g = record {
     plannable = plannable;
     gridded = subst (λ (ls : List (List ℤ)). Gridded ls (shape .m) array grid) (ceiling-values (netOf shape ends sums costs) (plannable .fine .rank-count)) g;

@@ -4,6 +4,7 @@
 //
 //     yard N P K1 K2          a survey begins with this yard record
 //     tally N P K1 K2 COUNT   a survey begins with this yard record, which has a link count
+//     quiet N P K1 K2 COUNT R a survey begins with this yard record, which has a link count and rest bytes: bit J of R is 1 where station J rests
 //     link A B S C1 C2        one link record more
 //     set I X                 byte I is X
 //     cut L                   the survey has L bytes
@@ -52,6 +53,7 @@ fn obey(yard: Yard, line: Line, byte: u8) -> Yard {
     match word {
         b'y' => Yard::begin(numbers),
         b't' => Yard::begin_counted(numbers),
+        b'q' => Yard::begin_resting(numbers),
         b'l' => yard.link(numbers),
         b'h' => Yard::begin_list(numbers),
         b'r' => yard.plan(numbers),

@@ -10,6 +10,7 @@ use encoding_signed::read_i32;
 use network::YardFigures;
 use network::limits::MAX_LINKS;
 use network::records::LINK_SIZE;
+use network::records::REST_SIZE;
 use network::records::YARD_SIZE;
 use planner::write_survey;
 use std::num::wrapping_add_usize;
@@ -58,10 +59,18 @@ fn yard_of(survey: &[u8]) -> YardFigures {
     }
 }
 
-// The link records, which begin a byte later behind the mark 59 45.
+// Where the link records begin, by the second byte of the mark.
+fn first_link(mark: u8) -> usize {
+    match mark {
+        0x45 => YARD_SIZE + 1,
+        0x46 => YARD_SIZE + 1 + REST_SIZE,
+        _ => YARD_SIZE,
+    }
+}
+
+// The link records.
 fn records(survey: &[u8]) -> &[u8] {
-    let first = YARD_SIZE + (byte(survey, 1) % 2) as usize;
-    part(survey, first, survey.len())
+    part(survey, first_link(byte(survey, 1)), survey.len())
 }
 
 // The figures of all link records.

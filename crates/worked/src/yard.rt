@@ -16,22 +16,30 @@ const YARD_MARK: u32 = 0x4459;
 
 const COUNTED_MARK: u32 = 0x4559;
 
+const RESTING_MARK: u32 = 0x4659;
+
 const LINK_MARK: u32 = 0x4B4C;
 
 pub const HEAD_MARK: u32 = 0x4850;
 
 pub const PLAN_MARK: u32 = 0x4C50;
 
-// How many bytes each number of a yard record takes, of one with a link count, of a link record, of a list's head, and of a plan record with one link.
-const YARD_SIZES: [u8; 5] = [1, 1, 1, 1, 0];
+// How many numbers a record has at most.
+const FIELDS: usize = 6;
 
-const COUNTED_SIZES: [u8; 5] = [1, 1, 1, 1, 1];
+// How many bytes each number of a yard record takes, of one with a link count, of one with rest bytes as well, of a link record, of a list's head, and of
+// a plan record with one link.
+const YARD_SIZES: [u8; FIELDS] = [1, 1, 1, 1, 0, 0];
 
-const LINK_SIZES: [u8; 5] = [1, 1, 4, 2, 2];
+const COUNTED_SIZES: [u8; FIELDS] = [1, 1, 1, 1, 1, 0];
 
-const HEAD_SIZES: [u8; 5] = [2, 4, 1, 1, 0];
+const RESTING_SIZES: [u8; FIELDS] = [1, 1, 1, 1, 1, 3];
 
-const PLAN_SIZES: [u8; 5] = [4, 2, 2, 1, 0];
+const LINK_SIZES: [u8; FIELDS] = [1, 1, 4, 2, 2, 0];
+
+const HEAD_SIZES: [u8; FIELDS] = [2, 4, 1, 1, 0, 0];
+
+const PLAN_SIZES: [u8; FIELDS] = [4, 2, 2, 1, 0, 0];
 
 // The bytes of a survey or list, of which the first `len` count.
 pub struct Yard {
@@ -62,9 +70,9 @@ impl Yard {
     }
 
     // A record more.
-    fn record(self, mark: u32, sizes: [u8; 5], numbers: [u32; NUMBERS]) -> Yard {
+    fn record(self, mark: u32, sizes: [u8; FIELDS], numbers: [u32; NUMBERS]) -> Yard {
         let mut yard = self.number(mark, 2);
-        for i in 0..5usize {
+        for i in 0..FIELDS {
             yard = yard.number(numbers[i], sizes[i]);
         }
         yard
@@ -78,6 +86,11 @@ impl Yard {
     // A yard record that has a link count, alone.
     pub fn begin_counted(numbers: [u32; NUMBERS]) -> Yard {
         Yard::new().record(COUNTED_MARK, COUNTED_SIZES, numbers)
+    }
+
+    // A yard record that has a link count and rest bytes, alone.
+    pub fn begin_resting(numbers: [u32; NUMBERS]) -> Yard {
+        Yard::new().record(RESTING_MARK, RESTING_SIZES, numbers)
     }
 
     // A link record more.

@@ -2,16 +2,6 @@ use Prim.Native.Nat.{_≤_, _-_}
 use borrow.Author.Needs.{needs}
 use Rattle.exhaustive.proofs.main.Statement.{statement}
 use Rattle.exhaustive.proofs.main.Tie as tie
-use Rattle.exhaustive.proofs.main.Reads as reads
-use Rattle.exhaustive.proofs.main.Lts as lts
-use Rattle.alltrees.proofs.small.length.Reads as length-reads
-use Rattle.alltrees.proofs.small.make.Reads as make-reads
-use Rattle.alltrees.proofs.small.next.Reads as next-reads
-use Rattle.alltrees.proofs.small.survey_of.Reads as survey-of-reads
-use Rattle.console.proofs.part.Reads as part-reads
-use Rattle.exhaustive.proofs.compare.Reads as compare-reads
-use Rattle.exhaustive.proofs.tally.Tally.new.Reads as new-reads
-use Rattle.exhaustive.proofs.tally.Tally.print.Reads as print-reads
 
 abbrev Inv-loop : tie.InvT-loop
 Inv-loop x₀ tally₀ i₀ x tally i = i ≤ 620
@@ -46,6 +36,9 @@ part-requires c κs = search needs
 compare-requires : tie.Need-compare-requires Inv-loop μ-loop
 compare-requires c κs = search needs
 
+compare-all-requires : tie.Need-compare-all-requires Inv-loop μ-loop
+compare-all-requires c κs = search needs
+
 add-i : tie.Need-add-i Inv-loop μ-loop
 add-i c = search needs
 
@@ -76,6 +69,7 @@ main-spec =
     length-requires
     part-requires
     compare-requires
+    compare-all-requires
     add-i
     loop-less
     loop-again

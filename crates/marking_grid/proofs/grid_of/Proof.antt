@@ -15,21 +15,21 @@ use Rattle.marking_grid.proofs.grid_of.Tie as tie
 abbrev zeros : List ℕ
 zeros = replicate ceilingsHeld 0
 
--- the first p counts, and strides
-counts-front : (c : tie.After-values-of)
-    → c .before .before .before .args .shape .p ≡ length (take (c .before .before .before .args .shape .p) (c .values-of .result))
-counts-front c =
-    let s = c .before .before .before in
-    sym (length-take-le (s .args .shape .p) (c .values-of .result) (omega (arith, s .pre, c .values-of .ensures .0)))
+-- the call, before the values are known
+abbrev start : tie.After-values-of → tie.Start
+start c = c .before .before .before .before
 
-strides-front : (c : tie.After-values-of)
-    → c .before .before .before .args .shape .p ≡ length (take (c .before .before .before .args .shape .p) zeros)
-strides-front c = sym (length-take-le (c .before .before .before .args .shape .p) zeros (c .before .before .before .pre .ceilings))
+-- the first p counts, and strides
+counts-front : (c : tie.After-values-of) → start c .args .shape .p ≡ length (take (start c .args .shape .p) (c .values-of .result))
+counts-front c =
+    sym (length-take-le (start c .args .shape .p) (c .values-of .result) (omega (arith, start c .pre .1, c .values-of .ensures .0)))
+
+strides-front : (c : tie.After-values-of) → start c .args .shape .p ≡ length (take (start c .args .shape .p) zeros)
+strides-front c = sym (length-take-le (start c .args .shape .p) zeros (start c .pre .1 .ceilings))
 
 -- the array is as long as it was
-array-is : (c : tie.After-values-of)
-    → length (c .values-of .last .1 .1 .0) ≡ c .before .before .before .args .shape .p * c .before .before .before .args .shape .m
-array-is c = c .values-of .kept .1 .1 .0 ∙ c .before .before .before .pre .array-is
+array-is : (c : tie.After-values-of) → length (c .values-of .last .1 .1 .1 .0) ≡ start c .args .shape .p * start c .args .shape .m
+array-is c = c .values-of .kept .1 .1 .1 .0 ∙ start c .pre .1 .array-is
 
 cast-p : tie.Need-cast-p
 cast-p c = search needs
@@ -52,7 +52,7 @@ slice-aggregate-strides-of-2 c = strides-front (c .before .before .before)
 strides-of-requires : tie.Need-strides-of-requires
 strides-of-requires c κs =
     let found = c .before .before .before in
-    let pre = found .before .before .before .pre in
+    let pre = start found .pre .1 in
     let new = found .values-of .ensures in
     (filled-few (new .1) (array-is found) (new .0) (pre .ceilings) (pre .links), sym (strides-front found) ∙ counts-front found)
 
@@ -62,11 +62,11 @@ same-length c = search needs
 returns : tie.Need-returns
 returns c =
     let found = c .before .before .before .before .before in
-    let p = found .before .before .before .args .shape .p in
+    let p = start found .args .shape .p in
     let new = found .values-of .ensures in
     let after = c .before .strides-of in
     let same = after .kept .1 .0 in
-    filled-grid (new .1) (array-is found) (new .0) (found .before .before .before .pre .ceilings)
+    filled-grid (new .1) (array-is found) (new .0) (start found .pre .1 .ceilings)
     (length-front zeros (after .last .1 .0) p same)
     (take-at (after .last .1 .0) _ p (same ∙ sym (strides-front found)) ∙ after .ensures .1)
     (after .ensures .0)

@@ -1,18 +1,16 @@
 -- The survey's check, the size of the tree buffer, then the question on its network.
-use mathlib.Core.Path.{_≡_, sym, ap, _∙_}
+use mathlib.Core.Path.{_≡_, sym, _∙_}
 use native.Mathlib.Omega.{arith}
 use borrow.Author.Needs.{needs}
 use denote.Ref.{now}
-use lib.ListN.{length, take}
 use lib.Seq.{length-take-le}
 use mir.Facts.{toZ-ofZ}
-use Rattle.network.specs.Capacities.{linksHeld}
 use Rattle.network.specs.Cut.{cut-asked}
 use Rattle.network.specs.Refusals.{checkedOf}
 use Rattle.network.specs.Survey.{networkOf}
 use Rattle.network.specs.declared.Checked.the-variants.{Fine}
 use Rattle.survey.specs.Survey.{Read}
-use Rattle.kruskal_order.specs.ByCost.{linkOrder, order-length}
+use Rattle.stations.specs.Stations.{plannable-stations}
 use Rattle.planner_best.specs.Best.{answer-after, asked-answer, asked-refused, asked-short, refused-after, short-after}
 use Rattle.planner_best.proofs.best.Statement.{statement}
 use Rattle.planner_best.proofs.best.Tie as tie
@@ -34,11 +32,9 @@ network : (c : tie.After-enum-told)
     Read (networkOf (now (start c .args .survey))) (read .result .shape) (read .last .1 .0) (read .last .1 .1 .0) (read .last .1 .1 .1 .0)
 network c = reading c .read-survey .ensures .accepted (c .enum-told .given .1)
 
--- its links stand in order at the front of the array
-ordered : (c : tie.After-order-links)
-    → let read = reading (c .before .before .before .before .before) .read-survey in
-    take (read .result .shape .m) (c .order-links .result) ≡ linkOrder (take (read .result .shape .m) (read .last .1 .1 .0))
-ordered c = rw (network (c .before .before .before .before .before) .plannable .fine .sum-count) at (c .order-links .ensures)
+-- the same where its usable links are in order
+abbrev told : tie.After-order-usable → tie.After-enum-told
+told c = c .before .before .before .before .before .before
 
 slice-aggregate-read-survey : tie.Need-slice-aggregate-read-survey
 slice-aggregate-read-survey c = search needs
@@ -76,60 +72,66 @@ cast-p c = search needs
 mul-size : tie.Need-mul-size
 mul-size c = omega (arith, network (c .before .before .before) .few-costs)
 
-array-share-prefix-sums : tie.Need-array-share-prefix-sums
-array-share-prefix-sums c = network (c .before .before .before) .sums-inside
-
-slice-aggregate-order-links : tie.Need-slice-aggregate-order-links
-slice-aggregate-order-links c = sym (network (c .before .before .before .before) .plannable .fine .sum-count)
-
-order-links-requires : tie.Need-order-links-requires
-order-links-requires c κs =
-    let fine = network (c .before .before .before .before) .plannable .fine in
-    (omega (arith, fine .sum-count, fine .few-links), λ e h. fine .cheap e (omega (arith, fine .sum-count)))
-
 mul-ends : tie.Need-mul-ends
-mul-ends c = omega (arith, network (c .before .before .before .before .before) .plannable .fine .few-links)
+mul-ends c = omega (arith, network (c .before .before .before) .plannable .fine .few-links)
 
 array-share-prefix-ends : tie.Need-array-share-prefix-ends
-array-share-prefix-ends c = network (c .before .before .before .before .before) .ends-inside
+array-share-prefix-ends c = network (c .before .before .before) .ends-inside
+
+slice-aggregate-order-usable : tie.Need-slice-aggregate-order-usable
+slice-aggregate-order-usable c = sym (network (c .before .before .before .before) .plannable .fine .end-count)
+
+array-share-prefix-sums : tie.Need-array-share-prefix-sums
+array-share-prefix-sums c = network (c .before .before .before .before) .sums-inside
+
+slice-aggregate-order-usable-2 : tie.Need-slice-aggregate-order-usable-2
+slice-aggregate-order-usable-2 c = sym (network (c .before .before .before .before .before) .plannable .fine .sum-count)
+
+order-usable-requires : tie.Need-order-usable-requires
+order-usable-requires c κs =
+    let can = network (c .before .before .before .before .before) .plannable in
+    let fine = can .fine in
+    (plannable-stations can, omega (arith, fine .sum-count, fine .few-links), λ e h. fine .cheap e (omega (arith, fine .sum-count)))
+
+mul-ends-2 : tie.Need-mul-ends-2
+mul-ends-2 c = omega (arith, network (told (c .before)) .plannable .fine .few-links)
+
+array-share-prefix-ends-2 : tie.Need-array-share-prefix-ends-2
+array-share-prefix-ends-2 c = network (told (c .before)) .ends-inside
 
 slice-aggregate-solve : tie.Need-slice-aggregate-solve
-slice-aggregate-solve c = sym (network (c .before .before .before .before .before .before) .plannable .fine .end-count)
+slice-aggregate-solve c = sym (network (told (c .before .before)) .plannable .fine .end-count)
 
 array-share-prefix-sums-2 : tie.Need-array-share-prefix-sums-2
-array-share-prefix-sums-2 c = network (c .before .before .before .before .before .before) .sums-inside
+array-share-prefix-sums-2 c = network (told (c .before .before)) .sums-inside
 
 slice-aggregate-solve-2 : tie.Need-slice-aggregate-solve-2
-slice-aggregate-solve-2 c = sym (network (c .before .before .before .before .before .before .before) .plannable .fine .sum-count)
+slice-aggregate-solve-2 c = sym (network (told (c .before .before .before)) .plannable .fine .sum-count)
 
 array-share-prefix-costs : tie.Need-array-share-prefix-costs
-array-share-prefix-costs c = network (c .before .before .before .before .before .before .before) .costs-inside
+array-share-prefix-costs c = network (told (c .before .before .before)) .costs-inside
 
 slice-aggregate-solve-3 : tie.Need-slice-aggregate-solve-3
-slice-aggregate-solve-3 c = sym (network (c .before .before .before .before .before .before .before .before) .plannable .fine .cost-count)
+slice-aggregate-solve-3 c = sym (network (told (c .before .before .before .before)) .plannable .fine .cost-count)
 
 array-share-prefix-order : tie.Need-array-share-prefix-order
-array-share-prefix-order c =
-    let size : length (c .before .before .before .order-links .result) ≡ linksHeld = search needs in
-    omega (arith, network (c .before .before .before .before .before .before .before .before) .plannable .fine .few-links)
+array-share-prefix-order c = c .before .before .before .before .order-usable .ensures .few
 
 slice-aggregate-solve-4 : tie.Need-slice-aggregate-solve-4
-slice-aggregate-solve-4 c =
-    let fine = network (c .before .before .before .before .before .before .before .before .before) .plannable .fine in
-    sym (ap length (ordered (c .before .before .before .before)) ∙ order-length _ ∙ fine .sum-count)
+slice-aggregate-solve-4 c = sym (length-take-le _ _ (c .before .before .before .before .before .order-usable .ensures .few))
 
 array-share-prefix-bounds : tie.Need-array-share-prefix-bounds
-array-share-prefix-bounds c = network (c .before .before .before .before .before .before .before .before .before) .plannable .fine .few-ceilings
+array-share-prefix-bounds c = network (told (c .before .before .before .before .before)) .plannable .fine .few-ceilings
 
 slice-aggregate-solve-5 : tie.Need-slice-aggregate-solve-5
-slice-aggregate-solve-5 c =
-    sym (length-take-le _ _ (network (c .before .before .before .before .before .before .before .before .before .before) .plannable .fine .few-ceilings))
+slice-aggregate-solve-5 c = sym (length-take-le _ _ (network (told (c .before .before .before .before .before .before)) .plannable .fine .few-ceilings))
 
 solve-requires : tie.Need-solve-requires
 solve-requires c κs =
-    let read = network (c .before .before .before .before .before .before .before .before .before .before .before) in
+    let order = c .before .before .before .before .before .before .before in
+    let read = network (told order) in
     let t = read .plannable .tree in
-    (read .plannable, ordered (c .before .before .before .before .before .before), length-take-le _ _ (read .plannable .fine .few-ceilings), omega arith)
+    (read .plannable, order .order-usable .ensures .links, length-take-le _ _ (read .plannable .fine .few-ceilings), omega arith)
 
 returns-2 : tie.Need-returns-2
 returns-2 c =
@@ -143,15 +145,15 @@ same-length c = search needs
 
 returns-3 : tie.Need-returns-3
 returns-3 c =
-    let told = c .before .before .before .before .before .before .before .before .before .before .before .before .before .before in
-    let i = start told in
-    let read = network told in
+    let ordered = c .before .before .before .before .before .before .before .before .before .before in
+    let i = start (told ordered) in
+    let read = network (told ordered) in
     let t = read .plannable .tree in
     let tree = now (i .args .tree) in
-    let room = c .before .before .before .before .before .before .before .before .before .before .before .before .if1 .left in
+    let room = ordered .before .before .before .before .if1 .left in
     let solved = rw (toZ-ofZ (i .fits .b1), toZ-ofZ (i .fits .b2)) at (c .before .before .solve .ensures) in
-    let e = asked-answer _ _ _ tree (accepted told) _ (read .network) _ (omega arith) (solved .0) in
-    (e, (answer-after _ _ _ tree (accepted told) _ (read .network) _ (omega arith) (solved .1), cut-asked _ _ _ _ e))
+    let e = asked-answer _ _ _ tree (accepted (told ordered)) _ (read .network) _ (omega arith) (solved .0) in
+    (e, (answer-after _ _ _ tree (accepted (told ordered)) _ (read .network) _ (omega arith) (solved .1), cut-asked _ _ _ _ e))
 
 pub best-spec : {M : Type 1} → statement M
 best-spec =
@@ -167,11 +169,14 @@ best-spec =
     returns
     cast-p
     mul-size
-    array-share-prefix-sums
-    slice-aggregate-order-links
-    order-links-requires
     mul-ends
     array-share-prefix-ends
+    slice-aggregate-order-usable
+    array-share-prefix-sums
+    slice-aggregate-order-usable-2
+    order-usable-requires
+    mul-ends-2
+    array-share-prefix-ends-2
     slice-aggregate-solve
     array-share-prefix-sums-2
     slice-aggregate-solve-2

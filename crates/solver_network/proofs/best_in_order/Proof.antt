@@ -76,7 +76,7 @@ best-of-requires c κs =
     let fine = p .0 .fine in
     let net = netOf (i .args .shape) (i .args .ends .now) (i .args .sums .now) (i .args .costs .now) in (
       record { ends-size = fine .end-count ∙ ap (λ (m : ℕ). 2 * m) (sym (fine .sum-count)); sums-size = omega (arith, fine .sum-count, fine .few-links) },
-      order-in-order _ (omega (arith, fine .sum-count, fine .few-links)) (λ e h. fine .cheap e (omega (arith, fine .sum-count))) (p .1),
+      order-in-order _ _ _ (omega (arith, fine .sum-count, fine .few-links)) (λ e h. fine .cheap e (omega (arith, fine .sum-count))) (p .1),
       rw (front asked .0, made asked, fine .sum-count) (net-patterned net fine (i .args .bounds .now) (p .2)),
       order-joinable net fine _ _ (p .0 .tree) (p .1),
       fine .few-exceptions,

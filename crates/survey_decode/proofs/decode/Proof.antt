@@ -1,6 +1,12 @@
 -- Each column is what its function ensures.
-use Rattle.survey_decode.specs.Decoded.{decoded}
+use Prim.Native.Nat.{_≤_}
+use native.Mathlib.Omega.{arith}
 use borrow.Author.Needs.{needs}
+use lib.ListN.{length}
+use Rattle.network.specs.Resting.{all-counted, working-few}
+use Rattle.network.specs.Survey.{stationsIn}
+use Rattle.network.specs.Yard.{working as stations}
+use Rattle.survey_decode.specs.Decoded.{decoded}
 use Rattle.survey_decode.proofs.decode.Statement.{statement}
 use Rattle.survey_decode.proofs.decode.Tie as tie
 
@@ -19,6 +25,12 @@ add-k2 c = search needs
 shared-slice-read-k2 : tie.Need-shared-slice-read-k2
 shared-slice-read-k2 c = search needs
 
+rest-in-requires : tie.Need-rest-in-requires
+rest-in-requires c κs = search needs
+
+count-working-requires : tie.Need-count-working-requires
+count-working-requires c κs = search needs
+
 decode-ends-requires : tie.Need-decode-ends-requires
 decode-ends-requires c κs = search needs
 
@@ -31,8 +43,14 @@ cast-decode-costs c = search needs
 decode-costs-requires : tie.Need-decode-costs-requires
 decode-costs-requires c κs = search needs
 
-sub-t12 : tie.Need-sub-t12
-sub-t12 c = search needs
+sub-t14 : tie.Need-sub-t14
+sub-t14 c =
+    let working = c .before .before .before .before .before .before .before .before .before .before .before .before in
+    let rest = working .before in
+    let start = rest .before .before .before .before .before .before .before .before in
+    let s = start .args .s .now in
+    let some : 1 ≤ length (stations (stationsIn s) (rest .rest-in .result)) = rw (rest .rest-in .ensures) (start .pre .some-station) in
+    omega (arith, working .count-working .ensures .0, working-few (stationsIn s) (rest .rest-in .result), all-counted (stationsIn s))
 
 same-length : tie.Need-same-length
 same-length c = search needs
@@ -45,8 +63,11 @@ same-length-3 c = search needs
 
 returns : tie.Need-returns
 returns c =
-    let sums = c .before .before .before .before .before in
-    decoded _ _ _ (sums .before .before .before .before .decode-ends .ensures) (sums .decode-sums .ensures) (c .before .decode-costs .ensures)
+    let sums = c .before .before .before .before .before .before in
+    let ends = sums .before .before .before .before in
+    let working = ends .before .before in
+    rw (working .count-working .ensures .0, working .before .rest-in .ensures)
+    (decoded _ _ _ (ends .decode-ends .ensures) (sums .decode-sums .ensures) (c .before .before .decode-costs .ensures))
 
 pub decode-spec : {M : Type 1} → statement M
 decode-spec =
@@ -57,11 +78,13 @@ decode-spec =
     shared-slice-read-k1
     add-k2
     shared-slice-read-k2
+    rest-in-requires
+    count-working-requires
     decode-ends-requires
     decode-sums-requires
     cast-decode-costs
     decode-costs-requires
-    sub-t12
+    sub-t14
     same-length
     same-length-2
     same-length-3

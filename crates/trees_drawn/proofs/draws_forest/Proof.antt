@@ -9,10 +9,11 @@ use Rattle.trees_drawn.proofs.draws_forest.Statement.{statement}
 use Rattle.trees_drawn.proofs.draws_forest.Tie as tie
 
 abbrev Inv-loop : tie.InvT-loop
-Inv-loop ends m links drawn₀ i₀ i-end drawn i = (i ≤ i-end) × (i-end ≡ length links) × (drawsFrom ends m drawn (drop i links) ≡ drawsForest ends m links)
+Inv-loop rest ends m links drawn₀ i₀ i-end drawn i =
+    (i ≤ i-end) × (i-end ≡ length links) × (drawsFrom rest ends m drawn (drop i links) ≡ drawsForest rest ends m links)
 
 abbrev μ-loop : tie.MeasureT-loop
-μ-loop ends m links drawn₀ i₀ i-end drawn i = i-end - i
+μ-loop rest ends m links drawn₀ i₀ i-end drawn i = i-end - i
 
 new-requires : tie.Need-new-requires Inv-loop μ-loop
 new-requires c κs = search needs
@@ -37,13 +38,13 @@ loop-again : tie.Need-loop-again Inv-loop μ-loop
 loop-again c =
     let v = c .before .before .before .loop in
     let h : v .i < length (c .before .before .before .before .before .before .before .args .links .now) = omega arith in
-    (omega arith, refl, draws-turn _ _ _ _ _ (v .inv .2) (c .draw .ensures) h)
+    (omega arith, refl, draws-turn _ _ _ _ _ _ (v .inv .2) (c .draw .ensures) h)
 
 returns : tie.Need-returns Inv-loop μ-loop
 returns c =
     let v = c .before .loop in
     let h : length (c .before .before .before .before .before .args .links .now) ≤ v .i = omega arith in
-    draws-end _ _ _ _ _ (v .inv .2) h
+    draws-end _ _ _ _ _ _ (v .inv .2) h
 
 pub draws-forest-spec : {M : Type 1} → statement M
 draws-forest-spec =

@@ -1,7 +1,7 @@
 -- t links that draw a forest are a tree, and no other number of links is.
 use mathlib.Core.Path.{_∙_}
 use borrow.Author.Needs.{needs}
-use Rattle.trees_drawn.specs.Drawn.{drawable-stations, size-drawn, tree-drawn}
+use Rattle.trees_drawn.specs.Drawn.{size-drawn, tree-drawn}
 use Rattle.trees_drawn.proofs.is_tree.Statement.{statement}
 use Rattle.trees_drawn.proofs.is_tree.Tie as tie
 
@@ -9,7 +9,7 @@ cast-if1 : tie.Need-cast-if1
 cast-if1 c = search needs
 
 draws-forest-requires : tie.Need-draws-forest-requires
-draws-forest-requires c κs = drawable-stations (c .before .before .before .before .pre)
+draws-forest-requires c κs = c .before .before .before .before .pre .stations
 
 returns : tie.Need-returns
 returns c =

@@ -4,10 +4,10 @@ use Rattle.alltrees.proofs.listing.least.Statement.{statement}
 use Rattle.alltrees.proofs.listing.least.Tie as tie
 
 abbrev Inv-loop : tie.InvT-loop
-Inv-loop from c1 c2 bits trees best₀ i₀ best i = i ≤ 128
+Inv-loop trees from c1 c2 bits best₀ i₀ i-end best i = i ≤ i-end
 
 abbrev μ-loop : tie.MeasureT-loop
-μ-loop from c1 c2 bits trees best₀ i₀ best i = 128 - i
+μ-loop trees from c1 c2 bits best₀ i₀ i-end best i = i-end - i
 
 loop-holds : tie.Need-loop-holds Inv-loop μ-loop
 loop-holds c = search needs
@@ -15,8 +15,8 @@ loop-holds c = search needs
 mul-lesser : tie.Need-mul-lesser Inv-loop μ-loop
 mul-lesser c = search needs
 
-array-read-lesser : tie.Need-array-read-lesser Inv-loop μ-loop
-array-read-lesser c = search needs
+shared-slice-read-lesser : tie.Need-shared-slice-read-lesser Inv-loop μ-loop
+shared-slice-read-lesser c = search needs
 
 lesser-requires : tie.Need-lesser-requires Inv-loop μ-loop
 lesser-requires c κs = search needs
@@ -41,7 +41,7 @@ least-spec =
     μ-loop
     loop-holds
     mul-lesser
-    array-read-lesser
+    shared-slice-read-lesser
     lesser-requires
     add-i
     loop-less

@@ -4,10 +4,10 @@ use Rattle.alltrees.proofs.listing.reached.Statement.{statement}
 use Rattle.alltrees.proofs.listing.reached.Tie as tie
 
 abbrev Inv-loop : tie.InvT-loop
-Inv-loop kind pairs set r₀ i₀ r i = i ≤ 35
+Inv-loop kind pairs set from r₀ i₀ r i = i ≤ 35
 
 abbrev μ-loop : tie.MeasureT-loop
-μ-loop kind pairs set r₀ i₀ r i = 35 - i
+μ-loop kind pairs set from r₀ i₀ r i = 35 - i
 
 loop-holds : tie.Need-loop-holds Inv-loop μ-loop
 loop-holds c = search needs

@@ -4,10 +4,10 @@ use Rattle.alltrees.proofs.plans.plans_of.Statement.{statement}
 use Rattle.alltrees.proofs.plans.plans_of.Tie as tie
 
 abbrev Inv-loop : tie.InvT-loop
-Inv-loop trees rows₀ plans₀ count₀ from₀ i₀ rows plans count from i = i ≤ 128
+Inv-loop trees rows₀ count₀ from₀ i₀ i-end rows count from i = i ≤ i-end
 
 abbrev μ-loop : tie.MeasureT-loop
-μ-loop trees rows₀ plans₀ count₀ from₀ i₀ rows plans count from i = 128 - i
+μ-loop trees rows₀ count₀ from₀ i₀ i-end rows count from i = i-end - i
 
 loop-holds : tie.Need-loop-holds Inv-loop μ-loop
 loop-holds c = search needs
@@ -15,14 +15,14 @@ loop-holds c = search needs
 least-requires : tie.Need-least-requires Inv-loop μ-loop
 least-requires c κs = search needs
 
+plan-requires : tie.Need-plan-requires Inv-loop μ-loop
+plan-requires c κs = search needs
+
 mul-rows : tie.Need-mul-rows Inv-loop μ-loop
 mul-rows c = search needs
 
 array-write-rows : tie.Need-array-write-rows Inv-loop μ-loop
 array-write-rows c = search needs
-
-is-plan-requires : tie.Need-is-plan-requires Inv-loop μ-loop
-is-plan-requires c κs = search needs
 
 cast-wrapping-add-u64 : tie.Need-cast-wrapping-add-u64 Inv-loop μ-loop
 cast-wrapping-add-u64 c = search needs
@@ -30,14 +30,8 @@ cast-wrapping-add-u64 c = search needs
 wrapping-add-u64-requires : tie.Need-wrapping-add-u64-requires Inv-loop μ-loop
 wrapping-add-u64-requires c κs = search needs
 
-cast-wrapping-add-u64-2 : tie.Need-cast-wrapping-add-u64-2 Inv-loop μ-loop
-cast-wrapping-add-u64-2 c = search needs
-
 wrapping-add-u64-requires-2 : tie.Need-wrapping-add-u64-requires-2 Inv-loop μ-loop
 wrapping-add-u64-requires-2 c κs = search needs
-
-wrapping-add-u64-requires-3 : tie.Need-wrapping-add-u64-requires-3 Inv-loop μ-loop
-wrapping-add-u64-requires-3 c κs = search needs
 
 add-i : tie.Need-add-i Inv-loop μ-loop
 add-i c = search needs
@@ -59,14 +53,12 @@ plans-of-spec =
     μ-loop
     loop-holds
     least-requires
+    plan-requires
     mul-rows
     array-write-rows
-    is-plan-requires
     cast-wrapping-add-u64
     wrapping-add-u64-requires
-    cast-wrapping-add-u64-2
     wrapping-add-u64-requires-2
-    wrapping-add-u64-requires-3
     add-i
     loop-less
     loop-again

@@ -7,7 +7,7 @@ use borrow.Author.Needs.{needs}
 use lib.ListN.{getD, length, length-set}
 use Rattle.order.specs.Test.{both}
 use Rattle.order.specs.Lists.{getD-mem}
-use Rattle.spanning.specs.Tree.{Within}
+use Rattle.spanning.specs.Tree.{EndsBelow}
 use Rattle.network.specs.Capacities.{patternsHeld, stationsHeld}
 use Rattle.network.specs.Yard.{endsAt}
 use Rattle.forest.specs.Groups.{leaders-differ, leaders-equal, leaders-joined}
@@ -45,7 +45,7 @@ known c =
     let below = known-at (p .3) (c .before .loop .k) (c .loop-test .taken) in
     (below, pattern-known _ _ _ (p .2) _ below)
 
-within : (c : tie.In-loop Inv-loop μ-loop) → Within stationsHeld (endsAt (start c .args .ends .now) (link-at c))
+within : (c : tie.In-loop Inv-loop μ-loop) → EndsBelow stationsHeld (endsAt (start c .args .ends .now) (link-at c))
 within c = start c .pre .1 (link-at c) (getD-mem (start c .args .order .now) (c .before .loop .k) 0 (c .loop-test .taken))
 
 fit-patterns-requires : tie.Need-fit-patterns-requires Inv-loop μ-loop

@@ -6,7 +6,8 @@ use borrow.Author.Needs.{needs}
 use lib.Dec.{eqb}
 use lib.ListN.{length, length-set, getD}
 use Rattle.exceptions_patterns.specs.Patterns.{normal}
-use Rattle.exceptions.specs.Select.{Collected, collect-end, collect-room, collect-start, collect-turn, known-at, one-at-most}
+use Rattle.kruskal_usable.specs.Collect.{Collected, collect-end, collect-room, collect-start, collect-turn, one-at-most}
+use Rattle.exceptions.specs.Select.{known-at}
 use Rattle.exceptions.proofs.select.put_normal.Statement.{statement}
 use Rattle.exceptions.proofs.select.put_normal.Tie as tie
 

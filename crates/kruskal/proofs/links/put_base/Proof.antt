@@ -9,7 +9,7 @@ use lib.ListN.{length, length-set, getD, set}
 use Rattle.order.specs.Lists.{getD-mem}
 use Rattle.spanning.specs.Labelling.{Edge, crosses}
 use Rattle.spanning.specs.LabelList.{labelOf}
-use Rattle.spanning.specs.Tree.{Within}
+use Rattle.spanning.specs.Tree.{EndsBelow}
 use Rattle.network.specs.Capacities.{stationsHeld}
 use Rattle.network.specs.Yard.{endsAt, sumAt}
 use Rattle.encoding_overwrite.specs.Overwrite.{length-overwrite}
@@ -42,7 +42,7 @@ ends-at c = endsAt (start c .args .ends .now) (link-at c)
 usable : (c : tie.In-loop Inv-loop μ-loop) → Usable (start c .args .sums .now) (link-at c)
 usable c = walk-usable (start c .pre .1) _ (c .loop-test .taken)
 
-within : (c : tie.In-loop Inv-loop μ-loop) → Within stationsHeld (ends-at c)
+within : (c : tie.In-loop Inv-loop μ-loop) → EndsBelow stationsHeld (ends-at c)
 within c = joinable-near (start c .pre .2) (link-at c) (getD-mem (start c .args .links .now) (c .before .loop .at) 0 (c .loop-test .taken))
 
 new-requires : tie.Need-new-requires Inv-loop μ-loop

@@ -13,6 +13,7 @@ use Rattle.network.specs.Network.{Network}
 use Rattle.network.specs.PlanList.{bufferNeed, headSize, planSize, planSlots}
 use Rattle.network.specs.Shaped.{netOf}
 use Rattle.network.specs.Walk.{positionCount}
+use Rattle.stations.specs.Stations.{plannable-stations}
 use Rattle.walk_visit.specs.Visit.{Ready, griddable, ready-grid}
 use Rattle.walk_positions.specs.Lent.{lent-back}
 use Rattle.walk.specs.Call.{room-reply, short-reply}
@@ -39,16 +40,16 @@ start c = c .before .before .before .before .before
 -- the values stand at the front of their array
 front : (c : tie.After-grid-of)
     → let n = length (start c .args .costs .now) in
-    let l = c .grid-of .last .1 .1 .0 in
+    let l = c .grid-of .last .1 .1 .1 .0 in
     let array = l ++ drop n (replicate (ceilingsHeld * linksHeld) (pos 0)) in
     (take n array ≡ l) × (length (take n array) ≡ n) × (n ≤ length array) × (length array ≡ ceilingsHeld * linksHeld)
 front c =
-    lent-back (c .grid-of .last .1 .1 .0) (replicate (ceilingsHeld * linksHeld) (pos 0)) (length (start c .args .costs .now))
-    (c .grid-of .kept .1 .1 .0 ∙ values-size (start c)) refl (few (start c))
+    lent-back (c .grid-of .last .1 .1 .1 .0) (replicate (ceilingsHeld * linksHeld) (pos 0)) (length (start c .args .costs .now))
+    (c .grid-of .kept .1 .1 .1 .0 ∙ values-size (start c)) refl (few (start c))
 
 -- what the walk sets out with
 ready : (c : tie.After-grid-of)
-    → let a = start c .args in Ready (a .shape) (a .ends .now) (a .sums .now) (a .costs .now) (c .grid-of .last .1 .1 .0) (c .grid-of .result)
+    → let a = start c .args in Ready (a .shape) (a .ends .now) (a .sums .now) (a .costs .now) (c .grid-of .last .1 .1 .1 .0) (c .grid-of .result)
 ready c = ready-grid (start c .pre) (c .grid-of .ensures)
 
 -- ---- when the need is known
@@ -71,7 +72,7 @@ slice-aggregate-grid-of : tie.Need-slice-aggregate-grid-of
 slice-aggregate-grid-of c = sym (values-size (c .before .before .before .before))
 
 grid-of-requires : tie.Need-grid-of-requires
-grid-of-requires c κs = let s = c .before .before .before .before in griddable (s .pre) (values-size s)
+grid-of-requires c κs = let s = c .before .before .before .before in (plannable-stations (s .pre), griddable (s .pre) (values-size s))
 
 need-requires : tie.Need-need-requires
 need-requires c κs =

@@ -10,13 +10,14 @@ use lib.IntN.{ℤ}
 use lib.ListN.{drop, getD, length, take}
 use lib.Seq.{length-take-le}
 use Rattle.network.specs.Calls.{treeWith}
-use Rattle.network.specs.Capacities.{ceilingsHeld, linksHeld, plansHeld, treeHeld}
+use Rattle.network.specs.Capacities.{ceilingsHeld, plansHeld, treeHeld}
 use Rattle.network.specs.Network.{Network}
 use Rattle.network.specs.PlanList.{headSize, planSize, planSlots}
+use Rattle.network.specs.Resting.{working-few}
 use Rattle.network.specs.Shaped.{netOf}
 use Rattle.network.specs.Walk.{positionCount, positions}
 use Rattle.network.specs.Yard.{best, treeSize, yard}
-use Rattle.kruskal_order.specs.ByCost.{linkOrder, order-length}
+use Rattle.stations.specs.Stations.{plannable-stations}
 use Rattle.solver.specs.Question.{answerOf}
 use Rattle.marking_marks.specs.Settle.{Settled}
 use Rattle.marking_marks.specs.Unmarked.{unmarked-is}
@@ -30,13 +31,13 @@ use Rattle.walk_positions.proofs.positions.visit_all.Statement.{stateme
 use Rattle.walk_positions.proofs.positions.visit_all.Tie as tie
 
 abbrev Inv-loop : tie.InvT-loop
-Inv-loop shape ends sums costs _ _ allowance out₀ _ _ _ total _ _ _ _ _ _ _ _ out places bounds tree marks n plans solved =
+Inv-loop shape ends sums costs _ _ allowance out₀ _ _ total _ _ _ _ _ _ _ _ _ out places bounds tree marks n plans solved =
     (length places ≡ ceilingsHeld) × (length bounds ≡ ceilingsHeld) × (length tree ≡ treeHeld) × (length marks ≡ plansHeld)
     × (length out ≡ length out₀) × (n ≤ total) × (plans ≤ n) × (solved ≤ n) × (solved ≤ allowance)
     × (n < total → getD marks n 0 ≡ 0) × Progress (netOf shape ends sums costs) n marks out plans solved
 
 abbrev μ-loop : tie.MeasureT-loop
-μ-loop _ _ _ _ _ _ _ _ _ _ _ total _ _ _ _ _ _ _ _ _ _ _ _ _ n _ _ = total - n
+μ-loop _ _ _ _ _ _ _ _ _ _ total _ _ _ _ _ _ _ _ _ _ _ _ _ _ n _ _ = total - n
 
 -- the network of a call
 abbrev network : tie.Start Inv-loop μ-loop → Network
@@ -48,17 +49,14 @@ counted s = (s .pre .0 .gridded .total, s .pre .0 .plannable .fine .few-position
 
 -- a tree has room in its array
 tree-room : (s : tie.Start Inv-loop μ-loop) → s .args .shape .t ≤ treeHeld
-tree-room s = let can = s .pre .0 .plannable in omega (arith, can .tree, can .fine .few-stations)
-
--- the links stand in order at the front of their array
-ordered : (c : tie.After-order-links Inv-loop μ-loop)
-    → let a = c .before .before .before .before .before .before .args in take (a .shape .m) (c .order-links .result) ≡ linkOrder (a .sums .now)
-ordered c = rw (c .before .before .before .before .before .before .pre .0 .plannable .fine .sum-count) at (c .order-links .ensures)
+tree-room s =
+    let can = s .pre .0 .plannable in
+    omega (arith, can .tree, can .fine .few-stations, working-few (s .args .shape .n) (s .args .shape .rest))
 
 -- ---- a turn
 
 abbrev entry : tie.In-loop Inv-loop μ-loop → tie.Start Inv-loop μ-loop
-entry c = c .before .before .before .before .before .before .before .before
+entry c = c .before .before .before .before .before .before .before .before .before
 
 -- its position is one of them
 inside : (c : tie.In-loop Inv-loop μ-loop) → c .before .loop .n < positionCount (network (entry c))
@@ -189,14 +187,15 @@ cast-p c = search needs
 cast-t : tie.Need-cast-t Inv-loop μ-loop
 cast-t c = search needs
 
-order-links-requires : tie.Need-order-links-requires Inv-loop μ-loop
-order-links-requires c κs =
-    let fine = c .before .before .before .before .before .pre .0 .plannable .fine in
-    (omega (arith, fine .sum-count, fine .few-links), λ e h. fine .cheap e (omega (arith, fine .sum-count)))
+order-usable-requires : tie.Need-order-usable-requires Inv-loop μ-loop
+order-usable-requires c κs =
+    let can = c .before .before .before .before .before .pre .0 .plannable in
+    let fine = can .fine in
+    (plannable-stations can, omega (arith, fine .sum-count, fine .few-links), λ e h. fine .cheap e (omega (arith, fine .sum-count)))
 
 loop-holds : tie.Need-loop-holds Inv-loop μ-loop
 loop-holds c =
-    let s = c .before .before .before .before .before .before in
+    let s = c .before .before .before .before .before .before .before in
     let begun = start (network s) plansHeld (s .args .out .now) (counted s .1) in
     (refl, refl, refl, refl, refl, omega arith, omega arith, omega arith, omega arith, λ h. refl, begun)
 
@@ -232,15 +231,10 @@ put-position-requires c κs =
     (locatable (entry turn .pre .0) (turn .before .loop .n) (inside turn), ceilings turn .0, ceilings turn .1)
 
 array-share-prefix-order : tie.Need-array-share-prefix-order Inv-loop μ-loop
-array-share-prefix-order c =
-    let turn = located (c .before .before) in
-    let size : length (turn .before .before .order-links .result) ≡ linksHeld = search needs in
-    omega (arith, entry turn .pre .0 .plannable .fine .few-links)
+array-share-prefix-order c = located (c .before .before) .before .before .before .order-usable .ensures .few
 
 slice-aggregate-solve : tie.Need-slice-aggregate-solve Inv-loop μ-loop
-slice-aggregate-solve c =
-    let turn = located (c .before .before .before) in
-    sym (ap length (ordered (turn .before .before)) ∙ order-length _ ∙ entry turn .pre .0 .plannable .fine .sum-count)
+slice-aggregate-solve c = sym (length-take-le _ _ (located (c .before .before .before) .before .before .before .order-usable .ensures .few))
 
 array-share-prefix-bounds : tie.Need-array-share-prefix-bounds Inv-loop μ-loop
 array-share-prefix-bounds c = let found = c .before .before .before in bounds-front found .2
@@ -256,7 +250,8 @@ solve-requires c κs =
     let found = c .before .before .before .before .before in
     let turn = located found in
     let s = entry turn in
-    (s .pre .0 .plannable, ordered (turn .before .before), bounds-front found .1, omega (arith, tree-room s, turn .before .loop .inv .2))
+    let order = turn .before .before .before .order-usable .ensures in
+    (s .pre .0 .plannable, order .links, bounds-front found .1, omega (arith, tree-room s, turn .before .loop .inv .2))
 
 slice-aggregate-settle : tie.Need-slice-aggregate-settle Inv-loop μ-loop
 slice-aggregate-settle c = sym (c .before .before .before .before .before .before .before .before .before .before .before .before .before .loop .inv .3)
@@ -351,7 +346,7 @@ same-length-2 c = omega arith
 returns-2 : tie.Need-returns-2 Inv-loop μ-loop
 returns-2 c =
     let l = c .before .before .loop in
-    let s = c .before .before .before .before .before .before .before .before .before in
+    let s = c .before .before .before .before .before .before .before .before .before .before in
     rw (c .outcome2 .ensures) (ended-outcome (network s) (omega (arith, counted s .0, l .inv .5, l .inv .6)) (l .inv .8)
     (finish (network s) (s .pre .0 .plannable .fine) (l .n) (omega (arith, counted s .0, c .before .loop-test .left)) (l .inv .10)))
 
@@ -363,7 +358,7 @@ visit-all-spec =
     μ-loop
     cast-p
     cast-t
-    order-links-requires
+    order-usable-requires
     loop-holds
     outcome-requires
     same-length

@@ -2,8 +2,8 @@
 use mathlib.Core.Path.{sym}
 use borrow.Author.Needs.{needs}
 use lib.ListN.{List·getD-eq-default}
-use Rattle.trees_drawing.proofs.station.Statement.{statement}
-use Rattle.trees_drawing.proofs.station.Tie as tie
+use Rattle.stations.proofs.station_at.Statement.{statement}
+use Rattle.stations.proofs.station_at.Tie as tie
 
 shared-slice-read-result : tie.Need-shared-slice-read-result
 shared-slice-read-result c = search needs
@@ -14,5 +14,5 @@ returns c = search needs
 returns-2 : tie.Need-returns-2
 returns-2 c = sym (List·getD-eq-default (c .before .args .ends .now) 0 (c .if1 .left))
 
-pub station-spec : {M : Type 1} → statement M
-station-spec = tie.close (tie.spec shared-slice-read-result returns returns-2)
+pub station-at-spec : {M : Type 1} → statement M
+station-at-spec = tie.close (tie.spec shared-slice-read-result returns returns-2)

@@ -7,7 +7,7 @@
 #include <stdio.h>
 #include <string.h>
 
-/* Survey A of document 01, and the yard of one station, whose tree has no links. */
+/* Survey A of document 01, the yard of one station, whose tree has no links, and one of two stations and a link, of which station 1 rests. */
 static const uint8_t survey_a[] = {
     0x59, 0x44, 3, 1, 1, 0,
     0x4C, 0x4B, 0, 1, 4, 0, 0, 0, 7, 0, 0, 0,
@@ -15,6 +15,7 @@ static const uint8_t survey_a[] = {
     0x4C, 0x4B, 0, 2, 1, 0, 0, 0, 9, 0, 0, 0,
 };
 static const uint8_t single[] = {0x59, 0x44, 1, 0, 0, 0};
+static const uint8_t resting[] = {0x59, 0x46, 2, 0, 0, 0, 1, 2, 0, 0, 0x4C, 0x4B, 0, 1, 5, 0, 0, 0, 0, 0, 0, 0};
 
 /* The figures of one link between two stations under a ceiling, and its survey where the costs are not handed in. */
 static const ranqustei_yard yard = {2, 1, 1, 0}, single_yard = {1, 0, 0, 0};
@@ -75,6 +76,7 @@ static void judge(void)
     check("judge, neither", bare_reply(ranqustei_judge(NULL, 0, NULL, 0), RANQUSTEI_BAD_LENGTH));
     check("judge, no links", bare_reply(ranqustei_judge(survey_a, sizeof survey_a, NULL, 0), RANQUSTEI_NOT_A_TREE));
     check("judge, no links for one station", bare_reply(ranqustei_judge(single, sizeof single, NULL, 0), RANQUSTEI_OK));
+    check("judge, no links for one at work", bare_reply(ranqustei_judge(resting, sizeof resting, NULL, 0), RANQUSTEI_OK));
 }
 
 static void best(void)
@@ -83,6 +85,7 @@ static void best(void)
     check("best, neither", bare_reply(ranqustei_best(NULL, 0, 8, 0, NULL, 0), RANQUSTEI_BAD_LENGTH));
     check("best, no buffer", bare_reply(ranqustei_best(survey_a, sizeof survey_a, 8, 0, NULL, 0), RANQUSTEI_SHORT_BUFFER));
     check("best, no buffer for one station", bare_reply(ranqustei_best(single, sizeof single, 8, 0, NULL, 0), RANQUSTEI_OK));
+    check("best, no buffer for one at work", bare_reply(ranqustei_best(resting, sizeof resting, 8, 0, NULL, 0), RANQUSTEI_OK));
 }
 
 static void list(void)
@@ -91,6 +94,7 @@ static void list(void)
     check("list, neither", bare_status(ranqustei_list(NULL, 0, RANQUSTEI_POSITIONS, NULL, 0), RANQUSTEI_BAD_LENGTH));
     check("list, no buffer", bare_status(ranqustei_list(survey_a, sizeof survey_a, RANQUSTEI_POSITIONS, NULL, 0), RANQUSTEI_SHORT_BUFFER));
     check("list, no buffer for one station", bare_status(ranqustei_list(single, sizeof single, 0, NULL, 0), RANQUSTEI_SHORT_BUFFER));
+    check("list, no buffer for one at work", bare_status(ranqustei_list(resting, sizeof resting, 0, NULL, 0), RANQUSTEI_SHORT_BUFFER));
 }
 
 static void fetch(void)

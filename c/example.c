@@ -1,4 +1,4 @@
-/* Every call on survey A of document 01, its list and its figures, and the ceilings question with a yard record that counts the links. */
+/* Every call on survey A of document 01, its list and its figures, and calls on it with the other yard records. */
 #include "ranqustei.h"
 
 #include <stdio.h>
@@ -14,6 +14,10 @@ static const uint8_t survey[] = {0x59, 0x44, 3, 1, 1, 0, LINKS};
 /* The same with the counted yard record, and its length when the last link is cut off. */
 static const uint8_t counted[] = {0x59, 0x45, 3, 1, 1, 0, 3, LINKS};
 enum { CUT_OFF = sizeof counted - 12 };
+
+/* The same with the resting yard record: station 1 rests, so that the tree is link 2; and all rest. */
+static const uint8_t resting[] = {0x59, 0x46, 3, 1, 1, 0, 3, 2, 0, 0, LINKS};
+static const uint8_t all_resting[] = {0x59, 0x46, 3, 1, 1, 0, 3, 7, 0, 0, LINKS};
 
 static void print_links(const uint8_t *links, size_t count)
 {
@@ -45,9 +49,9 @@ static void print_found(const char *what, ranqustei_found found)
 
 static uint8_t list[RANQUSTEI_LIST_BYTES];
 
-static void list_and_fetch(void)
+static void list_and_fetch(const char *what, const uint8_t *bytes, size_t length)
 {
-    print_status("list", ranqustei_list(survey, sizeof survey, RANQUSTEI_POSITIONS, list, sizeof list));
+    print_status(what, ranqustei_list(bytes, length, RANQUSTEI_POSITIONS, list, sizeof list));
     ranqustei_part part = ranqustei_fetch(list, sizeof list, 0);
     for (uint32_t r = 0; part.number == RANQUSTEI_OK; part = ranqustei_fetch(list, sizeof list, ++r)) {
         printf("plan %u, links", (unsigned)r);
@@ -97,6 +101,16 @@ static void write_surveys(void)
     print_status("write, a byte too few", write_a(RANQUSTEI_YARD_PLAIN, ends, sizeof survey - 1));
 }
 
+static void rest(void)
+{
+    static const uint8_t usable[] = {2}, unusable[] = {0};
+
+    list_and_fetch("list, station 1 at rest", resting, sizeof resting);
+    print_reply("drawn 2", ranqustei_judge(resting, sizeof resting, usable, sizeof usable));
+    print_reply("drawn 0", ranqustei_judge(resting, sizeof resting, unusable, sizeof unusable));
+    print_reply("all at rest", ranqustei_judge(all_resting, sizeof all_resting, usable, sizeof usable));
+}
+
 int main(void)
 {
     static const uint8_t drawn[] = {0, 2}, ring[] = {0, 1, 2};
@@ -106,7 +120,7 @@ int main(void)
         printf("the archive has version %u, the header %d\n", (unsigned)ranqustei_version(), RANQUSTEI_VERSION);
         return 1;
     }
-    list_and_fetch();
+    list_and_fetch("list", survey, sizeof survey);
     index_and_look_up();
     print_reply("best under 8", ranqustei_best(survey, sizeof survey, 8, 0, tree, sizeof tree));
     printf("its links");
@@ -118,5 +132,6 @@ int main(void)
     print_reply("counted, best under 8", ranqustei_best(counted, sizeof counted, 8, 0, tree, sizeof tree));
     print_reply("counted, its last link cut off", ranqustei_best(counted, CUT_OFF, 8, 0, tree, sizeof tree));
     write_surveys();
+    rest();
     return 0;
 }

@@ -12,16 +12,18 @@
  * entries as its length says, aligned as C has it for their type, and bytes that a call writes are not also lent to it as another argument. A pointer
  * with a length of 0 may be null: nothing is read or written through it. Calls from several threads at once do not disturb each other.
  *
- * Letters. n is the number of stations, m the number of links, p the number of ceilings, and t = n - 1 the number of links of a tree. M is the
- * number of positions: for each ceiling count the different costs that the links have for it, and multiply; without ceilings M is 1.
+ * Letters. n is the number of stations, m the number of links and p the number of ceilings. A station works or rests; it works unless its yard record
+ * says that it rests. A link is usable if both its ends work. A tree joins the working stations by usable links, and t is the number of its links, the
+ * working stations less 1. M is the number of positions: for each ceiling count the different costs that the usable links have for it, and multiply;
+ * without ceilings M is 1. Links have their numbers whether they are usable or not.
  *
  * Bytes. A number of several bytes has its low byte first. Sums and ceiling costs are two's complement; all other numbers have no sign. Marks are
  * hexadecimal, everything else is decimal.
  *
- * A survey is a yard record and then m link records. Its first two bytes say which yard record it has: the plain one, of 6 bytes, or the counted one,
- * of 7, which also holds m, so that an accepted survey is declined once it is cut off, wherever that is. With the plain one a survey has 6 + 12 * m
- * bytes in all, and link i, counted from 0, begins at byte 6 + 12 * i; with the counted one put 7 for 6. Bytes that begin with neither mark are measured
- * as the plain one is.
+ * A survey is a yard record and then m link records. Its first two bytes say which yard record it has: the plain one, of 6 bytes; the counted one, of
+ * 7, which also holds m, so that an accepted survey is declined once it is cut off, wherever that is; or the resting one, of 10, which also says which
+ * stations rest. With the plain one a survey has 6 + 12 * m bytes in all, and link i, counted from 0, begins at byte 6 + 12 * i; with the counted one
+ * put 7 for 6, with the resting one 10. Bytes that begin with none of these marks are measured as the plain one is.
  *
  *     plain yard record, 6 bytes
  *     offset  size  field                      range
@@ -36,6 +38,12 @@
  *     0       2     mark                       59 45
  *     2       4     n, p, k1, k2               as in the plain one
  *     6       1     m, the links               0 to 40, as many as follow
+ *
+ *     resting yard record, 10 bytes
+ *     offset  size  field                      range
+ *     0       2     mark                       59 46
+ *     2       5     n, p, k1, k2, m            as in the counted one
+ *     7       3     the stations at rest       below n, and fewer than n: bit j % 8 of byte 7 + j / 8, the low bit first, is 1 if station j rests
  *
  *     link record, 12 bytes
  *     offset  size  field                      range
@@ -81,7 +89,7 @@ extern "C" {
 /* The most bytes of a tree, of a survey that is accepted, of a plan list and of an index; and the most positions that a list call solves. */
 enum {
     RANQUSTEI_TREE_BYTES = 23,
-    RANQUSTEI_SURVEY_BYTES = 487,
+    RANQUSTEI_SURVEY_BYTES = 490,
     RANQUSTEI_LIST_BYTES = 52810,
     RANQUSTEI_INDEX_BYTES = 3200,
     RANQUSTEI_POSITIONS = 1600
@@ -90,7 +98,7 @@ enum {
 /*
  * The number in every reply: RANQUSTEI_OK, or why the call declined. A call gives the first number of its row whose cause holds:
  *
- *     judge   1, 2 for the yard record, 3, 4, 15, 5, 6; then 2, 7, 8 for link 0, then for link 1, and so on; then 11
+ *     judge   1, 2 for the yard record, 3, 4, 15, 18, 5, 6; then 2, 7, 8 for link 0, then for link 1, and so on; then 11
  *     best    as judge up to the last link; then 9, 14
  *     list    as judge up to the last link; then 9, 10
  *     fetch   12 for head or length; then 13; then 12 for the mark of plan r
@@ -103,9 +111,11 @@ enum {
 enum {
     /* The call succeeded. */
     RANQUSTEI_OK = 0,
-    /* The survey has fewer than 6 bytes, or its length less 6 is no multiple of 12; with the mark of the counted yard record put 7 for 6. */
+    /* The survey has fewer than 6 bytes, or its length less 6 is no multiple of 12; with the mark of the counted yard record put 7 for 6, of the
+       resting one 10. */
     RANQUSTEI_BAD_LENGTH = 1,
-    /* The yard record begins with neither of its marks, the kind to be written is neither, or a link record (place) does not begin with its mark. */
+    /* The yard record begins with none of its marks, the kind to be written is not one of those below, or a link record (place) does not begin with its
+       mark. */
     RANQUSTEI_BAD_MARK = 2,
     /* There are no stations, or more than 24. */
     RANQUSTEI_BAD_STATIONS = 3,
@@ -123,7 +133,7 @@ enum {
     RANQUSTEI_SHORT_BUFFER = 9,
     /* More positions would have to be solved than the allowance says. */
     RANQUSTEI_PAST_ALLOWANCE = 10,
-    /* The drawn links are not t, do not rise, are not all in the survey, or have a ring. */
+    /* The drawn links are not t, do not rise, are not all in the survey and usable, or have a ring. */
     RANQUSTEI_NOT_A_TREE = 11,
     /* The plan list is damaged, or the index is not its own. */
     RANQUSTEI_DAMAGED_LIST = 12,
@@ -136,17 +146,19 @@ enum {
     /* The index buffer has fewer than 2 bytes for each plan. */
     RANQUSTEI_SHORT_INDEX = 16,
     /* The output has fewer bytes than the survey that is to be written. */
-    RANQUSTEI_SHORT_OUTPUT = 17
+    RANQUSTEI_SHORT_OUTPUT = 17,
+    /* The resting yard record says that a station rests which the yard does not have, or that all rest. */
+    RANQUSTEI_BAD_REST = 18
 };
 
-/* The kinds of yard record that a survey is written with: the mark as a number, its first byte high. */
+/* The kinds of yard record that a survey is written with: the mark as a number, its first byte high. The resting one is only read. */
 enum {
     RANQUSTEI_YARD_PLAIN = 0x5944,
     RANQUSTEI_YARD_COUNTED = 0x5945
 };
 
 /* The version of what this header declares: it changes whenever a struct, a call or the meaning of a reply changes. */
-enum { RANQUSTEI_VERSION = 5 };
+enum { RANQUSTEI_VERSION = 6 };
 
 /* The figures of a yard record: the stations, the ceilings and their ranks. */
 typedef struct {

@@ -14,7 +14,7 @@
 
 enum { STACK = 1 << 18, PATTERN = 0xA5 };
 enum { LINKS = 40, LINK_BYTES = 12 };
-enum { PLANS = RANQUSTEI_POSITIONS, HEAD_BYTES = 10, PLAN_BYTES = 10 + RANQUSTEI_TREE_BYTES };
+enum { PLANS = RANQUSTEI_POSITIONS, HEAD_BYTES = 10, TREE_LINKS = 8, PLAN_BYTES = 10 + RANQUSTEI_TREE_BYTES };
 
 static _Alignas(4096) uint8_t stack[STACK];
 static uint8_t survey[4096], list[RANQUSTEI_LIST_BYTES], tree[RANQUSTEI_TREE_BYTES], built[RANQUSTEI_INDEX_BYTES];
@@ -44,13 +44,11 @@ static void *best(void *unused)
     return unused;
 }
 
-/* Judges the tree that `best` found. */
+/* Judges the tree that `best` found; the list's head has the number of its links. */
 static void *judge(void *unused)
 {
-    size_t drawn = survey[2] - 1u;
-
     NOTE_CALLER();
-    ranqustei_judge(survey, survey_length, tree, drawn < sizeof tree ? drawn : sizeof tree);
+    ranqustei_judge(survey, survey_length, tree, list[TREE_LINKS]);
     return unused;
 }
 
@@ -110,10 +108,16 @@ static void measure_list(void)
     printf(" %zu |\n", taken(look_up));
 }
 
+/* The bytes of the yard record that the survey's mark names. */
+static size_t yard_bytes(void)
+{
+    return survey[1] == 0x46 ? 10 : survey[1] == 0x45 ? 7 : 6;
+}
+
 /* Takes the figures of the links from the survey; the machine has its low bytes first, as the records have. */
 static void take_links(void)
 {
-    const uint8_t *record = survey + (survey[1] == 0x45 ? 7 : 6), *end = survey + survey_length;
+    const uint8_t *record = survey + yard_bytes(), *end = survey + survey_length;
 
     for (links = 0; links < LINKS && record + LINK_BYTES <= end; links++, record += LINK_BYTES) {
         memcpy(ends + 2 * links, record + 2, 2);

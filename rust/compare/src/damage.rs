@@ -2,17 +2,23 @@
 
 use crate::draft::{Draft, LinkDraft};
 use crate::rng::Rng;
+use crate::site::set_bit;
 use crate::sums::LIMITS_AND_OUTSIDE;
 use peer::records::YARD_RECORDS;
+use peer::rest::REST_BYTES;
+use peer::survey::MAX_STATIONS;
 
 /// Costs that an absent ceiling must not have.
 pub const COSTS_NOT_0: [i16; 4] = [1, -1, 256, i16::MIN];
 
 /// A yard mark that no kind of yard record has.
-const UNKNOWN_MARK: [u8; 2] = [0x59, 0x46];
+const UNKNOWN_MARK: [u8; 2] = [0x59, 0x47];
 
-/// The kinds of damage to the fields of a survey.
-const FIELD_DAMAGES: [fn(&mut Draft, &mut Rng); 17] = [
+/// Something done to the fields of a survey.
+type FieldDamage = fn(&mut Draft, &mut Rng);
+
+/// The kinds of damage to the fields of any survey.
+const FIELD_DAMAGES: [FieldDamage; 17] = [
     yard_mark,
     other_mark,
     unknown_mark,
@@ -32,6 +38,10 @@ const FIELD_DAMAGES: [fn(&mut Draft, &mut Rng); 17] = [
     wrong_count,
 ];
 
+/// The kinds of damage to rest bytes.
+const REST_DAMAGES: [FieldDamage; 4] =
+    [other_bit_of_rest, rest_past_stations, all_at_rest, any_rest];
+
 /// The kinds of damage to the bytes of a survey.
 const BYTE_DAMAGES: [fn(&mut Vec<u8>, &mut Rng); 5] = [
     truncate,
@@ -41,11 +51,18 @@ const BYTE_DAMAGES: [fn(&mut Vec<u8>, &mut Rng); 5] = [
     clear,
 ];
 
+/// The kinds of damage to the fields that a survey has.
+fn field_damages(draft: &Draft) -> Vec<FieldDamage> {
+    let of_rest = draft.rest.iter().flat_map(|_| REST_DAMAGES);
+    FIELD_DAMAGES.into_iter().chain(of_rest).collect()
+}
+
 /// The bytes of a survey with one to four damages.
 pub fn damaged(mut draft: Draft, rng: &mut Rng) -> Vec<u8> {
+    let damages = field_damages(&draft);
     let in_fields = rng.below(4);
     for _ in 0..in_fields {
-        rng.pick(&FIELD_DAMAGES)(&mut draft, rng);
+        rng.pick(&damages)(&mut draft, rng);
     }
     let mut bytes = draft.bytes();
     if in_fields == 0 || rng.once_in(4) {
@@ -56,9 +73,10 @@ pub fn damaged(mut draft: Draft, rng: &mut Rng) -> Vec<u8> {
 
 /// All drafts with two damages to their fields, in either order.
 pub fn damaged_in_pairs(draft: &Draft, rng: &mut Rng) -> Vec<Draft> {
+    let damages = field_damages(draft);
     let mut drafts = Vec::new();
-    for first in FIELD_DAMAGES {
-        for second in FIELD_DAMAGES {
+    for first in &damages {
+        for second in &damages {
             let mut draft = draft.clone();
             first(&mut draft, rng);
             second(&mut draft, rng);
@@ -202,6 +220,33 @@ fn wrong_count(draft: &mut Draft, rng: &mut Rng) {
         let any = rng.bits() as u8;
         *count = rng.pick(&[before, after, 0, 255, any]);
     }
+}
+
+fn other_bit_of_rest(draft: &mut Draft, rng: &mut Rng) {
+    let (byte, bit) = (rng.below(REST_BYTES), rng.below(8));
+    if let Some(rest) = &mut draft.rest {
+        rest[byte] ^= 1 << bit;
+    }
+}
+
+fn rest_past_stations(draft: &mut Draft, rng: &mut Rng) {
+    let [first, last] = [draft.stations, MAX_STATIONS as u8 - 1];
+    if let (Some(rest), true) = (&mut draft.rest, first <= last) {
+        let any = rng.within(first.into()..=last.into()) as u8;
+        set_bit(rest, rng.pick(&[first, last, any]));
+    }
+}
+
+fn all_at_rest(draft: &mut Draft, _: &mut Rng) {
+    let stations = draft.stations.min(MAX_STATIONS as u8);
+    if let Some(rest) = &mut draft.rest {
+        (0..stations).for_each(|station| set_bit(rest, station));
+    }
+}
+
+fn any_rest(draft: &mut Draft, rng: &mut Rng) {
+    let bytes = [(); REST_BYTES].map(|()| rng.bits() as u8);
+    draft.rest = draft.rest.map(|_| bytes);
 }
 
 fn any_link<'a>(draft: &'a mut Draft, rng: &mut Rng) -> Option<&'a mut LinkDraft> {

@@ -1,6 +1,7 @@
 //! A survey in the making: any field can hold any value, legal or not.
 
 use peer::records::{YardRecord, LINK_BYTES, LINK_MARK};
+use peer::rest::REST_BYTES;
 use peer::Figures;
 use std::ops::Range;
 
@@ -36,6 +37,8 @@ pub struct Draft {
     pub ranks: [u8; 2],
     /// The link count, if the yard record has one.
     pub count: Option<u8>,
+    /// The rest bytes, if the yard record has them.
+    pub rest: Option<[u8; REST_BYTES]>,
     /// The link records.
     pub links: Vec<LinkDraft>,
 }
@@ -56,6 +59,7 @@ impl Draft {
             ceilings: figures.ceilings,
             ranks: figures.ranks,
             count: record.count_at.map(|_| figures.sums.len() as u8),
+            rest: record.rest_at.map(|_| [0; REST_BYTES]),
             links: figures.sums.iter().enumerate().map(link).collect(),
         }
     }
@@ -66,6 +70,7 @@ impl Draft {
         bytes.extend([self.stations, self.ceilings]);
         bytes.extend(self.ranks);
         bytes.extend(self.count);
+        bytes.extend(self.rest.iter().flatten());
         for link in &self.links {
             bytes.extend(link.mark);
             bytes.extend(link.ends);

@@ -8,7 +8,7 @@ use crate::round::{all_calls, few_calls};
 use crate::yards::Layout::{self, Any, Connected, Disconnected};
 use crate::yards::Recipe;
 use crate::yards::Values::{self, Different, Extreme, Free, Opposed, Tied};
-use peer::records::COUNTED;
+use peer::records::{YardRecord, COUNTED, RESTING};
 use Damage::{Each, EachCut, EachPair, EachSum, Random, Whole};
 
 /// A kind of surveys.
@@ -40,7 +40,7 @@ enum Damage {
 }
 
 /// All kinds, legal surveys first.
-pub const KINDS: [Kind; 23] = [
+pub const KINDS: [Kind; 25] = [
     legal(1, "small", 3000, small(Any, Free)),
     legal(2, "small, connected", 3000, small(Connected, Free)),
     legal(3, "small, opposed", 3000, small(Connected, Opposed)),
@@ -63,7 +63,24 @@ pub const KINDS: [Kind; 23] = [
     kind(14, "cut or flipped", 100, small(Connected, Tied), Each),
     kind(21, "sums at the limits", 20, hard(40, Free), EachSum),
     kind(22, "damaged in pairs", 100, small(Any, Free), EachPair),
-    counted(kind(23, "counted, cut", 3, hard(40, Free), EachCut)),
+    with(
+        COUNTED,
+        kind(23, "counted, cut", 3, hard(40, Free), EachCut),
+    ),
+    with(
+        RESTING,
+        kind(24, "resting, cut", 3, hard(40, Free), EachCut),
+    ),
+    with(
+        RESTING,
+        kind(
+            25,
+            "resting, damaged in pairs",
+            40,
+            large(Any, Tied),
+            EachPair,
+        ),
+    ),
 ];
 
 const fn legal(number: u64, name: &'static str, seeds: u64, recipe: Recipe) -> Kind {
@@ -80,9 +97,9 @@ const fn kind(number: u64, name: &'static str, seeds: u64, recipe: Recipe, damag
     }
 }
 
-/// The kind with a link count in each survey.
-const fn counted(kind: Kind) -> Kind {
-    let recipe = kind.recipe.with_record(COUNTED);
+/// The kind with the same yard record in each survey.
+const fn with(record: YardRecord, kind: Kind) -> Kind {
+    let recipe = kind.recipe.with_record(record);
     Kind { recipe, ..kind }
 }
 

@@ -5,9 +5,9 @@ use peer::records::{YardRecord, LINK_BYTES, YARD_RECORDS};
 use peer::survey::MAX_LINKS;
 use peer::Refusal;
 
-/// The mark of each of `YARD_RECORDS`, for reports.
-pub fn marks() -> [String; YARD_RECORDS.len()] {
-    YARD_RECORDS.map(|record| {
+/// The marks of yard records, for reports.
+pub fn marks<const N: usize>(records: [YardRecord; N]) -> [String; N] {
+    records.map(|record| {
         let [first, second] = record.mark;
         format!("{first:02X} {second:02X}")
     })
@@ -23,17 +23,15 @@ pub fn kind_of(record: YardRecord) -> u32 {
 pub struct RecordTally {
     /// Legal surveys with each of `YARD_RECORDS`.
     pub legal: [u64; YARD_RECORDS.len()],
-    /// How many links were left of 40, for each cut at a record's end that was refused by 15.
-    left: LinkSet,
+    /// How many links were left of 40, for each cut at a record's end that was refused by 15 with
+    /// each of `YARD_RECORDS`.
+    left: [LinkSet; YARD_RECORDS.len()],
 }
 
 impl RecordTally {
     /// Counts a legal survey.
     pub fn count_legal(&mut self, survey: &[u8]) {
-        let kind = YardRecord::of(survey);
-        for (count, record) in self.legal.iter_mut().zip(YARD_RECORDS) {
-            *count += u64::from(record == kind);
-        }
+        self.legal[index_of(YardRecord::of(survey))] += 1;
     }
 
     /// Counts a refused survey, if it is what a cut left of 40 links.
@@ -41,25 +39,34 @@ impl RecordTally {
         let kind = YardRecord::of(survey);
         if refusal.number == 15 && kind.written_count(survey) == Some(MAX_LINKS) {
             let left = (survey.len() - kind.bytes) / LINK_BYTES;
-            self.left = self.left.with(left as u8);
+            let cuts = &mut self.left[index_of(kind)];
+            *cuts = cuts.with(left as u8);
         }
     }
 
-    /// How many of the cuts at a record's end were refused by 15.
-    pub fn cuts(&self) -> usize {
-        self.left.links().count()
+    /// How many of the cuts at a record's end were refused by 15, with a yard record.
+    pub fn cuts(&self, record: YardRecord) -> usize {
+        self.left[index_of(record)].links().count()
     }
 
     /// Whether each of them was.
-    pub fn is_cut_everywhere(&self) -> bool {
-        self.left == (0..MAX_LINKS as u8).collect()
+    pub fn is_cut_everywhere(&self, record: YardRecord) -> bool {
+        self.left[index_of(record)] == (0..MAX_LINKS as u8).collect()
     }
 
     /// Adds what another tally has.
     pub fn add(&mut self, other: &RecordTally) {
-        self.left = self.left.or(other.left);
+        for (left, more) in self.left.iter_mut().zip(other.left) {
+            *left = left.or(more);
+        }
         for (count, more) in self.legal.iter_mut().zip(other.legal) {
             *count += more;
         }
     }
+}
+
+/// Which of `YARD_RECORDS` a record is.
+fn index_of(record: YardRecord) -> usize {
+    let index = YARD_RECORDS.iter().position(|&other| other == record);
+    index.expect("every kind of yard record is among them")
 }

@@ -13,12 +13,22 @@ const DRAWN_TREES: usize = 6;
 
 /// Makes all calls on a legal survey; gives its list.
 pub fn all_calls(c: &mut Comparison, survey: &[u8], rng: &mut Rng) -> Result<Vec<u8>, Difference> {
+    let list = survey_calls(c, survey, rng)?;
+    fetch_calls(c, &list, rng)?;
+    Ok(list)
+}
+
+/// Makes all calls that take a survey on a legal one; gives its list.
+pub fn survey_calls(
+    c: &mut Comparison,
+    survey: &[u8],
+    rng: &mut Rng,
+) -> Result<Vec<u8>, Difference> {
     let yard = Yard::read(survey).map_err(|refusal| Difference {
         call: "the peer's reader".into(),
         replies: ["meant to be legal".into(), format!("{refusal:?}")],
     })?;
     let list = list_calls(c, survey, &yard, rng)?;
-    fetch_calls(c, &list, rng)?;
     let trees = best_calls(c, survey, &yard, rng)?;
     judge_calls(c, survey, &yard, trees, rng)?;
     Ok(list)

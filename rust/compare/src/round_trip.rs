@@ -5,18 +5,18 @@ use crate::comparison::{Comparison, Difference};
 use crate::records::kind_of;
 use crate::rng::Rng;
 use crate::write_rules::Request;
-use peer::records::{YardRecord, YARD_RECORDS};
+use peer::records::{YardRecord, WRITTEN_RECORDS};
 use peer::survey::Yard;
 use std::fmt::Debug;
 
-/// Writes a survey back with either yard record, if it is legal: with its own it has its former
-/// bytes, and with any it reads back as the figures that it had.
+/// Writes a survey back with each yard record that is written, if it is legal: with its own, where
+/// that is one of them, it has its former bytes, and with any it reads back as its figures.
 pub fn round_trip(c: &mut Comparison, survey: &[u8], rng: &mut Rng) -> Result<(), Difference> {
     let Ok(yard) = Yard::read(survey) else {
         return Ok(());
     };
     let columns = Columns::of_yard(&yard);
-    for record in YARD_RECORDS {
+    for record in WRITTEN_RECORDS {
         let request = Request {
             kind: kind_of(record),
             figures: columns.figures(),

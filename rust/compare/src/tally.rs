@@ -3,6 +3,7 @@
 use crate::index_tally::IndexTally;
 use crate::listed::Listed;
 use crate::records::RecordTally;
+use crate::rests::RestTally;
 use crate::sums::SumTally;
 use crate::write_tally::WriteTally;
 
@@ -26,13 +27,13 @@ pub enum Call {
 }
 
 /// The numbers that are replied end here; 0 is success.
-pub const NUMBERS: usize = 18;
+pub const NUMBERS: usize = 19;
 
 /// The name of each call in reports, and the numbers that it replies with, in the order of `Call`.
 pub const CALLS: [(&str, &[usize]); 7] = [
-    ("judge", &[0, 1, 2, 3, 4, 5, 6, 7, 8, 11, 15]),
-    ("best", &[0, 1, 2, 3, 4, 5, 6, 7, 8, 9, 14, 15]),
-    ("list", &[0, 1, 2, 3, 4, 5, 6, 7, 8, 9, 10, 15]),
+    ("judge", &[0, 1, 2, 3, 4, 5, 6, 7, 8, 11, 15, 18]),
+    ("best", &[0, 1, 2, 3, 4, 5, 6, 7, 8, 9, 14, 15, 18]),
+    ("list", &[0, 1, 2, 3, 4, 5, 6, 7, 8, 9, 10, 15, 18]),
     ("fetch", &[0, 12, 13]),
     ("index", &[0, 12, 16]),
     ("lookup", &[0, 12, 13, 16]),
@@ -56,6 +57,8 @@ pub struct Tally {
     pub sums: SumTally,
     /// Which yard records there were.
     pub records: RecordTally,
+    /// Which stations rested.
+    pub rests: RestTally,
     /// Which plan lists were indexed.
     pub indexes: IndexTally,
     /// Which figures were written.
@@ -83,6 +86,7 @@ impl Tally {
         self.listed.add(&other.listed);
         self.sums.add(&other.sums);
         self.records.add(&other.records);
+        self.rests.add(&other.rests);
         self.indexes.add(&other.indexes);
         self.writes.add(&other.writes);
         let replies = self.replies.as_flattened_mut().iter_mut();

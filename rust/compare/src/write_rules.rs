@@ -3,7 +3,7 @@
 use crate::comparison::Outcome;
 use crate::draft::Draft;
 use crate::records::kind_of;
-use peer::records::{YardRecord, LINK_BYTES, PLAIN, YARD_RECORDS};
+use peer::records::{YardRecord, LINK_BYTES, PLAIN, WRITTEN_RECORDS};
 use peer::survey::Yard;
 use peer::{Figures, Refusal};
 
@@ -17,13 +17,13 @@ pub struct Request<'a> {
 }
 
 impl Request<'_> {
-    /// The yard record that is asked for, if it is a known one.
+    /// The yard record that is asked for, if it is one that is written.
     pub fn record(&self) -> Option<YardRecord> {
-        let mut records = YARD_RECORDS.into_iter();
+        let mut records = WRITTEN_RECORDS.into_iter();
         records.find(|&record| kind_of(record) == self.kind)
     }
 
-    /// How many bytes the survey has; one of an unknown kind is taken for a plain one.
+    /// How many bytes the survey has; one of another kind is taken for a plain one.
     pub fn need(&self) -> usize {
         let record = self.record().unwrap_or(PLAIN);
         record.bytes + LINK_BYTES * self.figures.sums.len()

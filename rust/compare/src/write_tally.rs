@@ -6,7 +6,7 @@ use crate::tally::NUMBERS;
 use crate::write_rules::Request;
 use crate::yards::RANKS;
 use peer::link_set::LinkSet;
-use peer::records::YARD_RECORDS;
+use peer::records::WRITTEN_RECORDS;
 use peer::survey::{Yard, MAX_LINKS, MAX_STATIONS};
 use peer::{Figures, Refusal};
 
@@ -46,7 +46,7 @@ fn has_extremes(yard: &Yard, ceiling: usize) -> bool {
     has(i16::MIN) && has(i16::MAX)
 }
 
-/// Numbers that ask for no known yard record.
+/// Numbers that ask for no yard record that is written.
 pub const UNKNOWN_KINDS: [u32; 15] = [
     0,
     0x44,
@@ -76,9 +76,9 @@ pub struct WriteTally {
     pub ranks: [u64; RANKS.len()],
     /// Calls for each of `UNKNOWN_KINDS`, on legal and on illegal figures.
     pub unknown: [[u64; 2]; UNKNOWN_KINDS.len()],
-    /// Calls with an output of each of `LENGTHS` for each of `YARD_RECORDS` that wrote, and that
+    /// Calls with an output of each of `LENGTHS` for each of `WRITTEN_RECORDS` that wrote, and that
     /// were refused by 17.
-    pub outputs: [[[u64; 2]; YARD_RECORDS.len()]; LENGTHS.len()],
+    pub outputs: [[[u64; 2]; WRITTEN_RECORDS.len()]; LENGTHS.len()],
     /// Calls with ends of each of `LENGTHS` that wrote, and that were refused for a missing end.
     pub ends: [[u64; 2]; LENGTHS.len()],
     /// Calls with costs of each of `LENGTHS` that wrote.
@@ -132,7 +132,7 @@ impl WriteTally {
         if reply.is_err() && !is_short {
             return;
         }
-        let asked = YARD_RECORDS.map(|record| request.record() == Some(record));
+        let asked = WRITTEN_RECORDS.map(|record| request.record() == Some(record));
         for i in lengths(request.need(), room) {
             for (counts, asked) in self.outputs[i].iter_mut().zip(asked) {
                 counts[usize::from(is_short)] += u64::from(asked);

@@ -6,7 +6,7 @@ use crate::records::kind_of;
 use crate::rng::Rng;
 use crate::write_rules::Request;
 use crate::write_tally::{LENGTHS, UNKNOWN_KINDS};
-use peer::records::YARD_RECORDS;
+use peer::records::WRITTEN_RECORDS;
 use peer::Figures;
 
 /// More entries than any of `LENGTHS` adds to a column.
@@ -15,7 +15,7 @@ const SPARE: usize = 512;
 /// Writes legal figures with either yard record in outputs of all lengths, with other columns, and
 /// asks for unknown kinds.
 pub fn write_calls(c: &mut Comparison, columns: &Columns, rng: &mut Rng) -> Result<(), Difference> {
-    for record in YARD_RECORDS {
+    for record in WRITTEN_RECORDS {
         for length in 0..LENGTHS.len() {
             write(c, kind_of(record), columns.figures(), length, rng)?;
         }
@@ -33,14 +33,14 @@ pub fn few_write_calls(
     rng: &mut Rng,
 ) -> Result<(), Difference> {
     let unknown = [rng.pick(&UNKNOWN_KINDS), longer_kind(rng)];
-    for kind in YARD_RECORDS.map(kind_of).into_iter().chain(unknown) {
+    for kind in WRITTEN_RECORDS.map(kind_of).into_iter().chain(unknown) {
         write_in_any(c, kind, columns.figures(), rng)?;
     }
     Ok(())
 }
 
 fn known_kind(rng: &mut Rng) -> u32 {
-    kind_of(rng.pick(&YARD_RECORDS))
+    kind_of(rng.pick(&WRITTEN_RECORDS))
 }
 
 /// A number of no kind, of which the low 16 bits are that of one.

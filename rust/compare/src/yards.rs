@@ -2,8 +2,9 @@
 
 use crate::draft::{Draft, LinkDraft};
 use crate::rng::Rng;
+use crate::site::Site;
 use crate::sums;
-use peer::records::{YardRecord, LINK_MARK, PLAIN, YARD_RECORDS};
+use peer::records::{YardRecord, LINK_MARK, PLAIN, RESTING, YARD_RECORDS};
 use std::ops::RangeInclusive;
 
 /// How a yard's links lie.
@@ -94,6 +95,9 @@ pub struct Recipe {
     signs: Option<Signs>,
     /// The yard record of every yard; without it each yard draws its own.
     record: Option<YardRecord>,
+    /// One in how many stations rests where the record has rest bytes; without it each yard draws
+    /// its own number.
+    one_in: Option<u8>,
 }
 
 impl Recipe {
@@ -112,6 +116,7 @@ impl Recipe {
             values,
             signs: Some(Signs::Plus),
             record: Some(PLAIN),
+            one_in: None,
         }
     }
 
@@ -139,18 +144,42 @@ impl Recipe {
         Recipe { record, ..self }
     }
 
+    /// The recipe with rest bytes in which one of so many stations rests.
+    pub const fn with_rest(self, one_in: u8) -> Recipe {
+        let one_in = Some(one_in);
+        Recipe { one_in, ..self }.with_record(RESTING)
+    }
+
     /// A yard with any legal number of ceilings and any legal ranks.
     pub fn draft(&self, rng: &mut Rng) -> Draft {
         let stations = rng.within(self.stations.clone()) as u8;
+        let (record, site) = self.site(stations, rng);
+        let is_legal = |&rank: &u8| usize::from(rank) < site.working.len();
         let mut legal = RANKS.to_vec();
-        legal.retain(|ranks| ranks.iter().all(|&rank| rank < stations));
-        self.draft_with(stations, rng.pick(&legal), rng)
+        legal.retain(|ranks| ranks.iter().all(is_legal));
+        self.draft_on(record, &site, rng.pick(&legal), rng)
     }
 
     /// A yard with these ranks; a ceiling is present if its rank is not 0.
     pub fn draft_with(&self, stations: u8, ranks: [u8; 2], rng: &mut Rng) -> Draft {
+        let (record, site) = self.site(stations, rng);
+        self.draft_on(record, &site, ranks, rng)
+    }
+
+    /// The yard record of a yard, and its stations.
+    fn site(&self, stations: u8, rng: &mut Rng) -> (YardRecord, Site) {
+        let record = self.record.unwrap_or_else(|| rng.pick(&YARD_RECORDS));
+        let site = match record.rest_at {
+            None => Site::working(stations),
+            Some(_) => Site::resting(stations, self.one_in, rng),
+        };
+        (record, site)
+    }
+
+    /// A yard of these stations with these ranks.
+    fn draft_on(&self, record: YardRecord, site: &Site, ranks: [u8; 2], rng: &mut Rng) -> Draft {
         let ceilings = ranks.iter().filter(|&&rank| rank > 0).count();
-        let ends = self.ends(stations, rng);
+        let ends = self.ends(site, rng);
         let signs = self.signs.unwrap_or_else(|| rng.pick(&SIGNS));
         let mut sums = self.sums(ends.len(), signs, rng);
         if self.signs.is_none() && rng.once_in(4) {
@@ -166,37 +195,38 @@ impl Recipe {
             sum: sums[i] as i32,
             costs: [costs[0][i] as i16, costs[1][i] as i16],
         };
-        let record = self.record.unwrap_or_else(|| rng.pick(&YARD_RECORDS));
         Draft {
             mark: record.mark,
-            stations,
+            stations: site.stations,
             ceilings: ceilings as u8,
             ranks,
             count: record.count_at.map(|_| ends.len() as u8),
+            rest: record.rest_at.map(|_| site.rest_bytes()),
             links: (0..ends.len()).map(link).collect(),
         }
     }
 
     /// The ends of all links.
-    fn ends(&self, stations: u8, rng: &mut Rng) -> Vec<[u8; 2]> {
+    fn ends(&self, site: &Site, rng: &mut Rng) -> Vec<[u8; 2]> {
         let mut ends = Vec::new();
-        if stations == 1 {
+        if site.stations == 1 {
             return ends;
         }
-        let cut = rng.within(1..=i64::from(stations) - 1) as u8;
+        let cut = site.cut(rng);
         if let Layout::Connected = self.layout {
-            ends.extend((1..stations).map(|station| [station, rng.below(station.into()) as u8]));
+            let later = site.working.iter().enumerate().skip(1);
+            ends.extend(later.map(|(i, &station)| [station, site.working[rng.below(i)]]));
         }
         let count = (rng.within(self.links.clone()) as usize).max(ends.len());
         while ends.len() < count {
             let parallel = matches!(self.values, Values::Tied) && rng.once_in(3);
             ends.push(match self.layout {
                 _ if parallel && !ends.is_empty() => rng.pick(&ends),
-                Layout::Disconnected => match side(cut, stations, rng) {
+                Layout::Disconnected => match side(cut, site.stations, rng) {
                     Some(range) => pair(range, rng),
                     None => break,
                 },
-                _ => pair([0, stations], rng),
+                _ => pair_of(site, rng),
             });
         }
         rng.shuffle(&mut ends);
@@ -258,6 +288,15 @@ fn side(cut: u8, stations: u8, rng: &mut Rng) -> Option<[u8; 2]> {
     sides.into_iter().find(|[start, end]| end - start >= 2)
 }
 
+/// Two different stations; where some rest, mostly two that work.
+fn pair_of(site: &Site, rng: &mut Rng) -> [u8; 2] {
+    let working = site.working.len() as u8;
+    if working < 2 || site.has_rest() && rng.once_in(3) {
+        return pair([0, site.stations], rng);
+    }
+    pair([0, working], rng).map(|i| site.working[usize::from(i)])
+}
+
 /// Two different stations of a range.
 fn pair([start, end]: [u8; 2], rng: &mut Rng) -> [u8; 2] {
     let count = usize::from(end - start);
@@ -302,7 +341,7 @@ mod tests {
     }
 
     #[test]
-    fn a_fixed_record_does_not_change_the_yard() {
+    fn a_link_count_does_not_change_the_yard() {
         for seed in 0..50 {
             let [plain, counted] = [PLAIN, COUNTED].map(|record| {
                 let recipe = exact(6, 9, Values::Free).with_record(record);
@@ -311,6 +350,15 @@ mod tests {
             assert!(Yard::read(&plain).is_ok() && Yard::read(&counted).is_ok());
             assert_eq!(counted[2..6], plain[2..6]);
             assert_eq!(counted[COUNTED.bytes..], plain[PLAIN.bytes..]);
+        }
+    }
+
+    #[test]
+    fn one_in_four_stations_rests() {
+        for (stations, resting) in [(3, 0), (4, 1), (16, 4), (23, 5), (24, 6)] {
+            let recipe = exact(stations, 40, Values::Free).with_rest(4);
+            let yard = Yard::read(&recipe.draft(&mut Rng::new(1)).bytes());
+            assert!(yard.is_ok_and(|yard| yard.rest.count() == resting));
         }
     }
 }

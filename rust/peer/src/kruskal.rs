@@ -85,25 +85,27 @@ impl Base {
     }
 }
 
-/// The links of a yard, sorted once for any number of questions.
+/// The usable links of a yard, sorted once for any number of questions.
 pub struct Solver<'a> {
     yard: &'a Yard,
     sorted: [Link; MAX_LINKS],
+    /// How many of the sorted row are links of the yard.
+    count: usize,
     /// What room a link of each class leaves in a tree.
     rooms: [Option<Room>; CLASSES],
 }
 
 impl<'a> Solver<'a> {
-    /// Sorts the yard's links by sum, then number.
+    /// Sorts the yard's usable links by sum, then number.
     pub fn new(yard: &'a Yard) -> Solver<'a> {
-        let count = yard.links().len();
         let mut sorted = [Link::default(); MAX_LINKS];
-        sorted[..count].copy_from_slice(yard.links());
+        let count = copy_usable(yard, &mut sorted);
         sorted[..count].sort_unstable_by_key(|link| (link.sum, link.number));
         let room = Room(yard.ranks.map(|rank| rank.saturating_sub(1)));
         Solver {
             yard,
             sorted,
+            count,
             rooms: std::array::from_fn(|class| room.beside(class)),
         }
     }
@@ -130,7 +132,7 @@ impl<'a> Solver<'a> {
         let mut kept = [LinkSet::default(); CLASSES];
         let mut groups = [Groups::apart(); CLASSES];
         let mut missing = self.yard.tree_len();
-        for (place, link) in self.sorted[..self.yard.links().len()].iter().enumerate() {
+        for (place, link) in self.sorted[..self.count].iter().enumerate() {
             if missing == 0 {
                 break;
             }
@@ -147,6 +149,21 @@ impl<'a> Solver<'a> {
         let above = |i: usize| i < self.yard.ceilings && link.costs[i] > bounds[i];
         usize::from(above(0)) | usize::from(above(1)) << 1
     }
+}
+
+/// Copies the usable links of a yard to the front of a row; gives their number.
+fn copy_usable(yard: &Yard, row: &mut [Link; MAX_LINKS]) -> usize {
+    let all = yard.links();
+    if yard.rest.is_empty() {
+        row[..all.len()].copy_from_slice(all);
+        return all.len();
+    }
+    let mut count = 0;
+    for (place, link) in row.iter_mut().zip(yard.usable_links()) {
+        *place = *link;
+        count += 1;
+    }
+    count
 }
 
 /// The best tree so far out of sets of exceptions, each completed from the base.

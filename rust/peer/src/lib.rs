@@ -15,6 +15,7 @@ mod plan_index;
 pub mod plan_list;
 pub mod records;
 mod reply;
+pub mod rest;
 pub mod survey;
 pub mod walk;
 mod writing;
@@ -46,7 +47,7 @@ fn tree_of(yard: &Yard, drawn: &[u8]) -> Option<(LinkSet, i32)> {
     let mut sum = 0;
     for &number in drawn {
         let link = yard.links().get(usize::from(number))?;
-        if !groups.join(link.ends) {
+        if !link.is_usable || !groups.join(link.ends) {
             return None;
         }
         sum += link.sum;

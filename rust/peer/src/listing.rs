@@ -14,7 +14,8 @@ impl<'a> Listing<'a> {
     /// Lists all trees; meant for a yard with few [`sets`].
     pub fn of(yard: &'a Yard) -> Listing<'a> {
         let mut trees = Vec::new();
-        for links in choices(yard.links(), yard.tree_len()) {
+        let usable: Vec<Link> = yard.usable_links().copied().collect();
+        for links in choices(&usable, yard.tree_len()) {
             if connects(yard, &links) {
                 trees.push(Plan {
                     costs: costs(yard, &links),
@@ -53,12 +54,12 @@ impl<'a> Listing<'a> {
         plans
     }
 
-    /// The different values of a ceiling in falling order; 0 alone if it is absent.
+    /// The different values of a ceiling on usable links, in falling order; 0 alone if it is absent.
     pub fn values(&self, ceiling: usize) -> Vec<i16> {
         if ceiling >= self.yard.ceilings {
             return vec![0];
         }
-        let links = self.yard.links().iter();
+        let links = self.yard.usable_links();
         let mut values: Vec<i16> = links.map(|link| link.costs[ceiling]).collect();
         values.sort();
         values.dedup();
@@ -88,9 +89,9 @@ impl<'a> Listing<'a> {
     }
 }
 
-/// How many sets of links have the size of a tree; a listing tries each of them.
+/// How many sets of usable links have the size of a tree; a listing tries each of them.
 pub fn sets(yard: &Yard) -> u64 {
-    let (links, size) = (yard.links().len() as u64, yard.tree_len() as u64);
+    let (links, size) = (yard.usable_links().count() as u64, yard.tree_len() as u64);
     // With each factor the count is that of the sets of i + 1 links.
     (0..size).fold(1, |count, i| count * links.saturating_sub(i) / (i + 1))
 }
@@ -119,10 +120,11 @@ fn choices(links: &[Link], count: usize) -> Vec<Vec<Link>> {
     all
 }
 
-/// Whether every station is reached from station 0. With t links there is then no ring.
+/// Whether every working station is reached from the first. With t links there is then no ring.
 fn connects(yard: &Yard, links: &[Link]) -> bool {
+    let working: Vec<usize> = yard.working_stations().map(usize::from).collect();
     let mut reached = vec![false; yard.stations];
-    reached[0] = true;
+    reached[working[0]] = true;
     for _ in 0..yard.stations {
         for link in links {
             let [a, b] = link.ends.map(usize::from);
@@ -131,7 +133,7 @@ fn connects(yard: &Yard, links: &[Link]) -> bool {
             reached[b] = either;
         }
     }
-    !reached.contains(&false)
+    working.iter().all(|&station| reached[station])
 }
 
 /// The sum, and each present ceiling's cost at its rank among the falling costs.

@@ -2,6 +2,7 @@
 
 use crate::records::{YardRecord, LINK_BYTES, LINK_MARK};
 use crate::reply::Refusal;
+use crate::rest::Rest;
 use std::ops::RangeInclusive;
 
 /// The most stations of a yard.
@@ -15,7 +16,7 @@ pub const MAX_EXCEPTIONS: usize = 2;
 /// The greatest rank of a ceiling.
 pub const MAX_RANK: usize = MAX_EXCEPTIONS + 1;
 
-/// The figures that every yard record has.
+/// The figures of a yard record.
 #[derive(Clone, Copy, Debug)]
 pub(crate) struct Head {
     /// How many stations there are.
@@ -24,6 +25,8 @@ pub(crate) struct Head {
     pub ceilings: usize,
     /// The rank of each ceiling; 0 where it is absent.
     pub ranks: [usize; 2],
+    /// Which stations rest.
+    pub rest: Rest,
 }
 
 impl Head {
@@ -39,13 +42,21 @@ impl Head {
         if written_count.is_some_and(|written| written != link_count) {
             return Err(15);
         }
+        if !self.rest.is_legal(self.stations) {
+            return Err(18);
+        }
         if self.ceilings > 2 {
             return Err(5);
         }
-        if !ranks_are_legal(self.ceilings, self.ranks, self.stations - 1) {
+        if !ranks_are_legal(self.ceilings, self.ranks, self.tree_len()) {
             return Err(6);
         }
         Ok(())
+    }
+
+    /// How many links a tree has, where some station works.
+    fn tree_len(&self) -> usize {
+        self.stations - self.rest.count() - 1
     }
 }
 
@@ -60,6 +71,8 @@ pub struct Link {
     pub sum: i32,
     /// Its ceiling costs; 0 where the ceiling is absent.
     pub costs: [i16; 2],
+    /// Whether it ends at no station that rests.
+    pub is_usable: bool,
 }
 
 /// An accepted survey.
@@ -71,6 +84,9 @@ pub struct Yard {
     pub ceilings: usize,
     /// The rank of each ceiling; 0 where it is absent.
     pub ranks: [usize; 2],
+    /// Which stations rest.
+    pub rest: Rest,
+    tree_len: usize,
     links: [Link; MAX_LINKS],
     link_count: usize,
 }
@@ -92,6 +108,7 @@ impl Yard {
                 .read_link(number as u8, record)
                 .map_err(|cause| Refusal::at_link(number as u8, cause))?;
         }
+        yard.mark_unusable();
         Ok(yard)
     }
 
@@ -100,9 +117,19 @@ impl Yard {
         &self.links[..self.link_count]
     }
 
+    /// The links that a tree may have, in survey order.
+    pub fn usable_links(&self) -> impl Iterator<Item = &Link> {
+        self.links().iter().filter(|link| link.is_usable)
+    }
+
+    /// The stations that a tree joins, rising.
+    pub fn working_stations(&self) -> impl Iterator<Item = u8> + '_ {
+        (0..self.stations as u8).filter(|&station| !self.rest.has(station))
+    }
+
     /// How many links a tree has.
     pub fn tree_len(&self) -> usize {
-        self.stations - 1
+        self.tree_len
     }
 
     /// The yard without its links, out of a record of the kind's length, or the number of the
@@ -116,18 +143,31 @@ impl Yard {
             stations,
             ceilings,
             ranks: [k1, k2],
+            rest: kind.rest(record),
         };
         head.check(link_count, kind.written_count(record))?;
         Ok(Yard {
             stations,
             ceilings,
             ranks: head.ranks,
+            rest: head.rest,
+            tree_len: head.tree_len(),
             links: [Link::default(); MAX_LINKS],
             link_count,
         })
     }
 
-    /// One link of this yard, or the number of the refusal.
+    /// Marks the links that end at a station that rests.
+    fn mark_unusable(&mut self) {
+        if self.rest.is_empty() {
+            return;
+        }
+        for link in &mut self.links[..self.link_count] {
+            link.is_usable = !link.ends.iter().any(|&end| self.rest.has(end));
+        }
+    }
+
+    /// One link of this yard, usable so far, or the number of the refusal.
     fn read_link(&self, number: u8, record: &[u8; LINK_BYTES]) -> Result<Link, u8> {
         let [mark0, mark1, a, b, s0, s1, s2, s3, c0, c1, d0, d1] = *record;
         let sum = i32::from_le_bytes([s0, s1, s2, s3]);
@@ -141,6 +181,7 @@ impl Yard {
             ends: [a, b],
             sum,
             costs,
+            is_usable: true,
         })
     }
 }

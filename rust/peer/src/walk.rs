@@ -4,7 +4,8 @@ use crate::kruskal::Solver;
 use crate::plan::Plan;
 use crate::survey::{Yard, MAX_LINKS};
 
-/// The different values of one ceiling in falling order. An absent ceiling has the value 0 alone.
+/// The different values of one ceiling on usable links, in falling order. An absent ceiling has the
+/// value 0 alone.
 struct Places {
     values: [i16; MAX_LINKS],
     count: usize,
@@ -17,7 +18,7 @@ impl Places {
             return Places { values, count: 1 };
         }
         let mut count = 0;
-        for link in yard.links() {
+        for link in yard.usable_links() {
             let cost = link.costs[ceiling];
             let place = place_of(&values[..count], cost);
             if place == count || values[place] != cost {

@@ -2,6 +2,7 @@
 
 use crate::records::{YardRecord, LINK_BYTES, LINK_MARK};
 use crate::reply::Refusal;
+use crate::rest::Rest;
 use crate::survey::{check_link, Head, MAX_LINKS};
 
 /// The figures of a survey, its links as columns.
@@ -48,6 +49,7 @@ impl Figures<'_> {
             stations: self.stations.into(),
             ceilings: self.ceilings.into(),
             ranks: self.ranks.map(usize::from),
+            rest: Rest::default(),
         };
         // No count is handed in: the one that is written is the number of links.
         head.check(self.sums.len(), None).map_err(Refusal::whole)

@@ -5,7 +5,7 @@
 #![allow(unsafe_code)]
 
 /// The version of what is declared here; [`ranqustei_version`] is the archive's own.
-pub const VERSION: u32 = 5;
+pub const VERSION: u32 = 6;
 
 /// The figures of a yard record.
 #[repr(C)]

@@ -28,7 +28,7 @@ fn costs(reply: Reply) -> Result<Costs, Refusal> {
 /// Judges a drawn tree, given as its link numbers, rising: its costs.
 ///
 /// # Errors
-/// 1 to 8 or 15 for the survey, 11 if the drawn links are no tree of the yard.
+/// 1 to 8, 15 or 18 for the survey, 11 if the drawn links are no tree of the yard.
 pub fn judge(survey: &[u8], drawn: &[u8]) -> Result<Costs, Refusal> {
     // SAFETY: each pointer is that of a live slice and goes with its length. The call only reads,
     // so that it does no harm if the two overlap.
@@ -41,7 +41,7 @@ pub fn judge(survey: &[u8], drawn: &[u8]) -> Result<Costs, Refusal> {
 /// first t bytes of `tree`; the bytes after them stay. Bounds for absent ceilings are ignored.
 ///
 /// # Errors
-/// 1 to 8 or 15 for the survey, 9 if `tree` is below t bytes, 14 if no tree fits. `tree` then
+/// 1 to 8, 15 or 18 for the survey, 9 if `tree` is below t bytes, 14 if no tree fits. `tree` then
 /// stays as it was.
 pub fn best(survey: &[u8], ceilings: [i16; 2], tree: &mut [u8]) -> Result<Costs, Refusal> {
     let [b1, b2] = ceilings;
@@ -63,7 +63,7 @@ pub fn best(survey: &[u8], ceilings: [i16; 2], tree: &mut [u8]) -> Result<Costs,
 /// Writes the list of plans into `buffer`, and 0 into its bytes after the list.
 ///
 /// # Errors
-/// 1 to 8 or 15 for the survey, 9 if `buffer` is below its need: it then stays as it was. 10 if
+/// 1 to 8, 15 or 18 for the survey, 9 if `buffer` is below its need: it then stays as it was. 10 if
 /// the solved count would pass the allowance: the whole buffer is then 0.
 pub fn list(survey: &[u8], allowance: u32, buffer: &mut [u8]) -> Result<(), Refusal> {
     // SAFETY: each pointer is that of a live slice and goes with its length. `buffer` is borrowed
@@ -138,9 +138,9 @@ pub fn index_lookup(list: &[u8], index: &[u8], value: i16) -> Result<u16, Refusa
 /// enough.
 ///
 /// # Errors
-/// 2 if the kind is that of no yard record; 3 to 8 for the figures, as a survey of them would be
-/// declined, 7 and 8 at the place of a link; 17 if `survey` has no room for the survey. `survey`
-/// then stays as it was.
+/// 2 if the kind is neither the plain nor the counted yard record's; 3 to 8 for the figures, as a
+/// survey of them would be declined, 7 and 8 at the place of a link; 17 if `survey` has no room for
+/// the survey. `survey` then stays as it was.
 pub fn write_survey(kind: u32, figures: &Figures, survey: &mut [u8]) -> Result<(), Refusal> {
     let Figures {
         stations,

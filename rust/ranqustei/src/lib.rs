@@ -5,9 +5,10 @@
 //! and take any bytes and figures. [`Yard`], [`Survey`], [`Plan`], [`PlanList`] and [`PlanIndex`]
 //! are the same calls on values.
 //!
-//! A yard has stations and links between them. A plan is a tree: it connects all stations without
-//! a ring. Its sum is taken over its links, of which some may give charge back and count below 0;
-//! each of its ceiling costs is the k-th largest of that cost over its links.
+//! A yard has stations and links between them; some stations may rest. A plan is a tree: it connects
+//! all working stations without a ring, by links that end at none that rests. Its sum is taken over
+//! its links, of which some may give charge back and count below 0; each of its ceiling costs is the
+//! k-th largest of that cost over its links.
 //!
 //! ```
 //! use ranqustei::{Cause, Link, Yard};
@@ -76,6 +77,7 @@ mod plan_index;
 mod plan_list;
 mod record;
 mod refusal;
+mod rest;
 mod survey;
 mod yard;
 

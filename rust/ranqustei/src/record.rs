@@ -1,6 +1,7 @@
 //! The records of a survey and of a plan list, as bytes.
 
-/// The yard record that a survey opens with. A yard reads the same from either.
+/// The yard record that a survey opens with. A yard without resting stations reads the same from
+/// each.
 ///
 /// ```
 /// use ranqustei::{Cause, Link, Survey, Yard, YardRecord};
@@ -26,22 +27,24 @@ pub enum YardRecord {
     /// Mark 59 45, 7 bytes: the same fields, then the number of links. A survey that is cut off is
     /// declined with it, wherever the cut is.
     Counted,
+    /// Mark 59 46, 10 bytes: the fields of the counted one, then which stations rest.
+    Resting,
 }
 
 /// Every yard record.
-const RECORDS: [YardRecord; 2] = [YardRecord::Plain, YardRecord::Counted];
+const RECORDS: [YardRecord; 3] = [YardRecord::Plain, YardRecord::Counted, YardRecord::Resting];
 
 /// How a yard record is laid out.
 pub(crate) struct Layout {
     /// Its first two bytes.
-    mark: [u8; 2],
+    pub(crate) mark: [u8; 2],
     /// Its bytes in all; the links follow.
     pub(crate) len: usize,
 }
 
 impl YardRecord {
-    /// Its kind, as [`write_survey`](crate::write_survey) takes it: the mark as a number, the first
-    /// byte high.
+    /// Its kind: the mark as a number, the first byte high.
+    /// [`write_survey`](crate::write_survey) takes the plain and the counted one.
     pub fn kind(self) -> u32 {
         u16::from_be_bytes(self.layout().mark).into()
     }
@@ -57,6 +60,10 @@ impl YardRecord {
                 mark: *b"YE",
                 len: 7,
             },
+            YardRecord::Resting => Layout {
+                mark: *b"YF",
+                len: 10,
+            },
         }
     }
 
@@ -69,6 +76,10 @@ impl YardRecord {
     }
 }
 
+/// Where the rest bytes of the resting yard record start.
+pub(crate) const REST_START: usize = 7;
+/// The first two bytes of a link record.
+pub(crate) const LINK_MARK: [u8; 2] = *b"LK";
 /// The bytes of a link record.
 pub(crate) const LINK_LEN: usize = 12;
 /// The bytes of a list head.

@@ -7,7 +7,7 @@ use std::fmt;
 #[derive(Clone, Copy, PartialEq, Eq, Debug)]
 #[non_exhaustive]
 pub struct Refusal {
-    /// The number of the cause, 1 to 17.
+    /// The number of the cause, 1 to 18.
     pub number: u8,
     /// 0 for the yard record or no record, else the link number plus 1.
     pub place: u8,
@@ -25,8 +25,8 @@ pub(crate) const DAMAGED: Refusal = Refusal {
 pub enum Cause {
     /// 1: the survey is not a yard record and whole link records.
     Length,
-    /// 2: the yard or a link record has a wrong mark, or the kind to be written is that of no yard
-    /// record.
+    /// 2: the yard or a link record has a wrong mark, or the kind to be written is neither the plain
+    /// nor the counted yard record's.
     Mark,
     /// 3: the stations are not 1 to 24.
     Stations,
@@ -58,6 +58,8 @@ pub enum Cause {
     Index,
     /// 17: the output has no room for the survey.
     Output,
+    /// 18: a station at rest is not in the yard, or no station works.
+    Resting,
     /// A number that the planner never gives.
     Unknown(u8),
 }
@@ -83,6 +85,7 @@ impl Refusal {
             15 => Cause::LinkCount,
             16 => Cause::Index,
             17 => Cause::Output,
+            18 => Cause::Resting,
             number => Cause::Unknown(number),
         }
     }
@@ -98,7 +101,8 @@ impl Cause {
     fn words(self) -> &'static str {
         match self {
             Cause::Length => {
-                "a survey is 6 bytes, or 7 with a link count, and then 12 bytes for each link"
+                "a survey is 6 bytes, or 7 with a link count, or 10 with stations at rest, \
+                 and then 12 bytes for each link"
             }
             Cause::Mark => "has a wrong mark",
             Cause::Stations => "a yard has 1 to 24 stations",
@@ -108,7 +112,9 @@ impl Cause {
                 "a rank is 1 to 3 and not above the links of a tree, \
                  beside a rank of 3 the other is 1, and an absent ceiling has rank 0"
             }
-            Cause::Ends => "joins a station that the yard does not have, or joins a station to itself",
+            Cause::Ends => {
+                "joins a station that the yard does not have, or joins a station to itself"
+            }
             Cause::Figures => {
                 "has a sum outside -1,000,000 to 1,000,000, \
                  or a cost for a ceiling that the yard does not have"
@@ -116,8 +122,8 @@ impl Cause {
             Cause::Buffer => "the buffer is too short",
             Cause::Allowance => "the walk would solve more positions than the allowance",
             Cause::Drawn => {
-                "the drawn links are no tree of the yard: they must be one fewer than the stations, \
-                 rising, in the survey, and without a ring"
+                "the drawn links are no tree of the yard: they must be one fewer than the working \
+                 stations, rising, in the survey, at no resting station, and without a ring"
             }
             Cause::Damaged => "the plan list is damaged, or the index is not its own",
             Cause::PlanNumber => "the list has no such plan",
@@ -127,6 +133,7 @@ impl Cause {
             }
             Cause::Index => "the index has fewer than 2 bytes for each plan",
             Cause::Output => "the output has no room for the survey",
+            Cause::Resting => "a station at rest is not in the yard, or no station works",
             Cause::Unknown(_) => "refused for an unknown cause",
         }
     }
@@ -157,7 +164,7 @@ mod tests {
 
     #[test]
     fn numbers_that_the_planner_never_gives() {
-        for number in [0, 18, 255] {
+        for number in [0, 19, 255] {
             let refusal = Refusal { number, place: 2 };
             assert_eq!(refusal.cause(), Cause::Unknown(number));
             assert_eq!(

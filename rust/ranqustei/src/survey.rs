@@ -15,7 +15,7 @@ impl Survey {
     /// Takes survey bytes if the planner accepts them, whichever yard record they open with.
     ///
     /// # Errors
-    /// The planner's refusal, 1 to 8 or 15.
+    /// The planner's refusal, 1 to 8, 15 or 18.
     pub fn new(bytes: Vec<u8>) -> Result<Survey, Refusal> {
         // Every list needs 10 bytes or more. So an empty buffer is refused, with 9, exactly if
         // nothing is wrong with the survey.
@@ -48,8 +48,8 @@ impl Survey {
         &self.yard
     }
 
-    /// The number M of positions: the product of the numbers of different values in each ceiling
-    /// cost, and 1 without ceilings. The walk solves at most this many.
+    /// The number M of positions: the product of the numbers of different values that the usable
+    /// links have in each ceiling cost, and 1 without ceilings. The walk solves at most this many.
     pub fn positions(&self) -> u32 {
         (0..self.yard.ranks.len())
             .map(|ceiling| self.values(ceiling))
@@ -108,11 +108,9 @@ impl Survey {
 
     /// The number of different values of one ceiling cost.
     fn values(&self, ceiling: usize) -> u32 {
-        let costs = self
-            .yard
-            .links
-            .iter()
-            .filter_map(|link| link.costs.get(ceiling));
+        let links = self.yard.links.iter();
+        let usable = links.filter(|link| self.yard.is_usable(link));
+        let costs = usable.filter_map(|link| link.costs.get(ceiling));
         costs.collect::<BTreeSet<_>>().len() as u32
     }
 }

@@ -1,11 +1,13 @@
 //! A yard in figures, and its survey bytes.
 
-use crate::record::{part, LINK_LEN};
+use crate::record::{part, LINK_LEN, LINK_MARK, REST_START};
+use crate::rest;
 use crate::{write_survey, Figures, Refusal, Survey, YardRecord};
+use std::collections::BTreeSet;
 use std::error::Error;
 use std::fmt;
 
-/// A yard: its stations, its ceilings and its links.
+/// A yard: its stations, those at rest, its ceilings and its links.
 #[derive(Clone, PartialEq, Eq, Debug)]
 #[non_exhaustive]
 pub struct Yard {
@@ -15,6 +17,8 @@ pub struct Yard {
     pub ranks: Vec<u8>,
     /// The links, numbered from 0.
     pub links: Vec<Link>,
+    /// The stations at rest: a tree joins the others, by links that end at none of these.
+    pub resting: BTreeSet<u8>,
 }
 
 /// A link between two stations.
@@ -47,6 +51,13 @@ pub enum YardError {
         /// The number of ceiling costs of the link.
         found: usize,
     },
+    /// A station at rest has a higher number than a survey has room for.
+    Resting {
+        /// The station.
+        station: u8,
+    },
+    /// Stations rest, and the yard record that was asked for does not say which.
+    Record,
     /// The planner refuses the survey.
     Refused(Refusal),
 }
@@ -67,6 +78,15 @@ impl fmt::Display for YardError {
                     "link {link} needs a cost for each ceiling, {needed} in all: found {found}"
                 )
             }
+            YardError::Resting { station } => {
+                write!(f, "a station at rest is one from 0 to 23: found {station}")
+            }
+            YardError::Record => {
+                write!(
+                    f,
+                    "stations rest, and only the resting yard record says which"
+                )
+            }
             YardError::Refused(refusal) => refusal.fmt(f),
         }
     }
@@ -75,23 +95,44 @@ impl fmt::Display for YardError {
 impl Error for YardError {}
 
 impl Yard {
-    /// A yard of so many stations, with a rank for each present ceiling, and its links. Any figures
-    /// are taken: [`Yard::survey`] checks them.
+    /// A yard of so many stations, all at work, with a rank for each present ceiling, and its links.
+    /// Any figures are taken: [`Yard::survey`] checks them.
     pub fn new(stations: u8, ranks: impl Into<Vec<u8>>, links: impl Into<Vec<Link>>) -> Yard {
         Yard {
             stations,
             ranks: ranks.into(),
             links: links.into(),
+            resting: BTreeSet::new(),
         }
     }
 
-    /// The yard's survey, accepted by the planner, with the counted yard record: should the survey
-    /// be cut off later, the planner notices.
+    /// The yard with these stations at rest, and no others.
+    ///
+    /// ```
+    /// use ranqustei::{Link, Yard};
+    ///
+    /// let links = [Link::new([0, 1], 4, []), Link::new([1, 2], 3, []), Link::new([0, 2], 9, [])];
+    /// let yard = Yard::new(3, [], links).with_resting([1]);
+    /// assert_eq!(yard.survey()?.plans()?.get(0)?.to_string(), "9 links 2");
+    /// # Ok::<(), Box<dyn std::error::Error>>(())
+    /// ```
+    pub fn with_resting(self, stations: impl IntoIterator<Item = u8>) -> Yard {
+        Yard {
+            resting: stations.into_iter().collect(),
+            ..self
+        }
+    }
+
+    /// The yard's survey, accepted by the planner, with the counted yard record, or with the resting
+    /// one if stations rest: should the survey be cut off later, the planner notices.
     ///
     /// # Errors
     /// The figures that a survey has no room for, else the planner's refusal.
     pub fn survey(&self) -> Result<Survey, YardError> {
-        self.survey_with(YardRecord::Counted)
+        self.survey_with(match self.resting.is_empty() {
+            true => YardRecord::Counted,
+            false => YardRecord::Resting,
+        })
     }
 
     /// The yard's survey with the yard record that is asked for. The yard of a survey, with the
@@ -114,14 +155,45 @@ impl Yard {
     /// ```
     ///
     /// # Errors
-    /// As for [`Yard::survey`].
+    /// As for [`Yard::survey`]; [`YardError::Record`] if stations rest and the record is not the
+    /// resting one.
     pub fn survey_with(&self, record: YardRecord) -> Result<Survey, YardError> {
         let ranks = padded(&self.ranks).ok_or(YardError::Ceilings {
             found: self.ranks.len(),
         })?;
+        let costs = self.costs()?;
+        match record {
+            YardRecord::Resting => self.encoded(ranks, &costs),
+            _ if self.resting.is_empty() => self.written(record, ranks, &costs),
+            _ => Err(YardError::Record),
+        }
+    }
+
+    /// Whether a station works: the yard has it, and it does not rest.
+    pub fn works(&self, station: u8) -> bool {
+        station < self.stations && !self.resting.contains(&station)
+    }
+
+    /// Whether a tree may use a link: both its stations work.
+    pub fn is_usable(&self, link: &Link) -> bool {
+        link.ends.iter().all(|&end| self.works(end))
+    }
+
+    /// The number t of links of a tree: one fewer than the working stations.
+    pub fn tree_links(&self) -> usize {
+        let working = (0..self.stations).filter(|&station| self.works(station));
+        working.count().saturating_sub(1)
+    }
+
+    /// The survey that the planner writes, with the plain or the counted yard record.
+    fn written(
+        &self,
+        record: YardRecord,
+        ranks: [u8; 2],
+        costs: &[[i16; 2]],
+    ) -> Result<Survey, YardError> {
         let ends: Vec<[u8; 2]> = self.links.iter().map(|link| link.ends).collect();
         let sums: Vec<i32> = self.links.iter().map(|link| link.sum).collect();
-        let costs = self.costs()?;
         let figures = Figures {
             stations: self.stations,
             ceilings: self.ranks.len() as u8,
@@ -136,9 +208,20 @@ impl Yard {
         Ok(Survey::accepted(bytes))
     }
 
-    /// The number t of links of a tree.
-    pub fn tree_links(&self) -> usize {
-        usize::from(self.stations).saturating_sub(1)
+    /// The survey with the resting yard record, which the planner reads and does not write.
+    fn encoded(&self, [k1, k2]: [u8; 2], costs: &[[i16; 2]]) -> Result<Survey, YardError> {
+        let rest = rest::bytes_of(&self.resting);
+        let rest = rest.map_err(|station| YardError::Resting { station })?;
+        // A number of links that has no room in a byte is above 40, and is declined before it is
+        // held against the byte.
+        let [p, m] = [self.ranks.len(), self.links.len()].map(|count| count as u8);
+        let mut bytes = YardRecord::Resting.layout().mark.to_vec();
+        bytes.extend([self.stations, p, k1, k2, m]);
+        bytes.extend(rest);
+        for (link, costs) in self.links.iter().zip(costs) {
+            bytes.extend(link.record(costs));
+        }
+        Survey::new(bytes).map_err(YardError::Refused)
     }
 
     /// The costs of each link for both ceilings.
@@ -162,13 +245,18 @@ impl Yard {
     pub(crate) fn read(survey: &[u8]) -> Yard {
         let [_, _, stations, ceilings, k1, k2] = part(survey, 0).unwrap_or_default();
         let present = usize::from(ceilings);
-        let first_link = YardRecord::named_by(survey).layout().len;
-        let records = survey.get(first_link..).unwrap_or_default();
+        let record = YardRecord::named_by(survey);
+        let rest = match record {
+            YardRecord::Resting => part(survey, REST_START).unwrap_or_default(),
+            _ => [0; 3],
+        };
+        let records = survey.get(record.layout().len..).unwrap_or_default();
         let ranks: Vec<u8> = [k1, k2].into_iter().take(present).collect();
         let links = records
             .chunks_exact(LINK_LEN)
             .map(|record| Link::read(record, present));
-        Yard::new(stations, ranks, links.collect::<Vec<_>>())
+        let yard = Yard::new(stations, ranks, links.collect::<Vec<_>>());
+        yard.with_resting(rest::named_by(rest))
     }
 }
 
@@ -190,6 +278,19 @@ impl Link {
             sum,
             costs: costs.into(),
         }
+    }
+
+    /// The link's record, with its costs for both ceilings.
+    fn record(&self, costs: &[i16; 2]) -> Vec<u8> {
+        let [c1, c2] = costs.map(i16::to_le_bytes);
+        [
+            &LINK_MARK[..],
+            &self.ends,
+            &self.sum.to_le_bytes(),
+            &c1,
+            &c2,
+        ]
+        .concat()
     }
 
     fn read(record: &[u8], ceilings: usize) -> Link {

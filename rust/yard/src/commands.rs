@@ -18,7 +18,7 @@ const COMMANDS: [(&str, &str); 11] = [
     ("best", "YARD BOUND..."),
     ("judge", "YARD LINK..."),
     ("text", "YARD"),
-    ("survey", "YARD [--record plain|counted]"),
+    ("survey", "YARD [--record plain|counted|resting]"),
     ("list", "YARD"),
     ("fetch", "FILE.list PLAN"),
     ("index", "FILE.list"),
@@ -185,7 +185,7 @@ fn frontier(file: &OsStr, survey: &Survey) -> Result<Vec<u8>, Failure> {
     if plans.is_empty() {
         return Err(named(
             file,
-            "no tree connects the stations: there is no plan to draw",
+            "no tree connects the working stations: there is no plan to draw",
         ));
     }
     Ok(chart(survey.yard(), &plans).into_bytes())

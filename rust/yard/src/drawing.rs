@@ -1,4 +1,5 @@
-//! The picture of a yard: stations on a circle, links between them, one plan in colour.
+//! The picture of a yard: stations on a circle, hollow at rest, links between them, one plan in
+//! colour.
 
 use crate::figures::{counted, grouped};
 use crate::labels::{Area, Taken};
@@ -30,40 +31,95 @@ text { text-anchor: middle; }
 .name { font-size: 15px; font-weight: bold; fill: #fff; }
 ";
 
+/// The rules for stations at rest and the links that end at them.
+const RESTING_STYLE: &str = "\
+.unusable { fill: none; stroke: #c4c4c4; stroke-width: 1; stroke-dasharray: 3 4; }
+.unusable-number { font-size: 13px; fill: #b4b4b4; }
+.resting { fill: #fff; stroke: #9aa5ae; stroke-width: 1.6; }
+.resting-name { font-size: 15px; font-weight: bold; fill: #9aa5ae; }
+";
+/// What hollow circles and dashed lines mean.
+const RESTING_NOTE: &str = "hollow: at rest; dashed: links that end at a station at rest";
+
+/// How a link is drawn.
+#[derive(Clone, Copy, PartialEq, Eq)]
+enum Look {
+    Unusable,
+    Usable,
+    Planned,
+}
+
+impl Look {
+    /// Every look, from the one drawn first to the one drawn over all others.
+    const ALL: [Look; 3] = [Look::Unusable, Look::Usable, Look::Planned];
+
+    /// The classes of the link and of its number.
+    fn classes(self) -> [&'static str; 2] {
+        match self {
+            Look::Unusable => ["unusable", "unusable-number"],
+            Look::Usable => ["link", "number"],
+            Look::Planned => ["planned", "planned-number"],
+        }
+    }
+}
+
 /// Draws a yard, and a plan of it with its number in the list.
 pub fn draw(yard: &Yard, plan: Option<(u32, &Plan)>) -> String {
-    let mut svg = Svg::new(WIDTH, HEIGHT, STYLE);
+    let all_work = yard.resting.is_empty();
+    let more_style = if all_work { "" } else { RESTING_STYLE };
+    let mut svg = Svg::new(WIDTH, HEIGHT, &[STYLE, more_style].concat());
     svg.text("title", at(CENTRE.x, 40.0), &title(plan));
     svg.text("note", at(CENTRE.x, 64.0), &note(yard, plan));
-    let stations = station_places(yard.stations);
-    let curves = link_curves(yard, &stations);
-    let planned = plan.map_or(&[][..], |(_, plan)| &plan.links);
-    draw_links(&mut svg, &curves, planned);
-    draw_numbers(&mut svg, &number_areas(&stations, &curves), planned);
-    for (number, &place) in stations.iter().enumerate() {
-        svg.circle("station", place, STATION);
-        svg.text("name", place.moved(0.0, 5.5), &number.to_string());
+    if !all_work {
+        svg.text("note", at(CENTRE.x, 84.0), RESTING_NOTE);
     }
+    let places = station_places(yard.stations);
+    let curves = link_curves(yard, &places);
+    let looks = looks(yard, plan.map_or(&[][..], |(_, plan)| &plan.links));
+    draw_links(&mut svg, &curves, &looks);
+    draw_numbers(&mut svg, &number_areas(&places, &curves), &looks);
+    draw_stations(&mut svg, yard, &places);
     svg.finish()
 }
 
-/// Draws the plan's links over the others.
-fn draw_links(svg: &mut Svg, curves: &[Curve], planned: &[u8]) {
-    for (class, in_plan) in [("link", false), ("planned", true)] {
-        for (link, &curve) in (0..).zip(curves) {
-            if planned.contains(&link) == in_plan {
+/// How each link is drawn.
+fn looks(yard: &Yard, planned: &[u8]) -> Vec<Look> {
+    let numbered = (0..).zip(&yard.links);
+    let look = |(number, link)| match (planned.contains(&number), yard.is_usable(link)) {
+        (true, _) => Look::Planned,
+        (false, true) => Look::Usable,
+        (false, false) => Look::Unusable,
+    };
+    numbered.map(look).collect()
+}
+
+fn draw_links(svg: &mut Svg, curves: &[Curve], looks: &[Look]) {
+    for drawn in Look::ALL {
+        let [class, _] = drawn.classes();
+        for (&curve, &look) in curves.iter().zip(looks) {
+            if look == drawn {
                 svg.curve(class, curve);
             }
         }
     }
 }
 
-fn draw_numbers(svg: &mut Svg, areas: &[Area], planned: &[u8]) {
-    for (link, area) in (0..).zip(areas) {
-        let in_plan = planned.contains(&link);
-        let class = if in_plan { "planned-number" } else { "number" };
+fn draw_numbers(svg: &mut Svg, areas: &[Area], looks: &[Look]) {
+    for (link, (area, look)) in areas.iter().zip(looks).enumerate() {
+        let [_, class] = look.classes();
         svg.rect("blank", area);
         svg.text(class, area.centre.moved(0.0, 4.5), &link.to_string());
+    }
+}
+
+fn draw_stations(svg: &mut Svg, yard: &Yard, places: &[Point]) {
+    for (number, &place) in (0..).zip(places) {
+        let [circle, name] = match yard.works(number) {
+            true => ["station", "name"],
+            false => ["resting", "resting-name"],
+        };
+        svg.circle(circle, place, STATION);
+        svg.text(name, place.moved(0.0, 5.5), &number.to_string());
     }
 }
 
@@ -88,7 +144,10 @@ fn title(plan: Option<(u32, &Plan)>) -> String {
 }
 
 fn note(yard: &Yard, plan: Option<(u32, &Plan)>) -> String {
-    let stations = counted(usize::from(yard.stations), "station");
+    let mut stations = counted(usize::from(yard.stations), "station");
+    if !yard.resting.is_empty() {
+        stations += &format!(", {} at rest", yard.resting.len());
+    }
     let links = counted(yard.links.len(), "link");
     match plan {
         Some((_, plan)) => format!("{stations}; {} of {links}", plan.links.len()),

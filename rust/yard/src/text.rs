@@ -1,14 +1,21 @@
-//! The text of a yard: a line for the yard, then a line for each link.
+//! The text of a yard: a line for the yard, one for the stations at rest if there are any, then a
+//! line for each link.
 //!
 //! ```text
 //! stations 3 ceilings 1
+//! resting 1
 //! 0 1 4 7   # two stations, a sum, a cost for each ceiling
 //! ```
 
 use crate::figures::counted;
-use ranqustei::{Link, Survey, Yard, YardError};
+use ranqustei::{Cause, Link, Survey, Yard, YardError};
 use std::fmt;
 use std::str::FromStr;
+
+/// The word before the stations at rest.
+const RESTING: &str = "resting";
+/// What a station is.
+const STATION: &str = "a station is a number from 0 to 23";
 
 /// What is wrong with a text, and in which line, counted from 1.
 #[derive(Clone, PartialEq, Eq, Debug)]
@@ -31,23 +38,32 @@ impl LineError {
 /// The survey of the yard that a text describes.
 pub fn read(text: &[u8]) -> Result<Survey, LineError> {
     let text = utf8(text)?;
-    let mut lines = filled_lines(text);
+    let mut lines = filled_lines(text).peekable();
     let Some((head, words)) = lines.next() else {
         let message = "the text has no line `stations N ceilings K1 K2`";
         return Err(LineError::new(1, message));
     };
     let (stations, ranks) = read_head(&words).map_err(|message| LineError::new(head, message))?;
+    let mut places = Places {
+        head,
+        resting: head,
+        links: Vec::new(),
+    };
+    let mut resting = Vec::new();
+    if let Some((line, words)) = lines.next_if(|(_, words)| words.first() == Some(&RESTING)) {
+        let read = read_resting(&words);
+        resting = read.map_err(|message| LineError::new(line, message))?;
+        places.resting = line;
+    }
     let mut links = Vec::new();
-    let mut link_lines = Vec::new();
     for (line, words) in lines {
         let link = read_link(&words, ranks.len());
         links.push(link.map_err(|message| LineError::new(line, message))?);
-        link_lines.push(line);
+        places.links.push(line);
     }
-    Yard::new(stations, ranks, links).survey().map_err(|error| {
-        let line = faulty_link(&error).and_then(|link| link_lines.get(link));
-        LineError::new(line.copied().unwrap_or(head), error)
-    })
+    let yard = Yard::new(stations, ranks, links).with_resting(resting);
+    yard.survey()
+        .map_err(|error| LineError::new(places.of(&error), error))
 }
 
 /// The text of a yard. Reading it back gives the same yard.
@@ -60,6 +76,10 @@ pub fn write(yard: &Yard) -> String {
         text += &format!(" {rank}");
     }
     text += "\n";
+    if !yard.resting.is_empty() {
+        let stations = yard.resting.iter().map(|station| format!(" {station}"));
+        text += &format!("{RESTING}{}\n", stations.collect::<String>());
+    }
     for (number, link) in yard.links.iter().enumerate() {
         let [a, b] = link.ends;
         text += &format!("{a} {b} {}", link.sum);
@@ -110,15 +130,22 @@ fn read_head(words: &[&str]) -> Result<(u8, Vec<u8>), String> {
     Ok((stations, ranks.iter().map(rank).collect::<Result<_, _>>()?))
 }
 
+/// The stations at rest.
+fn read_resting(words: &[&str]) -> Result<Vec<u8>, String> {
+    let stations = words.iter().skip(1);
+    stations.map(|word| figure(word, STATION)).collect()
+}
+
 fn read_link(words: &[&str], ceilings: usize) -> Result<Link, String> {
     let (a, b, sum, costs) = match *words {
+        [RESTING, ..] => return Err(format!("a line `{RESTING}` comes second, before the links")),
         [a, b, sum, ref costs @ ..] if costs.len() == ceilings => (a, b, sum, costs),
         _ => {
             let (need, found) = (link_need(ceilings), counted(words.len(), "number"));
             return Err(format!("a link needs {need}: found {found}"));
         }
     };
-    let end = |word| figure(word, "a station is a number from 0 to 23");
+    let end = |word| figure(word, STATION);
     let cost = |word: &&str| figure(word, "a ceiling cost is a number from -32768 to 32767");
     let ends = [end(a)?, end(b)?];
     let sum = figure(sum, "a sum is a number from -1000000 to 1000000")?;
@@ -138,11 +165,29 @@ fn figure<T: FromStr>(word: &str, rule: &str) -> Result<T, String> {
     word.parse().map_err(|_| format!("{rule}: found `{word}`"))
 }
 
-/// The number of the link that an error speaks of.
-fn faulty_link(error: &YardError) -> Option<usize> {
-    match error {
-        YardError::Costs { link, .. } => Some(*link),
-        YardError::Refused(refusal) => refusal.link().map(usize::from),
-        _ => None,
+/// The lines of a yard.
+struct Places {
+    /// That of the yard.
+    head: usize,
+    /// That of the stations at rest; that of the yard if there is none.
+    resting: usize,
+    /// That of each link.
+    links: Vec<usize>,
+}
+
+impl Places {
+    /// The line that an error speaks of.
+    fn of(&self, error: &YardError) -> usize {
+        let link = match error {
+            YardError::Resting { .. } => return self.resting,
+            YardError::Refused(refusal) if refusal.cause() == Cause::Resting => {
+                return self.resting
+            }
+            YardError::Refused(refusal) => refusal.link().map(usize::from),
+            YardError::Costs { link, .. } => Some(*link),
+            _ => None,
+        };
+        let line = link.and_then(|link| self.links.get(link));
+        line.copied().unwrap_or(self.head)
     }
 }

@@ -54,8 +54,9 @@ fn record(word: &OsStr) -> Result<YardRecord, Failure> {
     match word.to_str() {
         Some("plain") => Ok(YardRecord::Plain),
         Some("counted") => Ok(YardRecord::Counted),
+        Some("resting") => Ok(YardRecord::Resting),
         _ => Err(Failure::usage(format!(
-            "`{}` is no yard record, plain or counted",
+            "`{}` is no yard record, plain, counted or resting",
             word.display()
         ))),
     }

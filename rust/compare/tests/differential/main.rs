@@ -7,6 +7,7 @@ mod figures;
 mod lists;
 mod reached;
 mod report;
+mod rest_report;
 mod seeds;
 mod write_report;
 
@@ -16,14 +17,18 @@ use compare::indexing::index_calls;
 use compare::kinds::{Kind, KINDS};
 use compare::listed::is_listed;
 use compare::planner::{Archive, Peer};
+use compare::reduced::ByReduction;
 use compare::rng::Rng;
+use compare::round::survey_calls;
 use compare::round_trip::round_trip;
 use compare::tally::Tally;
 use figures::compare_figures;
 use lists::{compare_lists, with_list};
+use peer::records::{YardRecord, RESTING, WRITTEN_RECORDS};
 use peer::survey::Yard;
 use reached::{unreached, unreached_figures, unreached_lists, unreached_numbers};
 use report::{print_calls, print_indexes, print_listed, print_numbers, print_records, print_sums};
+use rest_report::print_rests;
 use seeds::{over_seeds, total_of, Tallies};
 use std::process::ExitCode;
 use write_report::print_writes;
@@ -71,6 +76,7 @@ fn print_surveys(surveys: &[(&'static Kind, Tally)], total: &Tally) {
     print_listed(surveys, total);
     print_sums(surveys, total);
     print_records(surveys, total);
+    print_rests(surveys, total);
     let [legal, damaged] = [true, false].map(|legal| {
         let mut rows = surveys.to_vec();
         rows.retain(|(kind, _)| kind.is_legal() == legal);
@@ -81,7 +87,7 @@ fn print_surveys(surveys: &[(&'static Kind, Tally)], total: &Tally) {
         total.samples, legal.samples, damaged.samples, damaged.legal
     );
     println!(
-        "{} legal surveys were written back with either yard record.",
+        "{} legal surveys were written back with each yard record that is written.",
         total.writes.round_trips
     );
 }
@@ -141,17 +147,34 @@ fn compare_survey(
         Err(refusal) => {
             tally.sums.count_refused(survey, refusal);
             tally.records.count_refused(survey, refusal);
+            tally.rests.count_refused(survey, refusal);
             return Ok(());
         }
     };
     tally.legal += 1;
     tally.sums.count_legal(&yard);
     tally.records.count_legal(survey);
+    tally.rests.count_legal(survey, &yard);
     if is_listed(&yard) {
         let by_listing = ByListing::of(&yard);
         tally.listed.count(&yard, &by_listing);
         let mut comparison = Comparison::new(&Archive, &by_listing, tally);
         kind.calls(&mut comparison, survey, rng)?;
     }
+    if YardRecord::of(survey) == RESTING {
+        compare_reduced(survey, rng, tally)?;
+    }
     Ok(())
+}
+
+/// Holds the proved planner's replies to a survey with rest bytes against its replies to the yard
+/// without the stations at rest.
+fn compare_reduced(survey: &[u8], rng: &mut Rng, tally: &mut Tally) -> Result<(), Difference> {
+    let by_reduction = ByReduction {
+        planner: &Archive,
+        record: rng.pick(&WRITTEN_RECORDS),
+    };
+    tally.rests.reduced += 1;
+    let mut comparison = Comparison::new(&Archive, &by_reduction, tally);
+    survey_calls(&mut comparison, survey, rng).map(|_| ())
 }

@@ -6,10 +6,12 @@ use compare::index_tally::{IndexTally, LIST_SORTS};
 use compare::kinds::Kind;
 use compare::list_damage::LIST_DAMAGES;
 use compare::records::marks;
+use compare::rests::{RestTally, REST_ORDER, REST_REASONS, REST_SORTS};
 use compare::sums::{OUTSIDE, SORTS};
 use compare::tally::{Call, Tally, CALLS};
 use compare::write_tally::{WriteTally, LENGTHS, UNKNOWN_KINDS, YARD_SORTS};
 use compare::yards::RANKS;
+use peer::records::{COUNTED, RESTING, YARD_RECORDS};
 use peer::survey::MAX_LINKS;
 
 /// What the surveys did not reach.
@@ -31,9 +33,17 @@ pub fn unreached(tallies: &[(&Kind, Tally)], total: &Tally) -> Vec<String> {
     if legal.clone().all(|(_, tally)| tally.sums.across == 0) {
         missing.push("a list with plans on both sides of 0".to_string());
     }
-    if !total.records.is_cut_everywhere() {
-        missing.push("40 links cut at every record end and refused by 15".to_string());
+    for (record, mark) in [COUNTED, RESTING]
+        .into_iter()
+        .zip(marks([COUNTED, RESTING]))
+    {
+        if !total.records.is_cut_everywhere(record) {
+            missing.push(format!(
+                "{mark}, 40 links cut at every record end and refused by 15"
+            ));
+        }
     }
+    missing.extend(unreached_rests(&total.rests));
     if total.writes.round_trips != total.legal {
         missing.push("every legal survey written back".to_string());
     }
@@ -49,13 +59,35 @@ fn unreached_sorts(kind: &Kind, tally: &Tally) -> Vec<String> {
         .collect()
 }
 
-/// The yard records that a kind of legal surveys lacks.
+/// The yard records that a kind of legal surveys lacks, and links to stations at rest.
 fn unreached_records(kind: &Kind, tally: &Tally) -> Vec<String> {
-    let records = marks().into_iter().zip(tally.records.legal);
-    let lacking = records.filter(|(_, count)| *count == 0);
+    let records = marks(YARD_RECORDS).into_iter().zip(tally.records.legal);
+    let records = records.map(|(mark, count)| (format!("yard record {mark}"), count));
+    let (rest, _) = REST_SORTS[0];
+    let rest = [(rest.to_string(), tally.rests.sorts[0])];
+    let lacking = lacking(records.chain(rest)).into_iter();
     lacking
-        .map(|(mark, _)| format!("yard record {mark} in {}", kind.name))
+        .map(|name| format!("{name} in {}", kind.name))
         .collect()
+}
+
+/// What the surveys with rest bytes did not reach.
+fn unreached_rests(tally: &RestTally) -> Vec<String> {
+    let sorts = REST_SORTS.iter().zip(tally.sorts);
+    let sorts = sorts.map(|((name, _), count)| (format!("a yard with {name}"), count));
+    let reasons = REST_REASONS.iter().zip(tally.reasons);
+    let reasons = reasons.map(|((name, _), count)| (format!("18 for {name}"), count));
+    let order = REST_ORDER.iter().zip(tally.order);
+    let order = order.map(|([first, other], count)| {
+        let name = format!("{first} where there is reason for {other} in a survey with rest bytes");
+        (name, count)
+    });
+    let short = tally.has_all_short_lengths().into();
+    let short = [(
+        "a yard record with rest bytes cut at each byte".to_string(),
+        short,
+    )];
+    lacking(sorts.chain(reasons).chain(order).chain(short))
 }
 
 /// What the hand-made lists did not reach.

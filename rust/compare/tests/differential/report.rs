@@ -7,6 +7,7 @@ use compare::list_damage::LIST_DAMAGES;
 use compare::records::marks;
 use compare::sums::{OUTSIDE, SORTS};
 use compare::tally::{Tally, CALLS, NUMBERS};
+use peer::records::{COUNTED, RESTING, YARD_RECORDS};
 
 /// How often each call was made on each kind of samples, for the calls that were made on some.
 pub fn print_calls(samples: &str, tallies: &[(&str, Tally)], total: &Tally) {
@@ -62,7 +63,7 @@ pub fn print_sums(tallies: &[(&Kind, Tally)], total: &Tally) {
 
 /// The yard records of the legal surveys, and the cuts that a link count gave away.
 pub fn print_records(tallies: &[(&Kind, Tally)], total: &Tally) {
-    let marks = marks();
+    let marks = marks(YARD_RECORDS);
     println!(
         "\n| yard records of legal surveys | {} |",
         marks.join(" | ")
@@ -73,9 +74,10 @@ pub fn print_records(tallies: &[(&Kind, Tally)], total: &Tally) {
         let counts = tally.records.legal.map(|count| count.to_string());
         println!("| {name} | {} |", counts.join(" | "));
     }
+    let [counted, resting] = [COUNTED, RESTING].map(|record| total.records.cuts(record));
     println!(
-        "\nA yard of 40 links was cut at {} record ends and refused by 15.",
-        total.records.cuts()
+        "\nA yard of 40 links was cut at {counted} record ends and refused by 15; with rest bytes, \
+         at {resting}."
     );
 }
 

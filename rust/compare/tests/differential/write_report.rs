@@ -6,6 +6,7 @@ use compare::sums::SORTS;
 use compare::tally::{Call, Tally, CALLS};
 use compare::write_tally::{WriteTally, LENGTHS, UNKNOWN_KINDS, YARD_SORTS};
 use compare::yards::RANKS;
+use peer::records::WRITTEN_RECORDS;
 
 /// All tables.
 pub fn print_writes(total: &Tally) {
@@ -36,7 +37,8 @@ fn print_legal(total: &Tally) {
 
 /// The lengths of what was lent: where figures and kind are right, how many calls wrote.
 fn print_lengths(tally: &WriteTally) {
-    let records = marks().map(|mark| format!("output, {mark}: written | refused by 17"));
+    let records =
+        marks(WRITTEN_RECORDS).map(|mark| format!("output, {mark}: written | refused by 17"));
     let records = records.join(" | ");
     println!("\n| length | {records} | ends: written | refused by 7 | costs: written |");
     println!("|---|---|---|---|---|---|---|---|");

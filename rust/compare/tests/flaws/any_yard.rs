@@ -1,5 +1,6 @@
 //! Planners that are wrong on yards of any sort.
 
+use crate::trees_at_rest::all_values;
 use compare::planner::Planner;
 use peer::listing::Listing;
 use peer::plan::Plan;
@@ -140,11 +141,16 @@ pub struct Walking {
     pub past: usize,
     /// Whether it lists dominated vectors.
     pub keeps_dominated: bool,
+    /// Whether it places the values of unusable links too.
+    pub places_unusable: bool,
 }
 
 impl Walking {
-    fn walk(&self, listing: &Listing) -> (u32, Vec<Plan>) {
-        let values = [0, 1].map(|ceiling| listing.values(ceiling));
+    fn walk(&self, yard: &Yard, listing: &Listing) -> (u32, Vec<Plan>) {
+        let values = [0, 1].map(|ceiling| match self.places_unusable {
+            true => all_values(yard, ceiling),
+            false => listing.values(ceiling),
+        });
         let (mut marked, mut solved, mut found) = (HashSet::new(), 0, Vec::new());
         for a in 0..values[0].len() {
             for b in 0..values[1].len() {
@@ -178,7 +184,7 @@ impl Planner for Walking {
         peer::list(survey, allowance, buffer)?;
         let yard = Yard::read(survey)?;
         if yard.links().len() <= 12 {
-            let (solved, plans) = self.walk(&Listing::of(&yard));
+            let (solved, plans) = self.walk(&yard, &Listing::of(&yard));
             plan_list::write(buffer, &yard, solved, &plans);
         }
         Ok(())

@@ -1,14 +1,14 @@
-//! Planners that are wrong only where a survey has the yard record with a link count, and others
-//! that are wrong only where it has no known yard mark.
+//! Planners that are wrong only where a survey has a yard record with a link count, and others that
+//! are wrong only where it has no known yard mark.
 
 use crate::reading::Reading;
 use compare::planner::Planner;
 use peer::records::{YardRecord, COUNTED, LINK_BYTES, PLAIN, YARD_RECORDS};
 use peer::Refusal;
 
-/// Whether a survey opens with the yard record that has a link count.
+/// Whether a survey opens with a yard record that has a link count.
 pub fn is_counted(survey: &[u8]) -> bool {
-    survey.starts_with(&COUNTED.mark)
+    YardRecord::of(survey).count_at.is_some()
 }
 
 /// Whether a survey opens with the mark of some yard record.
@@ -26,11 +26,12 @@ fn is_measured_by(record: YardRecord, survey: &[u8]) -> bool {
 
 /// The link count of a survey, and how many links are present, if it has a count.
 fn counts(survey: &[u8]) -> Option<[usize; 2]> {
-    if !is_counted(survey) || !is_measured_by(COUNTED, survey) {
+    let record = YardRecord::of(survey);
+    if !is_counted(survey) || !is_measured_by(record, survey) {
         return None;
     }
-    let present = (survey.len() - COUNTED.bytes) / LINK_BYTES;
-    let written = COUNTED.written_count(survey)?;
+    let present = (survey.len() - record.bytes) / LINK_BYTES;
+    let written = record.written_count(survey)?;
     Some([written, present])
 }
 
@@ -38,7 +39,8 @@ fn counts(survey: &[u8]) -> Option<[usize; 2]> {
 pub fn recounting(count: fn([usize; 2]) -> usize) -> impl Planner {
     Reading(move |survey: &[u8]| {
         let mut survey = survey.to_vec();
-        if let Some((at, counts)) = COUNTED.count_at.zip(counts(&survey)) {
+        let at = YardRecord::of(&survey).count_at;
+        if let Some((at, counts)) = at.zip(counts(&survey)) {
             survey[at] = count(counts).min(255) as u8;
         }
         Ok(survey)
@@ -80,7 +82,7 @@ pub fn measured_as_plain(survey: &[u8]) -> Result<Vec<u8>, Refusal> {
     Ok(survey.to_vec())
 }
 
-/// Does not know the mark of the record with a count.
+/// Does not know the marks of the records with a count.
 pub fn without_counted_mark(survey: &[u8]) -> Result<Vec<u8>, Refusal> {
     let mut survey = survey.to_vec();
     if is_counted(&survey) {

@@ -8,10 +8,13 @@ mod link_counts;
 mod lookups;
 mod on_figures;
 mod on_lists;
+mod on_resting;
 mod orders;
 mod outputs;
 mod reading;
+mod resting;
 mod signed_sums;
+mod trees_at_rest;
 mod two_ranks;
 mod write_refusals;
 

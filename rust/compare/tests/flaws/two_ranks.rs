@@ -110,7 +110,8 @@ pub fn fit_without_both(tree: &Exceptions) -> bool {
 
 /// Takes only the cheapest exceptions without a ring, whatever bounds they are above.
 pub fn fit_by_the_cheapest(tree: &Exceptions) -> bool {
-    let mut cheapest = tree.among(tree.yard.links());
+    let usable: Vec<Link> = tree.yard.usable_links().copied().collect();
+    let mut cheapest = tree.among(&usable);
     cheapest.retain(|link| tree.is_allowed_alone(link));
     cheapest.sort_by_key(|link| (link.sum, link.number));
     let mut groups = Groups::apart();

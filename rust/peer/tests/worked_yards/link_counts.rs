@@ -95,7 +95,7 @@ fn the_mark_says_how_long_the_yard_record_is() {
 
 #[test]
 fn an_unknown_mark_is_measured_by_6_and_12() {
-    for mark in [[0x59, 0x43], [0x59, 0x46], [0x58, 0x45], [0x45, 0x59]] {
+    for mark in [[0x59, 0x43], [0x59, 0x47], [0x58, 0x45], [0x45, 0x59]] {
         for len in 2..60 {
             let mut bytes = vec![0; len];
             bytes[..2].copy_from_slice(&mark);

@@ -3,6 +3,7 @@
 mod document_01;
 mod indexes;
 mod link_counts;
+mod resting;
 mod samples;
 mod signed_sums;
 mod two_ranks;

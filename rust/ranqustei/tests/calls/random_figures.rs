@@ -2,8 +2,8 @@
 
 use crate::random::Random;
 use crate::samples::told;
-use crate::writing::{encoded, written, KINDS};
-use ranqustei::{Figures, Survey};
+use crate::writing::{encoded, written, KINDS, RESTING};
+use ranqustei::{Figures, Survey, YardRecord};
 
 /// Figures with columns of their own.
 struct Draft {
@@ -104,6 +104,16 @@ fn check(kind: u32, figures: &Figures) -> bool {
     read.is_ok()
 }
 
+/// Holds the survey with the resting yard record against one with another: no station rests.
+fn check_resting(figures: &Figures) {
+    let [other, resting] = [KINDS[0], RESTING].map(|kind| Survey::new(encoded(kind, figures)));
+    let yards = [&other, &resting].map(|survey| survey.as_ref().map(Survey::yard));
+    assert_eq!(yards[0], yards[1]);
+    if let Ok(yard) = yards[0] {
+        assert_eq!(yard.survey_with(YardRecord::Resting).ok(), resting.ok());
+    }
+}
+
 #[test]
 fn figures_are_declined_as_their_surveys_are() {
     let mut random = Random(10);
@@ -115,6 +125,7 @@ fn figures_are_declined_as_their_surveys_are() {
         }
         let [plain, counted] = KINDS.map(|kind| check(kind, &draft.figures()));
         assert_eq!(plain, counted);
+        check_resting(&draft.figures());
         assert!(plain || round % 4 > 0);
         accepted += usize::from(plain);
     }

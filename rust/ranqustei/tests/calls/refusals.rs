@@ -42,7 +42,8 @@ fn surveys_of_a_wrong_length() {
             1,
             0,
             Cause::Length,
-            "a survey is 6 bytes, or 7 with a link count, and then 12 bytes for each link",
+            "a survey is 6 bytes, or 7 with a link count, or 10 with stations at rest, and then \
+             12 bytes for each link",
         );
     }
 }
@@ -99,6 +100,16 @@ fn link_counts() {
     for count in [2, 4] {
         let refusal = edited_in(survey.clone(), 6, count);
         check(refusal, 15, 0, Cause::LinkCount, words);
+    }
+}
+
+#[test]
+fn stations_at_rest() {
+    let survey = bytes_of(&yard_a(1), YardRecord::Resting);
+    let words = "a station at rest is not in the yard, or no station works";
+    for (at, rest) in [(7, 0b111), (7, 0b1000), (8, 1), (9, 0x80)] {
+        let refusal = edited_in(survey.clone(), at, rest);
+        check(refusal, 18, 0, Cause::Resting, words);
     }
 }
 
@@ -160,9 +171,8 @@ fn buffers_and_allowance() {
 #[test]
 fn drawn_links_and_bounds() {
     let survey = bytes_a();
-    let words =
-        "the drawn links are no tree of the yard: they must be one fewer than the stations, \
-                 rising, in the survey, and without a ring";
+    let words = "the drawn links are no tree of the yard: they must be one fewer than the working \
+                 stations, rising, in the survey, at no resting station, and without a ring";
     for drawn in [&[][..], &[0], &[0, 1, 2], &[1, 0], &[1, 1], &[0, 3]] {
         check(judge(&survey, drawn).err(), 11, 0, Cause::Drawn, words);
     }

@@ -3,7 +3,7 @@
 use ranqustei::{Figures, Link, Refusal, Yard, YardRecord};
 
 /// The yard records that a survey may have.
-pub const RECORDS: [YardRecord; 2] = [YardRecord::Plain, YardRecord::Counted];
+pub const RECORDS: [YardRecord; 3] = [YardRecord::Plain, YardRecord::Counted, YardRecord::Resting];
 
 /// A yard from its stations, its ranks and its links: two ends, a sum, ceiling costs.
 pub fn yard(stations: u8, ranks: &[u8], links: &[(u8, u8, i32, &[i16])]) -> Yard {
@@ -64,7 +64,7 @@ pub fn largest() -> Yard {
     yard
 }
 
-/// Accepted yards of every size.
+/// Accepted yards of every size, with all stations at work.
 pub fn yards() -> [Yard; 7] {
     [
         yard(1, &[], &[]),

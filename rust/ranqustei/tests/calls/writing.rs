@@ -5,16 +5,22 @@ use ranqustei::{write_survey, Figures, Survey, YardRecord};
 
 const PLAIN: u32 = 0x5944;
 const COUNTED: u32 = 0x5945;
-/// The kinds of yard record.
+/// The kinds of yard record that are written.
 pub const KINDS: [u32; 2] = [PLAIN, COUNTED];
+/// The kind that is only read.
+pub const RESTING: u32 = 0x5946;
 
-/// The survey of figures, accepted or not; every link has two ends and two costs.
+/// The survey of figures, accepted or not, with all stations at work; every link has two ends and
+/// two costs.
 pub fn encoded(kind: u32, figures: &Figures) -> Vec<u8> {
     let [k1, k2] = figures.ranks;
     let mut bytes = (kind as u16).to_be_bytes().to_vec();
     bytes.extend([figures.stations, figures.ceilings, k1, k2]);
-    if kind == COUNTED {
+    if kind != PLAIN {
         bytes.push(figures.sums.len() as u8);
+    }
+    if kind == RESTING {
+        bytes.extend([0; 3]);
     }
     let (ends, costs) = (figures.ends.chunks(2), figures.costs.chunks(2));
     for ((ends, sum), costs) in ends.zip(figures.sums).zip(costs) {
@@ -52,7 +58,7 @@ fn survey_a() {
     let counted = [b"YE\x03\x01\x01\x00\x03", &links[..]].concat();
     assert_eq!(written(PLAIN, &figures_a(), 42), Ok(plain));
     assert_eq!(written(COUNTED, &figures_a(), 43), Ok(counted));
-    assert_eq!(RECORDS.map(YardRecord::kind), KINDS);
+    assert_eq!(RECORDS.map(YardRecord::kind), [PLAIN, COUNTED, RESTING]);
 }
 
 #[test]
@@ -97,7 +103,7 @@ fn the_order_of_numbers() {
         sums: &[2_000_000; 41],
         costs: &[7, 0, 2, 0, 9, 1],
     };
-    assert_eq!(written(0x5946, &figures, 0), Err((2, 0)));
+    assert_eq!(written(RESTING, &figures, 0), Err((2, 0)));
     assert_eq!(declined(&figures), Some((3, 0)));
     figures.stations = 3;
     assert_eq!(declined(&figures), Some((4, 0)));

@@ -7,9 +7,9 @@ const COMMANDS: [&str; 11] = [
     "plans", "best", "judge", "text", "survey", "list", "fetch", "index", "cheapest", "draw",
     "frontier",
 ];
-const WORDS: [&str; 20] = [
-    "stations", "ceilings", "0", "1", "2", "3", "24", "-1", "255", "1000001", "-1000000",
-    "-1000001", "32768", "#", "\n", "\n", "–", "x", "\t", "\r\n",
+const WORDS: [&str; 21] = [
+    "stations", "ceilings", "resting", "0", "1", "2", "3", "24", "-1", "255", "1000001",
+    "-1000000", "-1000001", "32768", "#", "\n", "\n", "–", "x", "\t", "\r\n",
 ];
 
 /// Runs a command; a failure has a sentence and status 1 or 2.
@@ -25,12 +25,13 @@ fn answers(words: &[&str], input: &[u8]) -> bool {
 
 /// A text of random words, often with a good head.
 fn random_text(random: &mut Random) -> String {
-    let mut text = if random.below(2) == 0 {
-        "stations 3 ceilings 1\n"
-    } else {
-        ""
-    }
-    .to_string();
+    let heads = [
+        "",
+        "",
+        "stations 3 ceilings 1\n",
+        "stations 3 ceilings 1\nresting 1\n",
+    ];
+    let mut text = heads[random.below(4)].to_string();
     for _ in 0..random.below(24) {
         text += WORDS[random.below(WORDS.len())];
         text += if random.below(4) == 0 { "\n" } else { " " };
@@ -57,8 +58,8 @@ fn any_words() {
     let mut random = Random(6);
     let text = text_a();
     let words = [
-        "-o", "--plan", "--record", "plain", "counted", "-", "0", "1", "-5", "300", "help", "",
-        "--", "–", "x.list", "x.index", "x.survey",
+        "-o", "--plan", "--record", "plain", "counted", "resting", "-", "0", "1", "-5", "300",
+        "help", "", "--", "–", "x.list", "x.index", "x.survey",
     ];
     for _ in 0..4_000 {
         let command = COMMANDS[random.below(COMMANDS.len())];
@@ -71,12 +72,12 @@ fn any_words() {
 #[test]
 fn any_bytes_in_files() {
     let mut random = Random(7);
-    let good = ["plain", "counted"].map(|record| {
+    let good = ["plain", "counted", "resting"].map(|record| {
         let survey = run_bytes(&["survey", "-", "--record", record], text_a());
         survey.expect("survey A is accepted")
     });
     for round in 0..300 {
-        let mut bytes = good[round % 2].clone();
+        let mut bytes = good[round % 3].clone();
         for _ in 0..random.below(3) {
             let at = random.below(bytes.len());
             bytes[at] = random.below(16) as u8;

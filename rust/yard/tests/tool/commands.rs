@@ -57,7 +57,8 @@ fn best_and_judge_on_survey_a() {
     assert_eq!(on_a("best", &["-32768"]), none);
     let no_tree = refused(
         "standard input: the drawn links are no tree of the yard: they must be one fewer than the \
-         stations, rising, in the survey, and without a ring (number 11, place 0)",
+         working stations, rising, in the survey, at no resting station, and without a ring \
+         (number 11, place 0)",
     );
     assert_eq!(on_a("judge", &["2", "0"]), no_tree);
     assert_eq!(on_a("judge", &[]), no_tree);
@@ -82,7 +83,11 @@ fn surveys_and_texts_keep_everything() {
     for name in example_yards() {
         let text = run(&["text", &name], "").expect("the example is accepted");
         assert_eq!(run(&["text", "-"], &text), Ok(text.clone()), "{name}");
-        for record in ["plain", "counted"] {
+        let records = match text.contains("\nresting ") {
+            true => &["resting"][..],
+            false => &["plain", "counted", "resting"],
+        };
+        for record in records {
             let survey = |file| {
                 let written = run_bytes(&["survey", file, "--record", record], &text);
                 written.expect("the example is accepted")
@@ -136,7 +141,7 @@ fn yards_without_a_frontier() {
         "standard input: the yard has no ceiling: it has one plan at most, and there is no \
                       frontier to draw";
     assert_eq!(run(&["frontier", "-"], "stations 1"), refused(no_ceiling));
-    let no_tree = "standard input: no tree connects the stations: there is no plan to draw";
+    let no_tree = "standard input: no tree connects the working stations: there is no plan to draw";
     assert_eq!(
         run(&["frontier", "-"], "stations 2 ceilings 1"),
         refused(no_tree)
@@ -181,7 +186,7 @@ fn wrong_words() {
     for (command, takes) in [
         ("plans", "YARD"),
         ("text", "YARD"),
-        ("survey", "YARD [--record plain|counted]"),
+        ("survey", "YARD [--record plain|counted|resting]"),
         ("list", "YARD"),
         ("frontier", "YARD"),
     ] {
@@ -231,7 +236,7 @@ fn yard_records_are_for_surveys_alone() {
 #[test]
 fn wrong_yard_records() {
     for record in ["", "x", "Plain", "59 45"] {
-        let words = format!("`{record}` is no yard record, plain or counted");
+        let words = format!("`{record}` is no yard record, plain, counted or resting");
         assert_eq!(on_a("survey", &["--record", record]), misused(&words));
     }
     assert_eq!(

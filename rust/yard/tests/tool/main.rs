@@ -9,6 +9,7 @@ mod process;
 mod random;
 mod readme;
 mod records;
+mod resting;
 mod signed_sums;
 mod tool;
 mod yard_text;

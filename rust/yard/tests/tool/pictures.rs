@@ -21,9 +21,11 @@ fn check(words: &[&str], yard: &str, picture: &str) {
 
 #[test]
 fn pictures_of_the_documents() {
-    let [orchard, solar] = ["orchard", "solar"].map(|yard| format!("examples/yards/{yard}.txt"));
-    let plan = ["draw", "--plan", "5"];
-    check(&plan, &orchard, "docs/pictures/orchard-plan.svg");
+    let yards = ["orchard", "orchard-winter", "solar"];
+    let [orchard, winter, solar] = yards.map(|yard| format!("examples/yards/{yard}.txt"));
+    let plan = |number| ["draw", "--plan", number];
+    check(&plan("5"), &orchard, "docs/pictures/orchard-plan.svg");
+    check(&plan("1"), &winter, "docs/pictures/orchard-winter-plan.svg");
     check(
         &["frontier"],
         &orchard,
@@ -56,6 +58,28 @@ fn survey_a() {
     let bare = run(&["draw", "-"], text_a()).expect("the yard is drawn");
     assert!(bare.contains(">The yard</text>") && bare.contains(">3 stations, 3 links</text>"));
     assert!(!bare.contains("class=\"planned\""));
+}
+
+#[test]
+fn stations_at_rest() {
+    let text = "stations 4 ceilings 1\nresting 1 3\n0 1 4 7\n0 2 1 9\n1 3 3 2\n2 0 1 8\n";
+    let [plan, frontier] = draw(text);
+    assert!(plan.contains(">4 stations, 2 at rest; 1 of 4 links</text>"));
+    assert!(plan.contains(">hollow: at rest; dashed: links that end at a station at rest</text>"));
+    for (class, count) in [
+        ("station", 2),
+        ("resting", 2),
+        ("planned", 1),
+        ("link", 1),
+        ("unusable", 2),
+        ("unusable-number", 2),
+    ] {
+        let class = format!("class=\"{class}\"");
+        assert_eq!(plan.matches(&class).count(), count, "{class}");
+    }
+    assert_eq!(frontier.matches("class=\"dot\"").count(), 1);
+    let working = run(&["draw", "-"], text_a()).expect("the yard is drawn");
+    assert!(!working.contains("rest") && !working.contains("unusable"));
 }
 
 #[test]

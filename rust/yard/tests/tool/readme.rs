@@ -41,6 +41,7 @@ fn folder() -> PathBuf {
     for example in [
         "yards/survey-a.txt",
         "yards/orchard.txt",
+        "yards/orchard-winter.txt",
         "yards/heather.txt",
         "yards/solar.txt",
         "cut-off.survey",

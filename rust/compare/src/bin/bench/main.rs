@@ -10,7 +10,7 @@ use compare::rng::Rng;
 use compare::yards::{Layout, Recipe, Signs, Values};
 use peer::plan_list;
 use peer::records::COUNTED;
-use peer::survey::{Yard, MAX_LINKS};
+use peer::survey::{Link, Yard, MAX_LINKS};
 use peer::walk::Positions;
 use std::hint::black_box;
 use timing::{fastest, print_ratios, RUNS};
@@ -26,7 +26,11 @@ const SINGLE_RANKS: [[u8; 2]; 3] = [[1, 0], [2, 0], [3, 0]];
 const HARD_LINKS: i64 = MAX_LINKS as i64;
 const SETS: [(&str, Values); 2] = [("hard", Values::Different), ("opposed", Values::Opposed)];
 /// The stations of the yards with signed sums or a link count.
-const VARIANT_STATIONS: u8 = 16;
+const VARIANT_STATIONS: [u8; 1] = [16];
+/// The stations of the yards of which some rest.
+const RESTING_STATIONS: [u8; 2] = [16, 24];
+/// One station in so many rests there.
+const ONE_IN: u8 = 4;
 
 fn main() {
     println!(
@@ -37,11 +41,20 @@ fn main() {
     println!("Sets: large, any connected yard; hard, {HARD_LINKS} links and no value twice;");
     println!("opposed, {HARD_LINKS} links, the lower the sum the higher the ceiling costs.");
     println!("Their sums are not below 0; signed is hard with sums on both sides of 0.");
-    println!("Their yard record has no link count; counted is hard with one.");
+    println!(
+        "Their yard record has no link count; counted is hard with one. In resting, which is hard"
+    );
+    println!("with a link count and rest bytes, one station in {ONE_IN} rests.");
     compare_planners();
     let yards = || hard(HARD_LINKS, Values::Different);
-    compare_variant("Signed sums", "signed", &yards().with_signs(Signs::Mixed));
-    compare_variant("Link counts", "counted", &yards().with_record(COUNTED));
+    let [signed, counted, resting] = [
+        yards().with_signs(Signs::Mixed),
+        yards().with_record(COUNTED),
+        yards().with_rest(ONE_IN),
+    ];
+    compare_variant("Signed sums", "signed", &signed, &VARIANT_STATIONS);
+    compare_variant("Link counts", "counted", &counted, &VARIANT_STATIONS);
+    compare_variant("Stations at rest", "resting", &resting, &RESTING_STATIONS);
     growth();
     compare_indexes();
     writing::print_table();
@@ -83,13 +96,16 @@ fn ratios(rows: &[Row], call: fn(&Row) -> [f64; 2]) -> Vec<f64> {
 }
 
 /// The table of both calls on a variant of the hard set.
-fn compare_variant(title: &str, set: &str, recipe: &Recipe) {
+fn compare_variant(title: &str, set: &str, recipe: &Recipe, stations: &[u8]) {
     println!("\n## {title}: the list call, then the ceilings question\n");
     println!("| set | n | k | solved | archive | peer | ratio | archive | peer | ratio |");
     println!("|---|---|---|---|---|---|---|---|---|---|");
-    for ranks in RANKS {
-        let surveys = yards_of(recipe, VARIANT_STATIONS, ranks);
-        let row = Row::new(label(set, VARIANT_STATIONS, ranks), &surveys);
+    let rows = stations
+        .iter()
+        .flat_map(|&stations| RANKS.map(|ranks| (stations, ranks)));
+    for (stations, ranks) in rows {
+        let surveys = yards_of(recipe, stations, ranks);
+        let row = Row::new(label(set, stations, ranks), &surveys);
         let (label, solved) = (&row.label, row.solved);
         let ([list, peer_list], [best, peer_best]) = (row.list, row.best);
         let [list_ratio, best_ratio] = [list / peer_list, best / peer_best];
@@ -215,9 +231,10 @@ fn time_list(survey: &[u8], yard: &Yard) -> (f64, [f64; 2]) {
 /// The time of a ceilings question, the mean over positions of the yard's walk.
 fn time_best(survey: &[u8], yard: &Yard) -> [f64; 2] {
     let mut rng = Rng::new(1);
-    let mut bound = |ceiling: usize| match yard.links() {
+    let links: Vec<Link> = yard.usable_links().copied().collect();
+    let mut bound = |ceiling: usize| match links[..] {
         [] => 0,
-        links => rng.pick(links).costs[ceiling],
+        _ => rng.pick(&links).costs[ceiling],
     };
     let questions: Vec<[i16; 2]> = (0..QUESTIONS).map(|_| [bound(0), bound(1)]).collect();
     let mut tree = [0; MAX_LINKS];

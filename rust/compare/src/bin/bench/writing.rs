@@ -10,7 +10,7 @@ use compare::rng::Rng;
 use compare::sums::HIGHEST;
 use compare::write_rules::Request;
 use compare::yards::Values;
-use peer::records::{YardRecord, YARD_RECORDS};
+use peer::records::{YardRecord, WRITTEN_RECORDS};
 use std::hint::black_box;
 
 /// Writes of a run.
@@ -40,7 +40,7 @@ pub fn print_table() {
     let mut ratios = Vec::new();
     for (name, stations, links, change) in ROWS {
         let columns = columns_of(stations, links, change);
-        for (record, mark) in YARD_RECORDS.into_iter().zip(marks()) {
+        for (record, mark) in WRITTEN_RECORDS.into_iter().zip(marks(WRITTEN_RECORDS)) {
             let [archive, peer] = time_row(record, &columns);
             let ratio = archive / peer;
             println!(

@@ -1,4 +1,4 @@
--- The loop that collects the links that are kept, with the leaders after each of them, and stops once all stations are joined.
+-- The loop that collects the links that are kept, with the leaders after each of them, and stops once all stations that are to be joined are.
 use Prim.Native.Nat.{ℕ, _+_, _*_, _≤_, _<_}
 use mathlib.Core.Bool.{true, false}
 use mathlib.Core.List.{List, [], _∷_, _++_, append-nil, foldl-append, map}
@@ -26,7 +26,7 @@ use Rattle.kruskal.specs.Base.{Based, Joinable, Recorded, collect-end, c
 use Rattle.kruskal.specs.Base.{groupsAfter, kept, kept-sublist}
 use Rattle.kruskal.specs.Grown.{Near, kept-kruskal}
 
--- ---- no more links are kept than join all stations
+-- ---- no more links are kept than join the stations
 
 module _ {ends links : List ℕ} {goal : ℕ} (j : Joinable ends links goal) where
   -- the links join stations
@@ -194,7 +194,7 @@ module _ (ends sums links : List ℕ) where
     pub basing-end : at ≡ length links → Based ends sums links goal base history (record { count = count; sum = sum })
     basing-end h = ended (omega arith) (collect-end ends links f base _ count at (b .whole) (omega arith))
 
-    -- all stations are joined: nothing more is kept
+    -- all are joined: nothing more is kept
     pub basing-full : at ≤ length links → count ≡ goal → Based ends sums links goal base history (record { count = count; sum = sum })
     unfolding collected
     basing-full h full =

@@ -120,7 +120,8 @@ noLink = record { first = 0; second = 0; sum = pos 0; c1 = pos 0; c2 = pos 0 }
 abbrev pub linksFiguresChecked : YardFigures → List Link → ℕ → Checked
 linksFiguresChecked y links m = firstRefusal (λ i. linkFiguresChecked y (getD links i noLink) (i + 1)) m
 
--- the figures: the yard's, then the links'. There is no length to be wrong (1), no mark of a link (2), and no count beside the links (15) and no station at rest (18).
+-- the figures: the yard's, then the links'. There is no length to be wrong (1), no mark of a link (2), no count beside the links (15) and no station at
+-- rest (18).
 unfoldable pub figuresChecked : Figures → Checked
 figuresChecked f = let m = length (f .links) in yardFiguresChecked (f .yard) m orElse linksFiguresChecked (f .yard) (f .links) m
 

@@ -4,7 +4,7 @@ use survey_checks::is_outside;
 ghost use mathlib.Core.Path.{_≡_};
 ghost use Rattle.network.specs.Refusals.{badRank};
 
-// Whether k is against the rule of ceiling j, of p present ones, with n stations.
+// Whether k is against the rule of ceiling j, of p present ones, with n working stations.
 pub fn bad_rank(n: u8, p: u8, j: u8, k: u8) -> bool
     ensures { λ r. ⌜ r ≡ badRank n p j k ⌝ }
 {

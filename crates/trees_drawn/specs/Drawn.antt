@@ -1,6 +1,6 @@
 -- A list of links gone through one by one: each is to be above the one before, below m, usable, and to join two groups. With t links that is a tree.
 use Prim.Native.Nat.{ℕ, _+_, _-_, _≤_, _<_}
-use mathlib.Core.Path.{_≡_, refl, sym, ap, _∙_, fun-ext, subst}
+use mathlib.Core.Path.{_≡_, refl, sym, ap, _∙_, fun-ext}
 use mathlib.Core.Bool.{Bool, true, false, _&&_, and-false}
 use mathlib.Core.List.{List, [], _∷_, map}
 use native.Mathlib.Numerals.{add-one}
@@ -10,7 +10,7 @@ use lib.IntN.{ℤ}
 use lib.ListN.{drop, drop-of-length-le, getD, length, length-map}
 use lib.Seq.{drop-cons}
 use Rattle.order.specs.Test.{by-test, test-iff}
-use Rattle.order.specs.Lists.{all, all-mem, map-mem}
+use Rattle.order.specs.Lists.{all, all-mem}
 use Rattle.order.specs.Sorted.{Apart}
 use Rattle.spanning.specs.Labelling.{Edge, crosses}
 use Rattle.spanning.specs.LabelList.{labelOf}
@@ -18,6 +18,7 @@ use Rattle.spanning.specs.Tree.{AllWithin, EndsBelow, Within, identity, isFores
 use Rattle.spanning.specs.Size.{isForest-iff, isTree-iff}
 use Rattle.spanning.specs.Count.{forest-spans}
 use Rattle.spanning.specs.Rising.{isRisingIn, isRisingIn-iff, rising-range}
+use Rattle.spanning.specs.Best.{edges-within}
 use Rattle.spanning.specs.Listing.{isListed}
 use Rattle.forest.specs.Groups.{Led, apart, apart-labels, apart-led, joined-labels, joined-led}
 use Rattle.network.specs.Capacities.{stationsHeld}
@@ -94,11 +95,11 @@ module _ (rest : ℕ) (ends : List ℕ) (m : ℕ) where
 -- as many rising usable links as a tree has are a tree where they have no ring
 module _ (ends : ℕ → Edge) (vs : List ℕ) (m : ℕ) (usable : ℕ → Bool) (some : 0 < length vs) (distinct : Apart (λ x. x) vs)
     (within : (c : ℕ) → c < m → usable c ≡ true → Within vs (ends c)) where
+  -- links that rise below m and are usable join stations
   all-within : (ts : List ℕ) → isRisingIn 0 m ts ≡ true → all usable ts ≡ true → AllWithin vs (map ends ts)
-  all-within ts e u x k =
-      let r = map-mem ends ts x k in
-      let known = rising-range 0 m ts (isRisingIn-iff 0 m ts .0 e) (r .0) (r .1) .1 in
-      subst (λ (y : Edge). Within vs y) (sym (r .2)) (within (r .0) known (all-mem usable ts u (r .0) (r .1)))
+  all-within ts e u =
+      edges-within ends vs m usable some distinct within ts
+      (λ t k. (rising-range 0 m ts (isRisingIn-iff 0 m ts .0 e) t k .1, all-mem usable ts u t k))
 
   listed-forest : (ts : List ℕ) → length ts ≡ length vs - 1
       → isListed ends vs m usable ts ≡ isRisingIn 0 m ts && (all usable ts && isForest identity (map ends ts))

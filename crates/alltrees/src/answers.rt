@@ -1,11 +1,14 @@
-// The best tree under two bounds, and whether a reply and a tree buffer are those of a tree.
+// The best tree under bounds, and whether a reply and a tree buffer are those of a tree. Bounds of all ceilings together are a number with a
+// hexadecimal digit for each, as codes are: the bounds 2 c and 2 c + 1 both allow the codes up to c.
+use crate::listing::ANY;
 use crate::listing::NONE;
 use crate::listing::best_of;
+use crate::listing::code;
+use crate::listing::digit;
 use crate::listing::link_at;
 use crate::listing::set_of;
 use crate::listing::sum_of;
-use crate::listing::y1;
-use crate::listing::y2;
+use crate::small::CEILINGS;
 use crate::small::byte;
 
 // What buffers hold before a call.
@@ -31,24 +34,39 @@ const BOUNDS: [i16; 16] = [
     32767,
 ];
 
+// The highest bounds.
+pub const NO_BOUNDS: u64 = 0xFFF;
+
 pub fn bound(i: u8) -> i16 {
     BOUNDS[(i % 16) as usize]
 }
 
-// The code that a bound allows for ceiling i of a kind, any where it is absent.
-fn allowed(kind: u64, i: u8, bound: u8) -> u8 {
-    if i < byte(kind, 1) { bound / 2 } else { 7 }
+// The bounds as numbers for all ceilings.
+pub fn numbers(bounds: u64) -> [i16; CEILINGS] {
+    let mut given = [0i16; CEILINGS];
+    for i in 0..CEILINGS {
+        given[i] = bound(digit(bounds, (i % 3) as u8));
+    }
+    given
 }
 
-// The best tree of a yard of a kind under two bounds, or none.
-pub fn wanted(kind: u64, trees: &[u64], b1: u8, b2: u8) -> u64 {
-    best_of(trees, allowed(kind, 0, b1), allowed(kind, 1, b2))
+// The codes that bounds allow with p ceilings, any where they are absent.
+fn allowed(p: u8, bounds: u64) -> u64 {
+    bounds >> 1 & ANY | ANY >> (4 * (p % 4))
 }
 
-// Whether a tree has these costs, the sum in two's complement.
-pub fn has_costs(tree: u64, sum: u32, c1: i16, c2: i16) -> bool {
-    let s = (sum == sum_of(tree)) & (tree < NONE);
-    s & (c1 == bound(y1(tree) % 8 * 2)) & (c2 == bound(y2(tree) % 8 * 2))
+// The best tree of a yard of a kind under bounds, or none.
+pub fn wanted(kind: u64, trees: &[u64], bounds: u64) -> u64 {
+    best_of(trees, allowed(byte(kind, 1), bounds))
+}
+
+// Whether a tree has this sum, in two's complement, and these ceiling costs.
+pub fn has_costs(tree: u64, sum: u32, y: &[i16]) -> bool {
+    let mut same = (sum == sum_of(tree)) & (tree < NONE);
+    for i in 0..y.len() {
+        same = same & (y[i] == bound(code(tree, (i % 3) as u8) % 8 * 2));
+    }
+    same
 }
 
 // The links of a set, and 0 past them.

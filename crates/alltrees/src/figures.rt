@@ -1,8 +1,9 @@
-// The figures of a yard by column, and whether a buffer holds its survey.
+// The figures of a yard by column, those of its first two ceilings, and whether a buffer holds its survey.
 use crate::answers::DIRT;
 use crate::answers::bound;
 use crate::small::Yard;
 use crate::small::byte;
+use crate::small::column;
 use crate::small::length;
 use crate::small::pair;
 use crate::small::survey_byte;
@@ -28,8 +29,8 @@ impl Figures {
         self.ends[2 * at] = byte(ends, 0);
         self.ends[2 * at + 1] = byte(ends, 1);
         self.sums[at] = SUMS[(byte(yard.sums, e) % 8) as usize];
-        self.costs[2 * at] = bound(byte(yard.costs1, e) % 8 * 2);
-        self.costs[2 * at + 1] = bound(byte(yard.costs2, e) % 8 * 2);
+        self.costs[2 * at] = bound(byte(column(yard, 0), e) % 8 * 2);
+        self.costs[2 * at + 1] = bound(byte(column(yard, 1), e) % 8 * 2);
         self
     }
 }

@@ -1,9 +1,9 @@
 // The index of a list of plans, and what a lookup in it must give.
 use crate::answers::DIRT;
 use crate::listing::NONE;
+use crate::listing::code;
+use crate::listing::height;
 use crate::listing::sum_of;
-use crate::listing::y1;
-use crate::listing::y2;
 use crate::plans::ROWS;
 
 // Above whatever a plan stands by.
@@ -11,8 +11,10 @@ const WRONG: u64 = 0xFFFFFFFFFFFFFFFF;
 
 // What plan r stands by in the index, as a word: y1, sum, y2 and r. Without ceilings y1 and y2 are the same for all plans.
 fn key(plan: u64, r: u16) -> u64 {
-    let sum = plan / 65536 % 4294967296;
-    281474976710656 * (y1(plan) as u64) + 65536 * sum + 256 * (y2(plan) as u64) + (r % 256) as u64
+    let y1 = code(plan, 0) as u64;
+    let sum = height(plan) as u64;
+    let y2 = code(plan, 1) as u64;
+    y1 << 48 | sum << 16 | y2 << 8 | (r % 256) as u64
 }
 
 // What an entry r stands by, where it is a plan's number and stands after the last entry.

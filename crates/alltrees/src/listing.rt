@@ -1,12 +1,14 @@
 // All trees of a yard with their costs, first trees first. A set of links has bit 6 - e for link e, so that of two sets of one size the greater
-// is first in dictionary order. A tree is a word that holds, from the low end, 127 less its set, y2 and y1 as codes, and the sum from LOWEST
-// on, so that words compare as trees do.
+// is first in dictionary order. A tree is a word that holds, from the low end, 127 less its set, its ceiling costs as codes, the last ceiling's first,
+// and the sum from LOWEST on, so that words compare as trees do. Codes of all ceilings together are a number with a hexadecimal digit for each.
 use crate::resting::both_ends;
 use crate::resting::tree_size;
 use crate::resting::working;
 use crate::small::Yard;
 use crate::small::ZERO;
 use crate::small::byte;
+use crate::small::column;
+use crate::small::rank;
 use crate::small::sum_cost;
 use std::num::wrapping_add_u8;
 use std::num::wrapping_add_u32;
@@ -25,6 +27,9 @@ const TREES: usize = 36;
 // No tree: above every tree, with no links and the least codes.
 pub const NONE: u64 = 0x100000000000007F;
 
+// The greatest codes, under which every tree fits.
+pub const ANY: u64 = 0x777;
+
 // Below every sum, in two's complement: -16,777,216.
 const LOWEST: u32 = 0xFF000000;
 
@@ -38,17 +43,33 @@ pub fn set_of(tree: u64) -> u8 {
     127 - (tree % 128) as u8
 }
 
-pub fn y2(tree: u64) -> u8 {
-    (tree / 256 % 16) as u8
+// The digit of ceiling i.
+pub fn digit(codes: u64, i: u8) -> u8 {
+    ((codes >> (8 - 4 * (i % 3))) % 16) as u8
 }
 
-pub fn y1(tree: u64) -> u8 {
-    (tree / 4096 % 16) as u8
+// The codes of all ceiling costs, and of that by ceiling i.
+pub fn codes_of(tree: u64) -> u64 {
+    tree / 256 % 4096
+}
+
+pub fn code(tree: u64, i: u8) -> u8 {
+    digit(codes_of(tree), i)
+}
+
+// How far the sum is above the lowest.
+pub fn height(tree: u64) -> u32 {
+    (tree / 1048576 % 4294967296) as u32
 }
 
 // The sum, in two's complement.
 pub fn sum_of(tree: u64) -> u32 {
-    wrapping_add_u32((tree / 65536 % 4294967296) as u32, LOWEST)
+    wrapping_add_u32(height(tree), LOWEST)
+}
+
+// Whether codes are at most others, ceiling by ceiling: no digit of the others less these needs one to be borrowed.
+pub fn at_most(codes: u64, others: u64) -> bool {
+    wrapping_sub_u64(others | 0x888, codes) & 0x888 == 0x888
 }
 
 // How many members a set has.
@@ -93,8 +114,8 @@ fn is_tree(yard: Yard, set: u8) -> bool {
     false
 }
 
-// The links of a set in a column: byte e has all bits where the set has link e.
-fn column(set: u8) -> u64 {
+// The links of a set as a column: byte e has all bits where the set has link e.
+fn spread(set: u8) -> u64 {
     let tops = set as u64 * 0x0080402010080402 & 0x0080808080808080;
     wrapping_sub_u64(tops << 1, tops >> 7)
 }
@@ -102,7 +123,7 @@ fn column(set: u8) -> u64 {
 // How many links of a set have a code at or above one.
 pub fn at_or_above(costs: u64, set: u8, code: u8) -> u32 {
     let over = wrapping_add_u64(costs, wrapping_sub_u8(8, code) as u64 * 0x0101010101010101);
-    u64::count_ones(over & 0x0808080808080808 & column(set))
+    u64::count_ones(over & 0x0808080808080808 & spread(set))
 }
 
 // A code raised by so much, if at least k links are at or above it then.
@@ -145,18 +166,19 @@ fn sum(sums: u64, set: u8) -> u32 {
     above
 }
 
-// The costs of a set as a tree's word has them.
+// The sum of a set, and after it the codes of its ceiling costs.
 fn costs(yard: Yard, set: u8) -> u64 {
-    let s = sum(yard.sums, set) as u64;
-    let c1 = kth(yard.costs1, set, byte(yard.kind, 2)) as u64;
-    let c2 = kth(yard.costs2, set, byte(yard.kind, 3)) as u64;
-    256 * c2 + 4096 * c1 + 65536 * s
+    let mut word = sum(yard.sums, set) as u64;
+    for i in 0..3u8 {
+        word = word << 4 | kth(column(yard, i), set, rank(yard.kind, i)) as u64;
+    }
+    word
 }
 
 // The tree of a set, or none.
 pub fn tree(yard: Yard, set: u8) -> u64 {
     if is_tree(yard, set) {
-        return costs(yard, set) | (127 - set % 128) as u64;
+        return costs(yard, set) << 8 | (127 - set % 128) as u64;
     }
     NONE
 }
@@ -181,25 +203,25 @@ pub fn first(list: &[u64], count: usize) -> &[u64] {
     &list[..0]
 }
 
-// The lesser of two trees without their last bits, the second if it fits under two codes and is not below a given one.
-fn lesser(least: u64, tree: u64, from: u64, c1: u8, c2: u8, bits: u8) -> u64 {
-    let fits = (from <= tree) & (y1(tree) <= c1) & (y2(tree) <= c2);
+// The lesser of two trees without their last bits, the second if it fits under codes and is not below a given one.
+fn lesser(least: u64, tree: u64, from: u64, codes: u64, bits: u8) -> u64 {
+    let fits = (from <= tree) & at_most(codes_of(tree), codes);
     if fits & (tree >> (bits % 64) < least >> (bits % 64)) {
         return tree;
     }
     least
 }
 
-// Of the trees from a given one on that fit under two codes the least without its last bits, the first of several, or none.
-pub fn least(trees: &[u64], from: u64, c1: u8, c2: u8, bits: u8) -> u64 {
+// Of the trees from a given one on that fit under codes the least without its last bits, the first of several, or none.
+pub fn least(trees: &[u64], from: u64, codes: u64, bits: u8) -> u64 {
     let mut best = NONE;
     for i in 0..trees.len() {
-        best = lesser(best, trees[i], from, c1, c2, bits);
+        best = lesser(best, trees[i], from, codes, bits);
     }
     best
 }
 
-// The best tree under two codes: the first of the least sum.
-pub fn best_of(trees: &[u64], c1: u8, c2: u8) -> u64 {
-    least(trees, 0, c1, c2, 16)
+// The best tree under codes: the first of the least sum.
+pub fn best_of(trees: &[u64], codes: u64) -> u64 {
+    least(trees, 0, codes, 20)
 }

@@ -2,6 +2,7 @@
 use crate::small::Yard;
 use crate::small::byte;
 use crate::small::pair;
+use crate::small::rank;
 use std::num::wrapping_sub_u32;
 
 // The stations that work, as bits.
@@ -35,7 +36,7 @@ fn usable(yard: Yard) -> u8 {
 
 // The yard with these stations at rest, as a survey with rest bytes.
 pub fn at_rest(mut yard: Yard, rest: u8) -> Yard {
-    yard.record = 2;
+    yard.record = 2 + yard.record % 4 / 3;
     yard.rest = rest;
     let links = usable(yard);
     yard.usable = links;
@@ -47,6 +48,15 @@ pub fn tree_size(yard: Yard) -> u32 {
     wrapping_sub_u32(u8::count_ones(working(yard.kind, yard.rest)), 1)
 }
 
+// Whether a rank of a kind is above t.
+fn has_rank_above(kind: u64, t: u32) -> bool {
+    let mut above = false;
+    for i in 0..3u8 {
+        above = above | (t < rank(kind, i) as u32);
+    }
+    above
+}
+
 // The number that declines the yard, or 0: 18 where no station works, or one is at rest that the yard does not have, and 6 where a rank is above t.
 pub fn declined(yard: Yard) -> u8 {
     let kind = yard.kind;
@@ -54,7 +64,7 @@ pub fn declined(yard: Yard) -> u8 {
     if (working(kind, yard.rest) == 0) | (yard.rest >> (byte(kind, 0) % 8) != 0) {
         return 18;
     }
-    if (t < byte(kind, 2) as u32) | (t < byte(kind, 3) as u32) {
+    if has_rank_above(kind, t) {
         return 6;
     }
     0

@@ -2,42 +2,73 @@
 // ceiling costs occur, and eight sum costs; in all but the survey a cost is its code, 0 to 7 in rising order.
 use std::num::wrapping_add_u64;
 
-// How many kinds of yards there are: n, p, k1 and k2 for up to five stations.
-pub const KINDS: usize = 31;
+// The most ceilings of a yard.
+pub const CEILINGS: usize = 3;
 
-// n, p, k1 and k2 of each kind, and then the number of its last pair of stations, 0 where there is none.
+// How many kinds of yards there are: n, p, k1, k2 and k3 for up to five stations.
+pub const KINDS: usize = 59;
+
+// n, p, k1, k2 and k3 of each kind, and then the number of its last pair of stations, 0 where there is none.
 const KIND: [u64; KINDS] = [
-    0x0000000001,
-    0x0100000002,
-    0x0100010102,
-    0x0101010202,
-    0x0500000003,
-    0x0500010103,
-    0x0500020103,
-    0x0501010203,
-    0x0501020203,
-    0x0502010203,
-    0x0502020203,
-    0x0B00000004,
-    0x0B00010104,
-    0x0B00020104,
-    0x0B00030104,
-    0x0B01010204,
-    0x0B01020204,
-    0x0B01030204,
-    0x0B02010204,
-    0x0B02020204,
-    0x0B03010204,
-    0x1300000005,
-    0x1300010105,
-    0x1300020105,
-    0x1300030105,
-    0x1301010205,
-    0x1301020205,
-    0x1301030205,
-    0x1302010205,
-    0x1302020205,
-    0x1303010205,
+    0x000000000001,
+    0x010000000002,
+    0x010000010102,
+    0x010001010202,
+    0x010101010302,
+    0x050000000003,
+    0x050000010103,
+    0x050000020103,
+    0x050001010203,
+    0x050001020203,
+    0x050002010203,
+    0x050002020203,
+    0x050101010303,
+    0x050101020303,
+    0x050102010303,
+    0x050102020303,
+    0x050201010303,
+    0x050201020303,
+    0x050202010303,
+    0x0B0000000004,
+    0x0B0000010104,
+    0x0B0000020104,
+    0x0B0000030104,
+    0x0B0001010204,
+    0x0B0001020204,
+    0x0B0001030204,
+    0x0B0002010204,
+    0x0B0002020204,
+    0x0B0003010204,
+    0x0B0101010304,
+    0x0B0101020304,
+    0x0B0101030304,
+    0x0B0102010304,
+    0x0B0102020304,
+    0x0B0103010304,
+    0x0B0201010304,
+    0x0B0201020304,
+    0x0B0202010304,
+    0x0B0301010304,
+    0x130000000005,
+    0x130000010105,
+    0x130000020105,
+    0x130000030105,
+    0x130001010205,
+    0x130001020205,
+    0x130001030205,
+    0x130002010205,
+    0x130002020205,
+    0x130003010205,
+    0x130101010305,
+    0x130101020305,
+    0x130101030305,
+    0x130102010305,
+    0x130102020305,
+    0x130103010305,
+    0x130201010305,
+    0x130201020305,
+    0x130202010305,
+    0x130301010305,
 ];
 
 // The stations of a link: the first n * (n - 1) pairs are those of n stations.
@@ -104,12 +135,21 @@ pub const ZERO: u8 = 3;
 
 const ZEROS: u64 = 0x0303030303030303;
 
-// How many bytes the yard record has: the first one, the one with a link count, and the one with rest bytes as well.
-const SIZES: [u8; 3] = [6, 7, 10];
+// How many bytes the yard record has: the first one, the one with a link count, the one with rest bytes as well, and the one of three ceilings.
+const SIZES: [u8; 4] = [6, 7, 10, 11];
 
-// A yard of a kind with m links; `record` says which of the three yard records its survey has. Bit j of `rest` is 1 where station j is at rest, and
+// Bytes of a link record before its ceiling costs.
+const LINK_FIELDS: usize = 8;
+
+// The marks of link records for up to two ceilings, and for three.
+const LINK_MARKS: [u16; 2] = [0x4B4C, 0x4D4C];
+
+// The most bytes of a survey here.
+pub const SURVEY_ROOM: usize = 11 + 7 * 14;
+
+// A yard of a kind with m links; `record` says which of the four yard records its survey has. Bit j of `rest` is 1 where station j is at rest, and
 // `usable` is the set of the links between working stations. Byte e of a column belongs to link e: a number that picks its pair of stations, and the
-// codes of its sum cost and of its ceiling costs.
+// codes of its sum cost and of its costs by each ceiling.
 pub struct Yard {
     pub kind: u64,
     pub m: u8,
@@ -118,8 +158,7 @@ pub struct Yard {
     pub usable: u8,
     pub pairs: u64,
     pub sums: u64,
-    pub costs1: u64,
-    pub costs2: u64,
+    pub costs: [u64; CEILINGS],
 }
 
 // The number after x in a sequence that looks drawn.
@@ -151,9 +190,28 @@ fn codes(x: u64, present: bool) -> u64 {
     ZEROS
 }
 
+// Codes for all links by each of p ceilings.
+fn columns(x: u64, p: u8) -> [u64; CEILINGS] {
+    let mut drawn = x;
+    let mut costs = [ZEROS; CEILINGS];
+    for i in 0..CEILINGS {
+        costs[i] = codes(drawn, i < p as usize);
+        drawn = next(drawn);
+    }
+    costs
+}
+
 // Codes of sum costs for all links, in one of four ways.
 fn sum_codes(x: u64, way: usize) -> u64 {
     wrapping_add_u64(x & DRAWN[way % 4], LEAST[way % 4])
+}
+
+// Which yard record a survey with p ceilings has: one of the first two, as drawn, or that of three.
+fn record(x: u64, p: u8) -> u8 {
+    if p as usize == CEILINGS {
+        return 3;
+    }
+    (x / 16 % 2) as u8
 }
 
 // The yard of a number, every kind in its turn, and then once more with other sum costs; whether its links are counted is drawn. No station is at
@@ -163,24 +221,39 @@ pub fn make(i: usize, x: u64) -> Yard {
     let p = byte(kind, 1);
     let pairs = next(x);
     let sums = next(pairs);
-    let costs = next(sums);
+    let costs = columns(next(sums), p);
     let m = links(x, byte(kind, 0));
     Yard {
         kind,
         m,
-        record: (x / 16 % 2) as u8,
+        record: record(x, p),
         rest: 0,
         usable: 127 ^ 127 >> (m % 8),
         pairs,
         sums: sum_codes(sums, i / KINDS),
-        costs1: codes(costs, p > 0),
-        costs2: codes(next(costs), p > 1),
+        costs,
     }
+}
+
+// How many ceilings the records of a yard have room for.
+pub fn slots(p: u8) -> u8 {
+    if p < 2 { 2 } else { p }
+}
+
+// The rank of ceiling i of a kind, 0 where it is absent.
+pub fn rank(kind: u64, i: u8) -> u8 {
+    byte(kind, 2 + i % 3)
+}
+
+// The codes of all links by ceiling i.
+pub fn column(yard: Yard, i: u8) -> u64 {
+    let costs = yard.costs;
+    costs[(i % 3) as usize]
 }
 
 // The two stations of link e: its byte of a column picks one of the pairs of a kind.
 pub fn pair(kind: u64, pairs: u64, e: u8) -> u16 {
-    let count = byte(kind, 4) % 20 + 1;
+    let count = byte(kind, 5) % 20 + 1;
     PAIRS[(byte(pairs, e) % count % 20) as usize]
 }
 
@@ -192,58 +265,65 @@ pub fn sum_cost(code: u8) -> u32 {
     SUMS[(code % 8) as usize]
 }
 
+// The mark of a link record, by that of the yard.
+fn link_mark(record: u8) -> u16 {
+    LINK_MARKS[(record % 4 / 3) as usize]
+}
+
 // The mark, stations and sum cost of a link.
 fn link_record(yard: Yard, e: u8) -> u64 {
+    let mark = link_mark(yard.record) as u64;
     let ends = pair(yard.kind, yard.pairs, e) as u64;
     let s = sum_cost(byte(yard.sums, e)) as u64;
-    0x4B4C + 65536 * ends + 4294967296 * s
+    mark | ends << 16 | s << 32
 }
 
-// The ceiling costs of a link.
-fn link_costs(yard: Yard, e: u8) -> u64 {
-    let c1 = cost(byte(yard.costs1, e)) as u64;
-    let c2 = cost(byte(yard.costs2, e)) as u64;
-    c1 + 65536 * c2
+// Byte i of the ceiling costs of link e.
+fn link_cost(yard: Yard, e: u8, i: u8) -> u8 {
+    let code = byte(column(yard, i / 2), e);
+    byte(cost(code) as u64, i % 2)
 }
 
-// The mark of the yard record, n, p, k1 and k2, the link count and the first rest byte.
-fn yard_record(yard: Yard) -> u64 {
-    let mark = 0x4459 + 256 * ((yard.record % 3) as u64);
-    let count = (yard.m % 8) as u64 + 256 * (yard.rest as u64);
-    mark + 65536 * (yard.kind % 4294967296) + 281474976710656 * count
-}
-
-// Byte i of the yard record; the other rest bytes are 0.
-fn yard_byte(yard: Yard, i: usize) -> u8 {
-    if i < 8 {
-        return byte(yard_record(yard), i as u8);
+// Byte i of the yard record: its mark, n, p and the ranks, the link count and the first rest byte; the other rest bytes are 0.
+fn yard_byte(yard: Yard, i: u8) -> u8 {
+    let mark = 0x4459 + 256 * ((yard.record % 4) as u64);
+    let ranks = 4 + slots(byte(yard.kind, 1)) % 4;
+    if i < 2 {
+        return byte(mark, i);
     }
-    0
+    if i < ranks {
+        return byte(yard.kind, i - 2);
+    }
+    if i == ranks {
+        return yard.m;
+    }
+    if i == ranks + 1 { yard.rest } else { 0 }
 }
 
 // How many bytes of it the survey has.
 fn yard_size(yard: Yard) -> u8 {
-    SIZES[(yard.record % 3) as usize]
+    SIZES[(yard.record % 4) as usize]
 }
 
 // The byte of the survey at an index.
 pub fn survey_byte(yard: Yard, i: usize) -> u8 {
     let first = yard_size(yard) as usize;
+    let size = LINK_FIELDS + 2 * (slots(byte(yard.kind, 1)) as usize);
     if i < first {
-        return yard_byte(yard, i);
+        return yard_byte(yard, (i % 16) as u8);
     }
-    let e = ((i - first) / 12 % 8) as u8;
-    let at = ((i - first) % 12) as u8;
+    let e = ((i - first) / size % 8) as u8;
+    let at = ((i - first) % size % 16) as u8;
     if at < 8 {
         return byte(link_record(yard, e), at);
     }
-    byte(link_costs(yard, e), at)
+    link_cost(yard, e, at - 8)
 }
 
 // The survey of a yard, with room for seven links.
-pub fn survey_of(yard: Yard) -> [u8; 94] {
-    let mut survey = [0u8; 94];
-    for i in 0..94usize {
+pub fn survey_of(yard: Yard) -> [u8; SURVEY_ROOM] {
+    let mut survey = [0u8; SURVEY_ROOM];
+    for i in 0..SURVEY_ROOM {
         survey[i] = survey_byte(yard, i);
     }
     survey
@@ -251,5 +331,10 @@ pub fn survey_of(yard: Yard) -> [u8; 94] {
 
 // How many bytes the survey has.
 pub fn length(yard: Yard) -> usize {
-    yard_size(yard) as usize + 12 * (yard.m as usize)
+    let m = yard.m as usize;
+    let size = yard_size(yard) as usize + LINK_FIELDS * m;
+    if byte(yard.kind, 1) < 3 {
+        return size + 4 * m;
+    }
+    size + 6 * m
 }

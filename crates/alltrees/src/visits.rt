@@ -1,19 +1,36 @@
-// The walk of document 01 with a mark for each position, for its solved count. A position is a pair of codes, c1 and c2, with the mark of bit
-// 8 * c1 + c2; positions are visited by falling codes, and those whose costs no link has are passed over.
+// The walk of document 01, for its solved count and for what its list needs. A position is the codes of its values; positions are visited by falling
+// codes, and those whose costs no link has are passed over. What a solved position marks is a box: its own codes, and after them the least that are
+// marked.
+use crate::listing::at_most;
 use crate::listing::at_or_above;
 use crate::listing::best_of;
-use crate::listing::y1;
-use crate::listing::y2;
+use crate::listing::codes_of;
+use crate::listing::digit;
+use crate::listing::first;
+use crate::plans::FIELDS;
 use crate::plans::HEAD;
+use crate::plans::open_size;
 use crate::resting::tree_size;
 use crate::small::Yard;
 use crate::small::ZERO;
 use crate::small::byte;
-use std::num::wrapping_add_u32;
+use crate::small::column;
 use std::num::wrapping_add_usize;
 
-// Every position.
-const EVERY: u64 = 0xFFFFFFFFFFFFFFFF;
+// How many codes of three ceilings there are.
+const POSITIONS: u16 = 512;
+
+// More positions than a yard of seven links has.
+const BOXES: usize = 344;
+
+// A box without positions.
+const EMPTY: u64 = 0x777;
+
+// The codes that have a number, of which the octal digits are one for each ceiling.
+fn position(q: u16) -> u64 {
+    let codes = q as u64;
+    codes / 64 % 8 * 256 + codes / 8 % 8 * 16 + codes % 8
+}
 
 // Whether one of these links has a code; an absent ceiling has the one code of the cost 0.
 fn occurs(costs: u64, links: u8, present: bool, code: u8) -> bool {
@@ -23,51 +40,59 @@ fn occurs(costs: u64, links: u8, present: bool, code: u8) -> bool {
     code == ZERO
 }
 
-// Whether a position is there and not marked.
-fn is_open(yard: Yard, marks: u64, q: u8) -> bool {
+// Whether a position is there: its value of each ceiling occurs.
+fn is_there(yard: Yard, codes: u64) -> bool {
     let p = byte(yard.kind, 1);
-    let there = occurs(yard.costs1, yard.usable, p > 0, q / 8)
-        & occurs(yard.costs2, yard.usable, p > 1, q % 8);
-    there & (marks >> (q % 64) & 1 == 0)
-}
-
-// The bits from one to another, both included.
-fn bits(low: u8, high: u8) -> u64 {
-    EVERY >> (63 - high % 64) & EVERY << (low % 64)
-}
-
-// The marks of the positions between two, both included.
-fn between(low1: u8, high1: u8, low2: u8, high2: u8) -> u64 {
-    let row = bits(low2, high2) % 256;
-    row * 0x0101010101010101 & bits(low1 % 8 * 8, high1 % 8 * 8 + 7)
-}
-
-// The marks that a position makes, its own among them, or 0 where it is not solved. Found, a tree marks through its own codes; none found marks
-// through the least.
-fn visit(yard: Yard, trees: &[u64], marks: u64, q: u8) -> u64 {
-    if is_open(yard, marks, q) {
-        let tree = best_of(trees, q / 8, q % 8);
-        return between(y1(tree), q / 8, y2(tree), q % 8);
+    let mut there = true;
+    for i in 0..3u8 {
+        there = there & occurs(column(yard, i), yard.usable, i < p, digit(codes, i));
     }
-    0
+    there
+}
+
+// Whether a position is in one of these boxes.
+fn is_marked(boxes: &[u64], codes: u64) -> bool {
+    let mut marked = false;
+    for i in 0..boxes.len() {
+        let own = boxes[i] / 4096;
+        marked = marked | (at_most(codes, own) & at_most(boxes[i] % 4096, codes));
+    }
+    marked
+}
+
+// The box that a position marks, its own codes among them, or an empty one where it is not solved. Found, a tree marks through its own codes; none
+// found marks through the least.
+fn visit(yard: Yard, trees: &[u64], boxes: &[u64], codes: u64) -> u64 {
+    if is_there(yard, codes) {
+        if is_marked(boxes, codes) {
+            return EMPTY;
+        }
+        return codes << 12 | codes_of(best_of(trees, codes));
+    }
+    EMPTY
 }
 
 // The solved count.
 pub fn solved(yard: Yard, trees: &[u64]) -> u32 {
-    let mut marks = 0;
-    let mut solved = 0;
-    for i in 0..64u8 {
-        let more = visit(yard, trees, marks, 63 - i);
-        marks = marks | more;
-        solved = wrapping_add_u32(solved, (more != 0) as u32);
+    let mut boxes = [EMPTY; BOXES];
+    let mut count = 0;
+    for i in 0..POSITIONS {
+        let more = visit(
+            yard,
+            trees,
+            first(&boxes, count),
+            position(POSITIONS - 1 - i),
+        );
+        boxes[count % BOXES] = more;
+        count = wrapping_add_usize(count, (more != EMPTY) as usize);
     }
-    solved
+    (count % BOXES) as u32
 }
 
 // How many bytes the list needs for a position: those of a plan record, where the position is there.
-fn share(yard: Yard, q: u8) -> usize {
-    if is_open(yard, 0, q) {
-        return HEAD + (tree_size(yard) % 256) as usize;
+fn share(yard: Yard, codes: u64) -> usize {
+    if is_there(yard, codes) {
+        return FIELDS + open_size(byte(yard.kind, 1), (tree_size(yard) % 24) as u8) as usize;
     }
     0
 }
@@ -75,8 +100,8 @@ fn share(yard: Yard, q: u8) -> usize {
 // How many bytes the list needs: those of its head, and of a plan record for every position.
 pub fn need(yard: Yard) -> usize {
     let mut bytes = HEAD;
-    for q in 0..64u8 {
-        bytes = wrapping_add_usize(bytes, share(yard, q));
+    for q in 0..POSITIONS {
+        bytes = wrapping_add_usize(bytes, share(yard, position(q)));
     }
     bytes
 }

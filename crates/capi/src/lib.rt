@@ -7,6 +7,7 @@ use capi_reply::Reply;
 use capi_reply::flat;
 use network::Status;
 use network::YardFigures;
+ghost use mathlib.Core.List.{[], _∷_};
 ghost use mathlib.Core.Path.{_≡_};
 ghost use lib.ListN.{length};
 ghost use Rattle.network.specs.Calls.{asked, judged, listAfter, listStatus, treeAfter};
@@ -22,7 +23,7 @@ ghost use Rattle.capi_reply.specs.Replies.{flatReply};
 ghost use Rattle.capi.specs.Version.{version};
 
 // The version of these calls: it changes whenever a struct, a call or the meaning of a reply does.
-pub const VERSION: u32 = 6;
+pub const VERSION: u32 = 7;
 
 // The version of the calls that this archive has.
 #[no_mangle]
@@ -41,14 +42,14 @@ pub extern "C" fn ranqustei_judge(survey: &[u8], drawn: &[u8]) -> Reply
     flat(planner::judge(survey, drawn))
 }
 
-// The best tree under the numbers b1 and b2.
+// The best tree under the numbers b1, b2 and b3.
 #[no_mangle]
-pub extern "C" fn ranqustei_best(survey: &[u8], b1: i16, b2: i16, tree: &mut [u8]) -> Reply
-    ensures reply { λ r. ⌜ r ≡ flatReply (asked (now (survey .entry)) b1 b2 (length (now (tree .entry)))) ⌝ }
-    ensures leaves { λ _. ⌜ now (tree .exit) ≡ treeAfter (now (survey .entry)) b1 b2 (now (tree .entry)) ⌝ }
+pub extern "C" fn ranqustei_best(survey: &[u8], b1: i16, b2: i16, b3: i16, tree: &mut [u8]) -> Reply
+    ensures reply { λ r. ⌜ r ≡ flatReply (asked (now (survey .entry)) (b1 ∷ b2 ∷ b3 ∷ []) (length (now (tree .entry)))) ⌝ }
+    ensures leaves { λ _. ⌜ now (tree .exit) ≡ treeAfter (now (survey .entry)) (b1 ∷ b2 ∷ b3 ∷ []) (now (tree .entry)) ⌝ }
     ensures noticed { λ r. ⌜ CutNoticed (now (survey .entry)) (r .number) (r .place) ⌝ }
 {
-    flat(planner::best(survey, b1, b2, tree))
+    flat(planner::best(survey, [b1, b2, b3], tree))
 }
 
 // The list of plans that no other plan beats.

@@ -12,6 +12,7 @@ pub struct Reply {
     pub sum: i32,
     pub y1: i16,
     pub y2: i16,
+    pub y3: i16,
 }
 
 // An answer as plain numbers.
@@ -25,6 +26,7 @@ pub fn flat(answer: Answer) -> Reply
             sum: costs.sum,
             y1: costs.y1,
             y2: costs.y2,
+            y3: costs.y3,
         },
         Answer::Refused(refusal) => Reply {
             number: refusal.number,
@@ -32,6 +34,7 @@ pub fn flat(answer: Answer) -> Reply
             sum: 0,
             y1: 0,
             y2: 0,
+            y3: 0,
         },
     }
 }

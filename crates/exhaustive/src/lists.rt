@@ -12,8 +12,8 @@ use alltrees::visits::solved;
 use planner::list;
 use std::num::wrapping_add_u64;
 
-// More bytes than any list here needs: 49 positions and 4 links take 696.
-pub const ROOM: usize = 720;
+// More bytes than any list here needs: 343 positions and 4 links take 5,498.
+pub const ROOM: usize = 5520;
 
 // What a list call must reply, and leave in the buffer: all as it was, or the list with these words for its head and these plans.
 struct Wanted {

@@ -27,7 +27,7 @@ fn looked(given: &[u8], buffer: &[u8], kind: u64, trees: &[u64], rows: [u64; ROW
     let mut n = 0;
     for b1 in 0..16u8 {
         let found = index_lookup(given, buffer, bound(b1));
-        let same = agrees(found, rows, wanted(kind, trees, b1, 15));
+        let same = agrees(found, rows, wanted(kind, trees, 256 * (b1 as u64) + 255));
         n = wrapping_add_u64(n, !same as u64);
     }
     n

@@ -18,11 +18,16 @@ use alltrees::small::length;
 use alltrees::small::make;
 use alltrees::small::next;
 use alltrees::small::survey_of;
+use alltrees::visits::need;
 use console::part;
+use std::num::wrapping_add_usize;
 use tally::Tally;
 
 // Every kind of yard twenty times.
 const YARDS: usize = 20 * KINDS;
+
+// Bytes of a list buffer past what it needs.
+const PAST: usize = 20;
 
 // A yard's trees, and the comparisons.
 fn compare(survey: &[u8], yard: Yard, tally: Tally) -> Tally {
@@ -31,7 +36,8 @@ fn compare(survey: &[u8], yard: Yard, tally: Tally) -> Tally {
     let trees = first(&list, listing.count);
     let plans = plans_of(trees);
     let asked = questions::differences(survey, yard.kind, trees);
-    let listed = lists::differences(survey, lists::ROOM, yard, trees, plans);
+    let size = wrapping_add_usize(need(yard), PAST);
+    let listed = lists::differences(survey, size, yard, trees, plans);
     let looked = lookups::differences(survey, yard.kind, trees, plans);
     let written = surveys::differences(yard, trees, plans);
     tally.yard(

@@ -4,6 +4,7 @@ use crate::lists;
 use crate::questions;
 use crate::questions::NO_TREE;
 use crate::tally::Tally;
+use alltrees::answers::NO_BOUNDS;
 use alltrees::answers::wanted;
 use alltrees::listing::NONE;
 use alltrees::listing::first;
@@ -25,17 +26,22 @@ fn short(survey: &[u8], t: usize) -> u64 {
     if t == 0 {
         return 0;
     }
-    questions::differs(survey, t - 1, 15, 15, NONE, TOO_SHORT)
+    questions::differs(survey, t - 1, NO_BOUNDS, NONE, TOO_SHORT)
 }
 
-// How often the planner differs in the questions under sixteen pairs of bounds, with every bound once for each ceiling.
+// The bounds that begin with one: the next are as far after each other as the stations at rest say.
+fn bounds_from(b1: u64, rest: u64) -> u64 {
+    256 * (b1 % 16) + 16 * ((b1 % 16 + rest % 16) % 16) + (b1 % 16 + rest % 16 * 2) % 16
+}
+
+// How often the planner differs in the questions under sixteen bounds, with every bound once for each ceiling.
 fn asked(survey: &[u8], yard: Yard, trees: &[u64]) -> u64 {
     let t = tree_size(yard) as usize;
     let mut n = short(survey, t);
-    for b1 in 0..16u8 {
-        let b2 = (b1 + yard.rest % 16) % 16;
-        let tree = wanted(yard.kind, trees, b1, b2);
-        n = wrapping_add_u64(n, questions::differs(survey, t, b1, b2, tree, NO_TREE));
+    for b1 in 0..16u64 {
+        let bounds = bounds_from(b1, yard.rest as u64);
+        let tree = wanted(yard.kind, trees, bounds);
+        n = wrapping_add_u64(n, questions::differs(survey, t, bounds, tree, NO_TREE));
     }
     n
 }
@@ -70,7 +76,7 @@ fn accepted(survey: &[u8], yard: Yard, tally: Tally) -> Tally {
 // How often a call does not decline a survey by a number.
 fn not_declined(survey: &[u8], number: u8) -> u64 {
     let unlisted = lists::not_declined(survey, lists::ROOM, number);
-    let unasked = questions::differs(survey, questions::ROOM, 15, 15, NONE, number);
+    let unasked = questions::differs(survey, questions::ROOM, NO_BOUNDS, NONE, number);
     wrapping_add_u64(
         wrapping_add_u64(unlisted, unasked),
         judged::differs(survey, 0, NONE, number),

@@ -42,8 +42,8 @@ impl Tally {
         }
     }
 
-    // With a yard of so many trees and plans, a question for each pair of bounds, its list, the list's index, a lookup for each bound, and its survey
-    // written with both kinds of yard record and listed with the other one.
+    // With a yard of so many trees and plans, 256 questions, its list, the list's index, a lookup for each bound, and its survey written with both kinds
+    // of yard record and listed with the other one, or refused.
     pub fn yard(
         mut self,
         trees: u64,
@@ -96,7 +96,7 @@ impl Tally {
         row(b"plans", self.plans);
         row(b"indexes", self.yards);
         row(b"lookups", self.lookups);
-        row(b"surveys written", self.written);
+        row(b"surveys written or refused", self.written);
         row(b"differences", self.differences);
     }
 }

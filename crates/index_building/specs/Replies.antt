@@ -9,8 +9,8 @@ use Rattle.order.specs.Test.{by-test, clash}
 use Rattle.order.specs.Lists.{all}
 use Rattle.network.specs.Checked.{refuseIf, _orElse_}
 use Rattle.network.specs.Calls.{ifFine, status}
-use Rattle.network.specs.Fetching.{damaged}
-use Rattle.network.specs.Indexing.{indexAfter, indexChecked, indexIn, indexNeed, indexStatus, isMarked, planNumbers, unfit}
+use Rattle.network.specs.Fetching.{damaged, isMarked}
+use Rattle.network.specs.Indexing.{indexAfter, indexChecked, indexIn, indexNeed, indexStatus, planNumbers, unfit}
 
 -- ---- whether a list is fit
 

@@ -6,7 +6,7 @@ use mathlib.Core.Path.{_≡_, sym, ap, ap₂, _∙_}
 use Prim.Native.Nat.{ℕ, suc, _+_, _-_, _*_, _^_, _≤_, _<_}
 use native.Mathlib.Nat.{add-mod-right, mod-eq-of-lt, mul-le-mul-right, suc-mul}
 use native.Mathlib.Omega.{arith}
-use borrow.Author.Tests.{le-leb, leb-false, leb-true, lt-leb, ltb-false, ltb-true}
+use borrow.Author.Tests.{le-leb, leb-false, leb-true, lt-leb, lt-ltb, ltb-false, ltb-true}
 use lib.Dec.{leb, ltb}
 use lib.IntN.{ℤ, pos}
 use lib.Signed.{leZ}
@@ -16,11 +16,14 @@ use mir.ValLaws.{ofZ-fits, pow-bits, toZ-ofZ}
 use Rattle.order.specs.Test.{by-test, test-iff}
 use Rattle.order.specs.Order.{dictionaryLe, orderℕ, orderℤ, pairLe, tieBreak}
 use Rattle.network.specs.Bytes.{bitsOf, byteAt, i16At, i32At, signed, u16At, u32At}
-use Rattle.network.specs.PlanList.{costsAt}
-use Rattle.network.specs.Fetching.{planStart}
-use Rattle.network.specs.Indexing.{indexKey, meets, planCosts, planSum, withoutCeilings}
+use Rattle.network.specs.Capacities.{ceilingsHeld}
+use Rattle.network.specs.Tabulate.{tabulate-at}
+use Rattle.network.specs.Survey.{narrowSlots}
+use Rattle.network.specs.PlanList.{costsAt, planCeiling}
+use Rattle.network.specs.Fetching.{headCeilings, headSlots, planStart}
+use Rattle.network.specs.Indexing.{indexKey, meets, planCost, planCosts, planSum, withoutCeilings}
 use Rattle.sorting.specs.Numbers.{tie-last}
-use Rattle.index_keys.specs.Key.{keyAt, packed, planKey, raised, raised16, raised32, sumIn, y1In}
+use Rattle.index_keys.specs.Key.{ceilingBits, keyAt, packed, planKey, raised, raised16, raised32, slots-least, sumIn, y1In}
 
 -- each member is a byte: what a proof knows of each slice of bytes (`shared-slice-known .given`)
 abbrev pub AllBytes : List ℕ → Type 0
@@ -137,26 +140,30 @@ module _ (list : List ℕ) (known : AllBytes list) where
   abbrev sumOf : ℕ → ℕ
   sumOf r = raised32 (u32At list (planStart list r + 2))
 
-  abbrev y1Of : ℕ → ℕ
-  y1Of r = raised16 (u16At list (planStart list r + 6))
-
-  abbrev y2Of : ℕ → ℕ
-  y2Of r = raised16 (u16At list (planStart list r + 8))
+  abbrev yOf : ℕ → ℕ → ℕ
+  yOf j r = raised16 (ceilingBits list (planStart list r) j)
 
   sum-below : (r : ℕ) → sumOf r < 4294967296
   unfolding raised
   sum-below r = omega arith
 
-  y2-below : (r : ℕ) → y2Of r < 65536
+  y-below : (j r : ℕ) → yOf j r < 65536
   unfolding raised
-  y2-below r = omega arith
+  y-below j r = omega arith
+
+  -- the first two ceiling costs of plan r
+  cost-at : (j r : ℕ) → j < narrowSlots → planCost list r j ≡ signed w16 (ceilingBits list (planStart list r) j)
+  unfolding costsAt
+  cost-at j r h =
+      let room : j < headSlots list = omega (arith, slots-least (headCeilings list)) in
+      tabulate-at (planCeiling (headSlots list) list (planStart list r)) ceilingsHeld j (omega arith) (pos 0) ∙ rw (lt-ltb j (headSlots list) room)
 
   -- the key of plan r in a list without ceilings, and in any other
   key-withoutCeilings : (r : ℕ) → withoutCeilings list ≡ true → planKey list r ≡ packed 0 (sumOf r) 0
   unfolding planKey keyAt
   key-withoutCeilings r e = rw e
 
-  key-bounded : (r : ℕ) → withoutCeilings list ≡ false → planKey list r ≡ packed (y1Of r) (sumOf r) (y2Of r)
+  key-bounded : (r : ℕ) → withoutCeilings list ≡ false → planKey list r ≡ packed (yOf 0 r) (sumOf r) (yOf 1 r)
   unfolding planKey keyAt
   key-bounded r e = rw e
 
@@ -168,24 +175,27 @@ module _ (list : List ℕ) (known : AllBytes list) where
       (λ e. rw (e, key-withoutCeilings x e, key-withoutCeilings y e)
       (λ i. tieBreak ((sum x y ∙ sum-alone (sumOf x) (sumOf y)) i) ((sum y x ∙ sum-alone (sumOf y) (sumOf x)) i) (last i)))
       (λ e. rw (e, key-bounded x e, key-bounded y e)
-      (costs ∙ packed-tie (y1Of x) (sumOf x) (y2Of x) (y1Of y) (sumOf y) (y2Of y) (sum-below x) (sum-below y) (y2-below x) (y2-below y) (leb x y)))
+      (costs ∙ packed-tie (yOf 0 x) (sumOf x) (yOf 1 x) (yOf 0 y) (sumOf y) (yOf 1 y) (sum-below x) (sum-below y) (y-below 1 x) (y-below 1 y) (leb x y)))
     where
-      y1 : (x y : ℕ) → leZ (planCosts list x .y1) (planCosts list y .y1) ≡ leb (y1Of x) (y1Of y)
-      y1 x y = order16 (planStart list x + 6) (planStart list y + 6)
+      cost : (j : ℕ) → j < narrowSlots → (x y : ℕ) → leZ (planCost list x j) (planCost list y j) ≡ leb (yOf j x) (yOf j y)
+      cost j h x y = ap₂ leZ (cost-at j x h) (cost-at j y h) ∙ order16 (planStart list x + 6 + 2 * j) (planStart list y + 6 + 2 * j)
+
+      y1 : (x y : ℕ) → leZ (planCost list x 0) (planCost list y 0) ≡ leb (yOf 0 x) (yOf 0 y)
+      y1 = cost 0 (omega arith)
 
       sum : (x y : ℕ) → leZ (planCosts list x .sum) (planCosts list y .sum) ≡ leb (sumOf x) (sumOf y)
       sum x y = order32 (planStart list x + 2) (planStart list y + 2)
 
-      y2 : (x y : ℕ) → leZ (planCosts list x .y2) (planCosts list y .y2) ≡ leb (y2Of x) (y2Of y)
-      y2 x y = order16 (planStart list x + 8) (planStart list y + 8)
+      y2 : (x y : ℕ) → leZ (planCost list x 1) (planCost list y 1) ≡ leb (yOf 1 x) (yOf 1 y)
+      y2 = cost 1 (omega arith)
 
       last : tieBreak (leb x y) (leb y x) true ≡ leb x y
       last = tie-last (leb x y) (leb y x)
 
-      costs : dictionaryLe orderℤ (planCosts list x .y1 ∷ planCosts list x .sum ∷ planCosts list x .y2 ∷ pos x ∷ [])
-          (planCosts list y .y1 ∷ planCosts list y .sum ∷ planCosts list y .y2 ∷ pos y ∷ [])
-          ≡ tieBreak (leb (y1Of x) (y1Of y)) (leb (y1Of y) (y1Of x))
-          (tieBreak (leb (sumOf x) (sumOf y)) (leb (sumOf y) (sumOf x)) (tieBreak (leb (y2Of x) (y2Of y)) (leb (y2Of y) (y2Of x)) (leb x y)))
+      costs : dictionaryLe orderℤ (planCost list x 0 ∷ planCosts list x .sum ∷ planCost list x 1 ∷ pos x ∷ [])
+          (planCost list y 0 ∷ planCosts list y .sum ∷ planCost list y 1 ∷ pos y ∷ [])
+          ≡ tieBreak (leb (yOf 0 x) (yOf 0 y)) (leb (yOf 0 y) (yOf 0 x))
+          (tieBreak (leb (sumOf x) (sumOf y)) (leb (sumOf y) (sumOf x)) (tieBreak (leb (yOf 1 x) (yOf 1 y)) (leb (yOf 1 y) (yOf 1 x)) (leb x y)))
       costs = λ i. tieBreak (y1 x y i) (y1 y x i) (tieBreak (sum x y i) (sum y x i) (tieBreak (y2 x y i) (y2 y x i) (last i)))
 
   -- and of two plans the one with the lower number stands before the other, or is the same, where its key is at most the other's
@@ -198,7 +208,7 @@ module _ (list : List ℕ) (known : AllBytes list) where
   sum-in r =
       by-test (withoutCeilings list)
       (λ e. rw (key-withoutCeilings r e) (sum-packed 0 (sumOf r) 0 (sum-below r) (omega arith)))
-      (λ e. rw (key-bounded r e) (sum-packed (y1Of r) (sumOf r) (y2Of r) (sum-below r) (y2-below r)))
+      (λ e. rw (key-bounded r e) (sum-packed (yOf 0 r) (sumOf r) (yOf 1 r) (sum-below r) (y-below 1 r)))
 
   -- plans compare by the sums in their keys as by their sums
   pub sum-key : (x y : ℕ) → leZ (planSum list x) (planSum list y) ≡ leb (sumIn (planKey list x)) (sumIn (planKey list y))
@@ -211,5 +221,6 @@ module _ (list : List ℕ) (known : AllBytes list) where
   meets-key y f r =
       by-test (withoutCeilings list)
       (λ e. rw (e, key-withoutCeilings r e, y1-packed 0 (sumOf r) 0 (sum-below r) (omega arith), le-leb 0 (raised16 (bitsOf w16 y)) (omega arith)))
-      (λ e. rw (e, key-bounded r e, y1-packed (y1Of r) (sumOf r) (y2Of r) (sum-below r) (y2-below r))
-      (raised-within w16 (u16At list (planStart list r + 6)) y (below16 (planStart list r + 6)) f))
+      (λ e. rw (e, key-bounded r e, y1-packed (yOf 0 r) (sumOf r) (yOf 1 r) (sum-below r) (y-below 1 r))
+      (ap (λ (z : ℤ). leZ z y) (cost-at 0 r (omega arith))
+      ∙ raised-within w16 (ceilingBits list (planStart list r) 0) y (below16 (planStart list r + 6 + 2 * 0)) f))

@@ -9,9 +9,9 @@ use lib.ListN.{length, length-set, set, take}
 use Rattle.order.specs.Test.{clash}
 use Rattle.order.specs.Lists.{all, numbersFrom}
 use Rattle.network.specs.Bytes.{markAt}
-use Rattle.network.specs.PlanList.{headSize, planMark, planSize, planSlots}
-use Rattle.network.specs.Fetching.{damaged, headCount, headTreeSize, planStart}
-use Rattle.network.specs.Indexing.{isMarked, planNumbers}
+use Rattle.network.specs.PlanList.{headSize, planMark, planSize}
+use Rattle.network.specs.Fetching.{damaged, headCount, headSlots, headTreeSize, isMarked, planStart}
+use Rattle.network.specs.Indexing.{planNumbers}
 use Rattle.planlist_finding.specs.Found.{plan-inside}
 use Rattle.sorting.specs.Columns.{tabled, tabled-end, tabled-start, tabled-turn}
 use Rattle.index_keys.specs.Key.{KeysRead, keyAt, planKey}
@@ -50,7 +50,7 @@ pub record Reading (list keys : List ℕ) (at r : ℕ) : Type 0 where
 
 pub reading-start : (list keys : List ℕ) → length keys ≡ headCount list → Reading list keys headSize 0
 reading-start list keys e =
-    let z = planSize planSlots (headTreeSize list) in
+    let z = planSize (headSlots list) (headTreeSize list) in
     record {
       front = tabled-start (planKey list) keys;
       behind = omega (arith, zero-mul z);
@@ -61,29 +61,30 @@ reading-start list keys e =
 
 module _ {list keys : List ℕ} {at r : ℕ} (w : Reading list keys at r) (more : r < length keys) where
   -- plan r's record lies inside
-  pub reading-inside : damaged list ≡ false → at + planSize planSlots (headTreeSize list) ≤ length list
+  pub reading-inside : damaged list ≡ false → at + planSize (headSlots list) (headTreeSize list) ≤ length list
   reading-inside d = omega (arith, w .behind, plan-inside list r d (omega (arith, w .full)))
 
   -- its mark decides, then those behind it
-  left-by : {b : Bool} → markAt list at planMark ≡ b → all (isMarked list) (planNumbers list) ≡ b && markedFrom list (r + 1)
-  left-by e = w .left ∙ marked-turn list r (omega (arith, w .full)) (ap (λ (k : ℕ). markAt list k planMark) (sym (w .behind)) ∙ e)
+  left-by : {b : Bool} {mark : List ℕ} → mark ≡ planMark (headSlots list) → b ≡ markAt list at mark
+      → all (isMarked list) (planNumbers list) ≡ b && markedFrom list (r + 1)
+  left-by m e = w .left ∙ marked-turn list r (omega (arith, w .full)) (sym (e ∙ ap₂ (markAt list) (w .behind) m))
 
-  pub reading-turn : {k size : ℕ} → true ≡ markAt list at planMark → k ≡ keyAt list at → size ≡ planSize planSlots (headTreeSize list)
-      → Reading list (set keys r k) (at + size) (r + 1)
+  pub reading-turn : {k size : ℕ} {mark : List ℕ} → mark ≡ planMark (headSlots list) → true ≡ markAt list at mark → k ≡ keyAt list at
+      → size ≡ planSize (headSlots list) (headTreeSize list) → Reading list (set keys r k) (at + size) (r + 1)
   unfolding planKey
-  reading-turn e key s =
-      let z = planSize planSlots (headTreeSize list) in
+  reading-turn m e key s =
+      let z = planSize (headSlots list) (headTreeSize list) in
       record {
         front = tabled-turn (planKey list) keys r (w .front) more (key ∙ ap (keyAt list) (w .behind));
         behind = omega (arith, w .behind, add-mul r 1 z, one-mul z);
-        left = left-by (sym e);
+        left = left-by m e;
         full = simp length-set (w .full);
         few = omega (arith, w .full);
       }
 
   -- a wrong mark
-  pub reading-stops : false ≡ markAt list at planMark → KeysRead list keys false
-  reading-stops e = record { marked = sym (left-by (sym e)); filled = λ t. clash t refl }
+  pub reading-stops : {mark : List ℕ} → mark ≡ planMark (headSlots list) → false ≡ markAt list at mark → KeysRead list keys false
+  reading-stops m e = record { marked = sym (left-by m e); filled = λ t. clash t refl }
 
 -- no plan is left
 pub reading-end : {list keys : List ℕ} {at r : ℕ} → Reading list keys at r → length keys ≤ r → KeysRead list keys true

@@ -3,18 +3,19 @@ use encoding_numbers::mark_at;
 use encoding_numbers::read_u16;
 use encoding_numbers::read_u32;
 use network::records::HEAD_SIZE;
+use planlist_records::CEILING_COSTS_AT;
 use planlist_records::CEILINGS_AT;
-use planlist_records::PLAN_MARK;
 use planlist_records::SUM_AT;
 use planlist_records::TREE_SIZE_AT;
-use planlist_records::Y1_AT;
-use planlist_records::Y2_AT;
+use planlist_records::plan_mark;
 use planlist_records::plan_size;
+use planlist_records::plan_slots;
 ghost use mathlib.Core.Bool.{false};
 ghost use mathlib.Core.Path.{_≡_};
 ghost use Prim.Native.Nat.{_+_, _≤_, _<_};
 ghost use lib.ListN.{length};
-ghost use Rattle.network.specs.PlanList.{headSize, planSize, planSlots};
+ghost use Rattle.network.specs.Survey.{narrowSlots};
+ghost use Rattle.network.specs.PlanList.{headSize, planSize};
 ghost use Rattle.network.specs.Fetching.{damaged, headCount};
 ghost use Rattle.index_keys.specs.Key as spec;
 
@@ -59,15 +60,15 @@ pub fn sum_in(key: u64) -> u64
 
 // The key of the plan whose record is at an index; in a list without ceilings y1 and y2 are left out.
 fn key_at(list: &[u8], at: usize) -> u64
-    requires { ⌜ (headSize ≤ length (now list)) × (at + planSize planSlots 0 ≤ length (now list)) ⌝ }
+    requires { ⌜ (headSize ≤ length (now list)) × (at + planSize narrowSlots 0 ≤ length (now list)) ⌝ }
     ensures { λ k. ⌜ k ≡ spec.keyAt (now (list .entry)) at ⌝ }
 {
     let sum = raised32(read_u32(list, at + SUM_AT));
     if list[CEILINGS_AT] == 0 {
         return packed(0, sum, 0);
     }
-    let y1 = raised16(read_u16(list, at + Y1_AT));
-    let y2 = raised16(read_u16(list, at + Y2_AT));
+    let y1 = raised16(read_u16(list, at + CEILING_COSTS_AT));
+    let y2 = raised16(read_u16(list, at + CEILING_COSTS_AT + 2));
     packed(y1, sum, y2)
 }
 
@@ -76,11 +77,13 @@ pub fn read_keys(list: &[u8], keys: &mut [u64]) -> bool
     requires { ⌜ (damaged (now list) ≡ false) × (length (now keys) ≡ headCount (now list)) ⌝ }
     ensures { λ r. ⌜ spec.KeysRead (now (list .entry)) (now (keys .exit)) r ⌝ }
 {
-    let size = plan_size(list[TREE_SIZE_AT]);
+    let slots = plan_slots(list[CEILINGS_AT]);
+    let mark = plan_mark(slots);
+    let size = plan_size(slots, list[TREE_SIZE_AT] as usize);
     let mut at = HEAD_SIZE;
     let mut r = 0;
     while r < keys.len() {
-        if mark_at(list, at, PLAN_MARK) {
+        if mark_at(list, at, mark) {
             keys[r] = key_at(list, at);
             at += size;
             r += 1;

@@ -10,8 +10,8 @@ use Rattle.network.specs.Calls.{asked, askedChecked, bestTree, drawnChec
 
 pub record Alike (s s′ : List ℕ) : Type 0 where
   pub judge : (drawn : List ℕ) → judged s′ drawn ≡ judged s drawn
-  pub question : (b1 b2 : ℤ) (size : ℕ) → asked s′ b1 b2 size ≡ asked s b1 b2 size
-  pub tree : (b1 b2 : ℤ) (buffer : List ℕ) → treeAfter s′ b1 b2 buffer ≡ treeAfter s b1 b2 buffer
+  pub question : (given : List ℤ) (size : ℕ) → asked s′ given size ≡ asked s given size
+  pub tree : (given : List ℤ) (buffer : List ℕ) → treeAfter s′ given buffer ≡ treeAfter s given buffer
   pub status : (allowance size : ℕ) → listStatus s′ allowance size ≡ listStatus s allowance size
   pub list : (allowance : ℕ) (buffer : List ℕ) → listAfter s′ allowance buffer ≡ listAfter s allowance buffer
 
@@ -20,8 +20,8 @@ unfolding judged drawnChecked asked askedChecked bestTree treeAfter listStatus l
 alike c e =
     record {
       judge = λ drawn. rw (c, e);
-      question = λ b1 b2 size. rw (c, e);
-      tree = λ b1 b2 buffer. rw (c, e);
+      question = λ given size. rw (c, e);
+      tree = λ given buffer. rw (c, e);
       status = λ allowance size. rw (c, e);
       list = λ allowance buffer. rw (c, e);
     }

@@ -5,8 +5,8 @@ use mathlib.Core.List.{List, [], _∷_, _++_}
 use mathlib.Core.Option.{Option, none, some}
 use Prim.Native.Nat.{ℕ}
 use lib.Dec.{ltb}
-use lib.IntN.{ℤ}
-use lib.ListN.{drop, length, replicate}
+use lib.IntN.{ℤ, pos}
+use lib.ListN.{drop, getD, length, replicate}
 use Rattle.network.specs.Yard.{best, bounds, isTree, treeSize}
 use Rattle.network.specs.Walk.{passes}
 use Rattle.network.specs.Survey.{networkOf}
@@ -18,12 +18,13 @@ use Rattle.network.specs.declared.Answer.the-variants.{Plan, Refused as 
 use Rattle.network.specs.declared.Checked.{Checked}
 use Rattle.network.specs.declared.Checked.the-variants.{Fine, Refused}
 use Rattle.network.specs.declared.Costs.{Costs}
+use Rattle.network.specs.declared.PlanCosts.{PlanCosts}
 use Rattle.network.specs.Network.{Network}
 use Rattle.network.specs.declared.Status.{Status}
 
 -- ---- replies
 
--- A reply in document 01's terms: the number and place of a refusal and no values, or 0, 0 and the plan's sum, y1, y2.
+-- A reply in document 01's terms: the number and place of a refusal and no values, or 0, 0 and the plan's sum, y1, y2, y3.
 pub record Reply : Type 0 where
   pub number : ℕ
   pub place : ℕ
@@ -31,11 +32,19 @@ pub record Reply : Type 0 where
 
 -- the values of a plan's costs
 abbrev pub costValues : Costs → List ℤ
-costValues v = v .sum ∷ v .y1 ∷ v .y2 ∷ []
+costValues v = v .sum ∷ v .y
+
+-- the costs of an answer, whose ceiling costs stand one by one, with these as a list
+abbrev pub together : PlanCosts → Costs
+together v = record { sum = v .sum; y = v .y1 ∷ v .y2 ∷ v .y3 ∷ [] }
+
+-- and costs with their ceiling costs one by one
+unfoldable pub apart : Costs → PlanCosts
+apart v = record { sum = v .sum; y1 = getD (v .y) 0 (pos 0); y2 = getD (v .y) 1 (pos 0); y3 = getD (v .y) 2 (pos 0) }
 
 -- what each case of the answer enum says
 unfoldable pub says : Answer → Reply
-says (Plan v) = record { number = 0; place = 0; values = costValues v }
+says (Plan v) = record { number = 0; place = 0; values = costValues (together v) }
 says (Answer·Refused r) = record { number = r .number; place = r .place; values = [] }
 
 -- the reply by a check: the refusal it found, or else the values
@@ -55,7 +64,7 @@ ifFine (Refused r) a b = b
 
 -- ---- the judge of a drawn tree
 
--- 1 to 8, 15 and 18, then 11: not t links, not strictly rising, one not in the survey, or no tree
+-- 1 to 8, 15, 18 and 19, then 11: not t links, not strictly rising, one not in the survey, or no tree
 unfoldable pub drawnChecked : List ℕ → List ℕ → Checked
 drawnChecked s drawn = checkedOf s orElse refuseIf (not (isTree (networkOf s) drawn)) 11 0
 
@@ -75,28 +84,28 @@ abbrev pub isNone : Option (List ℕ) → Bool
 isNone none = true
 isNone (some ts) = false
 
--- the best tree of a survey's yard under the given numbers
-unfoldable pub bestTree : List ℕ → ℤ → ℤ → Option (List ℕ)
-bestTree s b1 b2 = let net = networkOf s in best net (bounds net b1 b2)
+-- the best tree of a survey's yard under the numbers given, one for each of three ceilings
+unfoldable pub bestTree : List ℕ → List ℤ → Option (List ℕ)
+bestTree s given = let net = networkOf s in best net (bounds net given)
 
--- 1 to 8, 15 and 18, then 9: a tree buffer of `size` bytes is below t; then 14: no tree fits
-unfoldable pub askedChecked : List ℕ → ℤ → ℤ → ℕ → Checked
-askedChecked s b1 b2 size =
+-- 1 to 8, 15, 18 and 19, then 9: a tree buffer of `size` bytes is below t; then 14: no tree fits
+unfoldable pub askedChecked : List ℕ → List ℤ → ℕ → Checked
+askedChecked s given size =
     checkedOf s
     orElse refuseIf (ltb size (treeSize (networkOf s))) 9 0
-    orElse refuseIf (isNone (bestTree s b1 b2)) 14 0
+    orElse refuseIf (isNone (bestTree s given)) 14 0
 
 -- the reply to a ceilings question: the best tree's costs, or the refusal
-unfoldable pub asked : List ℕ → ℤ → ℤ → ℕ → Reply
-asked s b1 b2 size = reply (askedChecked s b1 b2 size) (costValues (costsOf (networkOf s) (linksOf (bestTree s b1 b2))))
+unfoldable pub asked : List ℕ → List ℤ → ℕ → Reply
+asked s given size = reply (askedChecked s given size) (costValues (costsOf (networkOf s) (linksOf (bestTree s given))))
 
 -- a tree buffer with the links of a tree, if there is one, in its first bytes; the others are as they were
 unfoldable pub treeWith : Option (List ℕ) → List ℕ → List ℕ
 treeWith o tree = let ts = linksOf o in ts ++ drop (length ts) tree
 
 -- the tree buffer after it: the best tree's links, rising, in its first t bytes; its bytes past t, and all bytes on a refusal, are as they were
-unfoldable pub treeAfter : List ℕ → ℤ → ℤ → List ℕ → List ℕ
-treeAfter s b1 b2 tree = ifFine (askedChecked s b1 b2 (length tree)) (treeWith (bestTree s b1 b2) tree) tree
+unfoldable pub treeAfter : List ℕ → List ℤ → List ℕ → List ℕ
+treeAfter s given tree = ifFine (askedChecked s given (length tree)) (treeWith (bestTree s given) tree) tree
 
 -- ---- the list call
 
@@ -114,7 +123,7 @@ plansAfter net allowance buffer =
     let size = length buffer in
     ifFine (roomChecked net size) (cond (passes net allowance) (replicate size 0) (filled net size)) buffer
 
--- 1 to 8, 15 and 18, then 9 and 10
+-- 1 to 8, 15, 18 and 19, then 9 and 10
 unfoldable pub listChecked : List ℕ → ℕ → ℕ → Checked
 listChecked s allowance size = checkedOf s orElse plansChecked (networkOf s) allowance size
 
@@ -122,6 +131,6 @@ listChecked s allowance size = checkedOf s orElse plansChecked (networkOf s) all
 unfoldable pub listStatus : List ℕ → ℕ → ℕ → Status
 listStatus s allowance size = status (listChecked s allowance size)
 
--- the list buffer after it: as it was on 1 to 8, 15 and 18, and else that of the yard
+-- the list buffer after it: as it was on 1 to 8, 15, 18 and 19, and else that of the yard
 unfoldable pub listAfter : List ℕ → ℕ → List ℕ → List ℕ
 listAfter s allowance buffer = ifFine (checkedOf s) (plansAfter (networkOf s) allowance buffer) buffer

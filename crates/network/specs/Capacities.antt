@@ -12,7 +12,7 @@ linksHeld = 40
 
 -- ceilings
 abbrev pub ceilingsHeld : ℕ
-ceilingsHeld = 2
+ceilingsHeld = 3
 
 -- links of a tree
 abbrev pub treeHeld : ℕ

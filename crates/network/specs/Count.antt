@@ -8,7 +8,8 @@ use lib.ListN.{length}
 use lib.Seq.{getD-append-add}
 use store.Seg.{eqb-same}
 use Rattle.network.specs.Bytes.{littleEndian}
-use Rattle.network.specs.Survey.{layoutOf, linkCount, linkSize, networkOf, plain, restIn, restSize, rowWhere, withCount, withRest}
+use Rattle.network.specs.Survey.{layoutOf, linkCount, linkSize, narrowSlots, networkOf, plain, ranksIn, restIn, restSize, rowWhere}
+use Rattle.network.specs.Survey.{withCount, withRest}
 use Rattle.network.specs.Refusals.{badCount, checkedOf}
 use Rattle.network.specs.Alike.{Alike}
 use Rattle.network.specs.SameYard.{SameYard, same-alike, same-checked, same-network}
@@ -27,7 +28,7 @@ restedYard n p k1 k2 count rest = withRest .yard .mark ++ ((n ∷ p ∷ k1 ∷ k
 
 -- the link count of the bytes of link records, which is a byte wherever number 4 does not come first
 abbrev pub rightCount : List ℕ → ℕ
-rightCount links = length links / linkSize
+rightCount links = length links / linkSize narrowSlots
 
 module _ (n p k1 k2 : ℕ) (links : List ℕ) where
   -- the survey with the yard record of mark 59 44
@@ -43,16 +44,18 @@ module _ (n p k1 k2 : ℕ) (links : List ℕ) where
   awake count = restedYard n p k1 k2 count 0 ++ links
 
   links-plain : linkCount plain s ≡ rightCount links
-  links-plain = ap (λ (z : ℕ). z / linkSize) (omega arith)
+  links-plain = ap (λ (z : ℕ). z / linkSize narrowSlots) (omega arith)
 
   -- with the right count
   count-same : SameYard s plain (counted (rightCount links)) withCount
-  unfolding layoutOf rowWhere badCount restIn
+  unfolding layoutOf rowWhere badCount ranksIn restIn
   count-same =
       record {
         layout = refl;
         layout′ = refl;
         marked = refl;
+        fewest = refl;
+        slots = refl;
         stations = refl;
         ceilings = refl;
         ranks = refl;
@@ -83,12 +86,14 @@ module _ (n p k1 k2 : ℕ) (links : List ℕ) where
 
   -- with no station at rest, whatever the count
   rest-same : (count : ℕ) → SameYard (counted count) withCount (awake count) withRest
-  unfolding layoutOf rowWhere badCount restIn
+  unfolding layoutOf rowWhere badCount ranksIn restIn
   rest-same count =
       record {
         layout = refl;
         layout′ = refl;
         marked = refl;
+        fewest = refl;
+        slots = refl;
         stations = refl;
         ceilings = refl;
         ranks = refl;

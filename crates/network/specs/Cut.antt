@@ -15,10 +15,10 @@ use Rattle.network.specs.Limits.{maxLinks, maxStations}
 use Rattle.network.specs.Bytes.{byteAt, markAt}
 use Rattle.network.specs.Survey.{countIn, hasCount, layoutOf, linkCount, plain, stationsIn}
 use Rattle.network.specs.Checked.{refuseIf, _orElse_}
-use Rattle.network.specs.Refusals.{badCount, badLength, checkedOf, checkedWith, outside, yardChecked}
+use Rattle.network.specs.Refusals.{badCount, badLength, checkedOf, checkedWith, outside, recordsChecked, yardChecked}
 use Rattle.network.specs.Calls.{Reply, asked, askedChecked, drawnChecked, judged, listChecked, listStatus, reply, status}
 use Rattle.network.specs.Layouts.{layout-kept, layout-roomy, layout-short}
-use Rattle.network.specs.Accepted.{Accepted, accepted, whole-records}
+use Rattle.network.specs.Accepted.{RecordsFine, accepted-records, whole-records}
 use Rattle.network.specs.declared.Checked.{Checked}
 use Rattle.network.specs.declared.Checked.the-variants.{Fine, Refused}
 use Rattle.network.specs.declared.Layout.{Layout}
@@ -31,7 +31,7 @@ cutRefusal l c = Refused (record { number = cond (badLength l c) 1 15; place = 0
 
 -- a wrong length is number 1
 refused-length : (l : Layout) (s : List ℕ) → badLength l (length s) ≡ true → checkedWith l s ≡ Refused (record { number = 1; place = 0 })
-unfolding checkedWith refuseIf _orElse_
+unfolding checkedWith recordsChecked refuseIf _orElse_
 refused-length l s e = rw e
 
 -- a yard record whose mark, stations and number of links pass, and that writes another count, is number 15
@@ -45,7 +45,7 @@ too-short : (l : Layout) (len : ℕ) → len < l .yard .size → badLength l len
 unfolding badLength
 too-short l len h = rw (lt-ltb len (l .yard .size) h)
 
-module _ (s : List ℕ) (l : Layout) (fine : Accepted s l) (counts : hasCount l ≡ true) (c : ℕ) (h : c < length s) where
+module _ (s : List ℕ) (l : Layout) (fine : RecordsFine s l) (counts : hasCount l ≡ true) (c : ℕ) (h : c < length s) where
   abbrev part : List ℕ
   part = take c s
 
@@ -82,7 +82,7 @@ module _ (s : List ℕ) (l : Layout) (fine : Accepted s l) (counts : hasCount l 
         (rw (counts, kept (l .count) (omega arith), other))
 
     cut-ends : checkedWith l part ≡ Refused (record { number = 15; place = 0 })
-    unfolding checkedWith refuseIf _orElse_
+    unfolding checkedWith recordsChecked refuseIf _orElse_
     cut-ends =
         let yard = cut-yard in
         rw (size, ends) (rw (rw size at yard))
@@ -103,7 +103,7 @@ cut-off s e counts c h = by-test (ltb c 2) short long
         rw (layout-short (take c s) (rw size less), bad) (refused-length plain (take c s) (rw size (too-short plain c (omega arith))))
 
     long : ltb c 2 ≡ false → checkedOf (take c s) ≡ cutRefusal (layoutOf s) c
-    long q = rw (layout-kept s c (ltb-false c 2 q)) (cut-long s (layoutOf s) (accepted s (layoutOf s) (layout-roomy s) e) counts c h)
+    long q = rw (layout-kept s c (ltb-false c 2 q)) (cut-long s (layoutOf s) (accepted-records s e) counts c h)
 
 -- ---- what callers rely on
 
@@ -131,9 +131,9 @@ unfolding judged drawnChecked _orElse_
 cut-judged bytes drawn e = cut-replied bytes (drawnChecked bytes drawn) _ (λ r k. rw k) e
 
 -- the ceilings question is one,
-pub cut-asked : (bytes : List ℕ) (b1 b2 : ℤ) (size : ℕ) {a : Reply} → a ≡ asked bytes b1 b2 size → CutNoticed bytes (a .number) (a .place)
+pub cut-asked : (bytes : List ℕ) (given : List ℤ) (size : ℕ) {a : Reply} → a ≡ asked bytes given size → CutNoticed bytes (a .number) (a .place)
 unfolding asked askedChecked _orElse_
-cut-asked bytes b1 b2 size e = cut-replied bytes (askedChecked bytes b1 b2 size) _ (λ r k. rw k) e
+cut-asked bytes given size e = cut-replied bytes (askedChecked bytes given size) _ (λ r k. rw k) e
 
 -- and the list call notices it too
 pub cut-listed : (bytes : List ℕ) (allowance size : ℕ) {a : Status} → a ≡ listStatus bytes allowance size → CutNoticed bytes (a .number) (a .place)

@@ -20,15 +20,23 @@ headTreeSize list = byteAt list 8
 abbrev pub headCeilings : List ℕ → ℕ
 headCeilings list = byteAt list 9
 
--- where plan r's record starts: at byte 10 + r × (10 + t)
+-- how many ceiling costs its plan records have room for
+abbrev pub headSlots : List ℕ → ℕ
+headSlots list = planSlots (headCeilings list)
+
+-- where plan r's record starts: at byte 10 + r × (10 + t), and where p is 3 at byte 10 + r × (12 + t)
 abbrev pub planStart : List ℕ → ℕ → ℕ
-planStart list r = headSize + r * planSize planSlots (headTreeSize list)
+planStart list r = headSize + r * planSize (headSlots list) (headTreeSize list)
 
--- where its link bytes start: at byte 20 + r × (10 + t)
+-- where its link bytes start: at byte 20 + r × (10 + t), and where p is 3 at byte 22 + r × (12 + t)
 abbrev pub linksStart : List ℕ → ℕ → ℕ
-linksStart list r = planStart list r + planSize planSlots 0
+linksStart list r = planStart list r + planSize (headSlots list) 0
 
--- 12, whichever plan is asked for: under 10 bytes, a wrong head mark, a count over 1,600, t over 23, p over 2, or fewer bytes than the plans take
+-- plan r has its mark
+abbrev pub isMarked : List ℕ → ℕ → Bool
+isMarked list r = markAt list (planStart list r) (planMark (headSlots list))
+
+-- 12, whichever plan is asked for: under 10 bytes, a wrong head mark, a count over 1,600, t over 23, p over 3, or fewer bytes than the plans take
 unfoldable pub damaged : List ℕ → Bool
 damaged list =
     ltb (length list) headSize || not (markAt list 0 headMark) || ltb maxPlans (headCount list) || ltb maxTree (headTreeSize list)
@@ -36,7 +44,7 @@ damaged list =
 
 -- the number: 12 if the list is damaged, then 13 if r is not below the plan count, then 12 if plan r's mark is wrong, and else 0
 unfoldable pub fetchNumber : List ℕ → ℕ → ℕ
-fetchNumber list r = cond (damaged list) 12 (cond (ltb r (headCount list)) (cond (markAt list (planStart list r) planMark) 0 12) 13)
+fetchNumber list r = cond (damaged list) 12 (cond (ltb r (headCount list)) (cond (isMarked list r) 0 12) 13)
 
 -- the t link bytes of plan r, a part of the list; an empty part if the number is not 0
 unfoldable pub fetchLinks : List ℕ → ℕ → List ℕ

@@ -5,17 +5,17 @@ use mathlib.Core.Option.{Option, none, some}
 use Prim.Native.Nat.{ℕ, zero, suc, _*_}
 use lib.Dec.{eqb, ltb}
 use lib.IntN.{ℤ, pos}
-use lib.ListN.{drop, length}
+use lib.ListN.{drop, getD, length}
 use lib.Signed.{leZ}
 use Rattle.order.specs.Lists.{all, numbersFrom}
 use Rattle.order.specs.Order.{dictionary, equal, orderℕ, orderℤ}
 use Rattle.order.specs.Sorted.{sort}
 use Rattle.order.specs.Least.{least}
-use Rattle.network.specs.Bytes.{littleEndian, markAt, u16At}
-use Rattle.network.specs.PlanList.{costsAt, join, planMark}
+use Rattle.network.specs.Bytes.{littleEndian, u16At}
+use Rattle.network.specs.PlanList.{costsAt, join}
 use Rattle.network.specs.Checked.{refuseIf, _orElse_}
 use Rattle.network.specs.Calls.{Reply, ifFine, status}
-use Rattle.network.specs.Fetching.{damaged, headCeilings, headCount, planStart}
+use Rattle.network.specs.Fetching.{damaged, headCeilings, headCount, headSlots, isMarked, planStart}
 use Rattle.network.specs.declared.Checked.{Checked}
 use Rattle.network.specs.declared.Checked.the-variants.{Fine, Refused}
 use Rattle.network.specs.declared.Costs.{Costs}
@@ -29,19 +29,23 @@ use Rattle.network.specs.declared.Status.{Status}
 abbrev pub planNumbers : List ℕ → List ℕ
 planNumbers list = numbersFrom (headCount list) 0
 
--- the sum, y1 and y2 in plan r's record
+-- the costs in plan r's record
 abbrev pub planCosts : List ℕ → ℕ → Costs
-planCosts list r = costsAt list (planStart list r)
+planCosts list r = costsAt (headSlots list) list (planStart list r)
+
+-- its ceiling cost j, from 0
+abbrev pub planCost : List ℕ → ℕ → ℕ → ℤ
+planCost list r j = getD (planCosts list r .y) j (pos 0)
 
 -- the list has no ceiling
 abbrev pub withoutCeilings : List ℕ → Bool
 withoutCeilings list = eqb (headCeilings list) 0
 
--- what plan r stands by in the index: y1, sum, y2 and its number; for p = 0 sum and number alone
+-- what plan r stands by in the index: y1, sum, y2 and its number, for p = 3 too; for p = 0 sum and number alone
 unfoldable pub indexKey : List ℕ → ℕ → List ℤ
 indexKey list r =
-    let v = planCosts list r in
-    cond (withoutCeilings list) (v .sum ∷ pos r ∷ []) (v .y1 ∷ v .sum ∷ v .y2 ∷ pos r ∷ [])
+    let sum = planCosts list r .sum in
+    cond (withoutCeilings list) (sum ∷ pos r ∷ []) (planCost list r 0 ∷ sum ∷ planCost list r 1 ∷ pos r ∷ [])
 
 -- the index: the plan numbers in the rising order of what they stand by, the first entry that differs deciding
 unfoldable pub indexOf : List ℕ → List ℕ
@@ -56,10 +60,6 @@ abbrev pub indexNeed : List ℕ → ℕ
 indexNeed list = headCount list * 2
 
 -- ---- building
-
--- plan r has its mark
-abbrev pub isMarked : List ℕ → ℕ → Bool
-isMarked list r = markAt list (planStart list r) planMark
 
 -- 12: the list is damaged as in fetching, or the mark of a plan is wrong
 unfoldable pub unfit : List ℕ → Bool
@@ -94,7 +94,7 @@ isIndex list buffer = equal (dictionary orderℕ) (entriesFrom (headCount list) 
 
 -- plan r meets the given value: its y1 is at most that; for p = 0 every plan meets it
 unfoldable pub meets : List ℕ → ℤ → ℕ → Bool
-meets list y r = withoutCeilings list || leZ (planCosts list r .y1) y
+meets list y r = withoutCeilings list || leZ (planCost list r 0) y
 
 -- the sum of plan r
 abbrev pub planSum : List ℕ → ℕ → ℤ

@@ -10,32 +10,38 @@ use lib.ListN.{length, take, List·getD-eq-default}
 use lib.Seq.{getD-take}
 use Rattle.order.specs.Lists.{_∈_, all, all-mem}
 use Rattle.order.specs.Test.{left, right}
+use Rattle.network.specs.Limits.{maxCeilings}
 use Rattle.network.specs.Bytes.{byteAt, markAt}
 use Rattle.network.specs.Survey.{layoutOf, layouts, linkSize, opens, plain, restSize, rowWhere, yardSize}
 use Rattle.network.specs.declared.Layout.{Layout}
 
 -- the records of a layout have room for the fields that all share, and the yard record for its link count and its stations at rest
 pub record Roomy (l : Layout) : Type 0 where
-  pub yard : yardSize ≤ l .yard .size
+  pub yard : yardSize (l .slots) ≤ l .yard .size
   pub count : l .count < l .yard .size
   pub rest : l .rest + restSize ≤ l .yard .size
-  pub link : linkSize ≤ l .link .size
+  pub link : linkSize (l .slots) ≤ l .link .size
+  -- for no more ceilings than there may be
+  pub ceilings : l .slots ≤ maxCeilings
 
 -- the same as a test
 abbrev roomy : Layout → Bool
 roomy l =
-    leb yardSize (l .yard .size)
-    && (ltb (l .count) (l .yard .size) && (leb (l .rest + restSize) (l .yard .size) && leb linkSize (l .link .size)))
+    leb (yardSize (l .slots)) (l .yard .size)
+    && (ltb (l .count) (l .yard .size)
+    && (leb (l .rest + restSize) (l .yard .size) && (leb (linkSize (l .slots)) (l .link .size) && leb (l .slots) maxCeilings)))
 
 roomy-row : (l : Layout) → roomy l ≡ true → Roomy l
 roomy-row l e =
-    let first = right (leb yardSize (l .yard .size)) _ e in
+    let first = right (leb (yardSize (l .slots)) (l .yard .size)) _ e in
     let second = right (ltb (l .count) (l .yard .size)) _ first in
+    let third = right (leb (l .rest + restSize) (l .yard .size)) _ second in
     record {
-      yard = leb-true _ _ (left (leb yardSize (l .yard .size)) _ e);
+      yard = leb-true _ _ (left (leb (yardSize (l .slots)) (l .yard .size)) _ e);
       count = ltb-true _ _ (left (ltb (l .count) (l .yard .size)) _ first);
       rest = leb-true _ _ (left (leb (l .rest + restSize) (l .yard .size)) _ second);
-      link = leb-true _ _ (right (leb (l .rest + restSize) (l .yard .size)) _ second);
+      link = leb-true _ _ (left (leb (linkSize (l .slots)) (l .link .size)) _ third);
+      ceilings = leb-true _ _ (right (leb (linkSize (l .slots)) (l .link .size)) _ third);
     }
 
 -- what holds of the old layout and of each row of a table holds of the row that a test finds

@@ -13,7 +13,7 @@ pub mod Column
 pub mod Tabulate
 pub mod Survey
 pub mod PlanList
--- when the planner declines: the first of several refusals, numbers 1 to 8, 15 and 18, then the calls with 9, 10, 11, 14
+-- when the planner declines: the first of several refusals, numbers 1 to 8, 15, 18 and 19, then the calls with 9, 10, 11, 14
 pub mod Checked
 pub mod Refusals
 pub mod Calls
@@ -25,7 +25,7 @@ pub mod Indexing
 pub mod Writing
 -- printing
 pub mod Printing
--- the yards worked through, P1 to P40
+-- the yards worked through, P1 to P48
 pub mod WorkedYards
 pub mod Worked
 -- theorems: which stations work, what the definitions mean, what holds of a survey's layout, of an accepted survey's bytes, of its costs and of its

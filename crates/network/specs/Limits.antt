@@ -1,5 +1,5 @@
 -- The limits of document 01. Ceiling costs are of 16 bits and the allowance is of 32: their types say so.
-use Prim.Native.Nat.{ℕ, _^_, _-_}
+use Prim.Native.Nat.{ℕ, _-_}
 use lib.IntN.{ℤ, negℤ, pos}
 
 -- stations: 1 to 24
@@ -10,9 +10,9 @@ maxStations = 24
 abbrev pub maxLinks : ℕ
 maxLinks = 40
 
--- p, the number of ceiling costs: 0 to 2
+-- p, the number of ceiling costs: 0 to 3; which of them a survey may have, its layout says
 abbrev pub maxCeilings : ℕ
-maxCeilings = 2
+maxCeilings = 3
 
 -- k, the rank of a ceiling cost: 1 to 3
 abbrev pub maxRank : ℕ
@@ -34,9 +34,9 @@ minSum = negℤ (pos maxSum)
 abbrev pub maxTree : ℕ
 maxTree = maxStations - 1
 
--- M, the number of positions, and so the plans of a list: at most 1,600, a value of each ceiling for each link
+-- M, the number of positions, and so the plans of a list: at most 1,600
 abbrev pub maxPlans : ℕ
-maxPlans = maxLinks ^ maxCeilings
+maxPlans = 1_600
 
 -- what the program takes of standard input, in bytes
 abbrev pub maxInput : ℕ

@@ -4,7 +4,7 @@ use mathlib.Core.Bool.{Bool, true, false, _&&_, not}
 use mathlib.Core.List.{List, map}
 use mathlib.Core.Logic.{_↔_}
 use mathlib.Core.Option.{none, some}
-use mathlib.Core.Path.{_≡_, ap}
+use mathlib.Core.Path.{_≡_, ap, refl}
 use Prim.Native.Nat.{ℕ}
 use native.Mathlib.Omega.{arith}
 use lib.IntN.{ℤ, pos}
@@ -23,8 +23,10 @@ use Rattle.frontier.specs.Best.{best-none, best-some}
 use Rattle.planning.specs.Graph.{Sound, searchTree}
 use Rattle.planning.specs.Search.{search-best}
 use Rattle.network.specs.Yard.{Tree, best, dominates, ends, fits, graph, isTree, ranks, stations, treeSize, treeSum, trees, usable, yard}
+use Rattle.network.specs.Tabulate.{tabulate}
+use Rattle.network.specs.PlanList.{costsOf}
 use Rattle.network.specs.Resting.{mem-working, working-mem}
-use Rattle.network.specs.Calls.{Reply, says}
+use Rattle.network.specs.Calls.{Reply, apart, costValues, says, together}
 use Rattle.network.specs.declared.Answer.{Answer}
 use Rattle.network.specs.declared.Answer.the-variants.{Plan, Refused as Answer·Refused}
 use Rattle.network.specs.Network.{Network}
@@ -117,18 +119,22 @@ module _ (net : Network) (sound : Sound (graph net)) where
   pub search-finds : (bs : List ℤ) → length bs ≡ length (ranks net) → searchTree (graph net) bs ≡ best net bs
   search-finds bs l = search-best (graph net) sound bs l
 
+-- no cost of a tree is lost where an answer holds them one by one
+pub together-apart : (net : Network) (ts : List ℕ) → together (apart (costsOf net ts)) ≡ costsOf net ts
+unfolding apart tabulate
+together-apart net ts = refl
+
 -- `says` is one-to-one: no two answers of the enum say the same
 pub says-once : (a b : Answer) → says a ≡ says b → a ≡ b
 unfolding says
 says-once (Plan v) (Plan w) e =
-    let values = ap (λ (r : Reply). r .values) e in
-    let sum : v .sum ≡ w .sum = ap (λ (l : List ℤ). getD l 0 (pos 0)) values in
-    let first : v .y1 ≡ w .y1 = ap (λ (l : List ℤ). getD l 1 (pos 0)) values in
-    let second : v .y2 ≡ w .y2 = ap (λ (l : List ℤ). getD l 2 (pos 0)) values in
-    λ i. Plan (record { sum = sum i; y1 = first i; y2 = second i })
+    λ i. Plan (record { sum = value 0 i; y1 = value 1 i; y2 = value 2 i; y3 = value 3 i })
+  where
+    value : (j : ℕ) → getD (costValues (together v)) j (pos 0) ≡ getD (costValues (together w)) j (pos 0)
+    value j = ap (λ (r : Reply). getD (r .values) j (pos 0)) e
 says-once (Answer·Refused r) (Answer·Refused q) e =
     let number = ap (λ (a : Reply). a .number) e in
     let place = ap (λ (a : Reply). a .place) e in
     λ i. Answer·Refused (record { number = number i; place = place i })
-says-once (Plan v) (Answer·Refused r) e = let z : _≡_ {A = ℕ} 3 0 = ap (λ (a : Reply). length (a .values)) e in absurd (omega arith)
-says-once (Answer·Refused r) (Plan v) e = let z : _≡_ {A = ℕ} 0 3 = ap (λ (a : Reply). length (a .values)) e in absurd (omega arith)
+says-once (Plan v) (Answer·Refused r) e = let z : _≡_ {A = ℕ} 4 0 = ap (λ (a : Reply). length (a .values)) e in absurd (omega arith)
+says-once (Answer·Refused r) (Plan v) e = let z : _≡_ {A = ℕ} 0 4 = ap (λ (a : Reply). length (a .values)) e in absurd (omega arith)

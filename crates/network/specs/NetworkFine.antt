@@ -6,12 +6,14 @@ use mathlib.Core.Bool.{_&&_, false, not}
 use mathlib.Core.List.{List, [], _∷_}
 use native.Mathlib.Nat.{le-of-eq, le-trans, mul-comm, mul-le-mul, pow-le-pow-right, pow-suc, pow-zero}
 use native.Mathlib.Omega.{arith}
-use borrow.Author.Tests.{eqb-false, leb-false, ltb-false, lt-ltb}
-use lib.Dec.{eqb, ltb}
-use lib.ListN.{getD, length, length-take, take}
+use borrow.Author.Tests.{eqb-false, le-ltb, leb-false, ltb-false, lt-ltb}
+use lib.Dec.{eqb, leb, ltb}
+use lib.ListN.{drop, getD, length, length-drop, length-take, take}
 use lib.Seq.{getD-take, length-take-le}
 use Rattle.order.specs.Lists.{_∈_, mem-getD}
+use Rattle.order.specs.Test.{by-test}
 use Rattle.order.specs.Lowered.{lowered-weighs}
+use Rattle.spanning.specs.Tree.{EndsBelow}
 use Rattle.frontier.specs.Frontier.{product}
 use Rattle.kmax.specs.Ceilings.{slackOf}
 use Rattle.planning.specs.Graph.{Graph, Sound, valuesAt, valuesFrom}
@@ -21,15 +23,14 @@ use Rattle.network.specs.Capacities.{ceilingsHeld, exceptionsHeld, links
 use Rattle.network.specs.Bytes.{byteAt}
 use Rattle.network.specs.Network.{Network}
 use Rattle.network.specs.Tabulate.{tabulate-at, tabulate-length}
-use Rattle.network.specs.Survey.{ceilingsIn, endIn, endsIn, layoutOf, linkCount, linkStart, networkOf, networkWith, ranksIn, restIn, stationsIn}
-use Rattle.network.specs.Survey.{workingIn}
-use Rattle.network.specs.Refusals.{anyBadRank, badPresent, badRank, badRanks, badRest, checkedOf}
-use Rattle.network.specs.Yard.{ends, graph, ranks, stations, sumAt, treeSize}
+use Rattle.network.specs.Survey.{ceilingsIn, endIn, endsIn, layoutOf, linkCount, linkStart, narrowSlots, networkOf, networkWith, ranksAt, ranksIn}
+use Rattle.network.specs.Survey.{restIn, stationsIn, wideSlots, workingIn}
+use Rattle.network.specs.Refusals.{anyBadRank, badPresent, badRank, badRanks, badRest, checkedOf, tooManyPositions}
+use Rattle.network.specs.Yard.{ends, endsAt, graph, ranks, stations, sumAt, treeSize}
 use Rattle.network.specs.Resting.{joins-within, working-apart, working-few}
 use Rattle.network.specs.Walk.{positionCount}
 use Rattle.network.specs.PlanList.{bufferNeed, maxNeed, planSize, planSlots}
-use Rattle.network.specs.Accepted.{Accepted, accepted, or-false}
-use Rattle.network.specs.Layouts.{layout-roomy}
+use Rattle.network.specs.Accepted.{RecordsFine, accepted-positions, accepted-records, or-false}
 use Rattle.network.specs.Costs.{costs-length}
 use Rattle.network.specs.Sums.{raised-at, raised-small, sums-length}
 use Rattle.network.specs.declared.Checked.the-variants.{Fine}
@@ -74,34 +75,43 @@ slack-take (suc p) (k ∷ ks) = omega (arith, slack-take p ks)
 -- ---- limits of the walk and of the list, for any number of ceilings
 
 -- with at most b links there are at most b positions to the power of the number of ceilings
-position-power : (G : Graph) (b : ℕ) → G .m ≤ b → (i : ℕ) (ks : List ℕ) → product (valuesFrom G i ks) ≤ b ^ length ks
-position-power G b h i [] = omega (arith, pow-zero b)
-position-power G b h i (k ∷ ks) =
+values-power : (G : Graph) (b : ℕ) → G .m ≤ b → (i : ℕ) (ks : List ℕ) → product (valuesFrom G i ks) ≤ b ^ length ks
+values-power G b h i [] = omega (arith, pow-zero b)
+values-power G b h i (k ∷ ks) =
     let few : length (valuesAt G i) ≤ b = omega (arith, values-few G i) in
     let power : b ^ length (k ∷ ks) ≡ b ^ length ks * b = pow-suc b (length ks) in
-    rw power (le-trans (mul-le-mul few (position-power G b h (suc i) ks)) (le-of-eq (mul-comm b (b ^ length ks))))
+    rw power (le-trans (mul-le-mul few (values-power G b h (suc i) ks)) (le-of-eq (mul-comm b (b ^ length ks))))
 
 -- the limits of what a survey may have, said of its network
 pub record WithinLimits (net : Network) : Type 0 where
   pub stations : net .n ≤ maxStations
   pub links : net .m ≤ maxLinks
   pub ceilings : length (ranks net) ≤ maxCeilings
+  pub positions : positionCount net ≤ maxPlans
 
--- M is at most 1,600
-pub position-limit : (net : Network) → WithinLimits net → positionCount net ≤ maxPlans
-position-limit net few =
-    le-trans (position-power (graph net) maxLinks (few .links) 0 (ranks net)) (pow-le-pow-right {n = maxLinks} (omega arith) (few .ceilings))
+-- m links make at most m positions to the power of the number of ceilings
+pub position-power : (net : Network) → positionCount net ≤ net .m ^ length (ranks net)
+position-power net = values-power (graph net) (net .m) (omega arith) 0 (ranks net)
+
+-- with up to two ceilings M is at most 1,600
+pub narrow-positions : (net : Network) → net .m ≤ maxLinks → length (ranks net) ≤ narrowSlots → positionCount net ≤ maxPlans
+narrow-positions net links ceilings =
+    le-trans (values-power (graph net) maxLinks links 0 (ranks net)) (pow-le-pow-right {n = maxLinks} (omega arith) ceilings)
 
 -- a tree has at most 23 links
 pub tree-limit : (net : Network) → WithinLimits net → treeSize net ≤ maxTree
 tree-limit net few = omega (arith, few .stations, working-few (net .n) (net .rest))
 
--- what a list buffer needs is at most 52,810 bytes
+-- a plan record has room for at most three ceiling costs
+pub slots-few : (p : ℕ) → planSlots p ≤ wideSlots
+unfolding planSlots
+slots-few p = by-test (leb p narrowSlots) (λ e. rw e (omega arith)) (λ e. rw e (omega arith))
+
+-- what a list buffer needs is at most 56,010 bytes
 pub need-limit : (net : Network) → WithinLimits net → bufferNeed net ≤ maxNeed
 need-limit net few =
-    let positions = position-limit net few in
-    let links : planSize planSlots (treeSize net) ≤ planSize planSlots maxTree = omega (arith, tree-limit net few) in
-    omega (arith, mul-le-mul positions links)
+    let links : planSize (planSlots (net .p)) (treeSize net) ≤ planSize wideSlots maxTree = omega (arith, tree-limit net few, slots-few (net .p)) in
+    omega (arith, mul-le-mul (few .positions) links)
 
 -- ---- the network
 
@@ -135,34 +145,47 @@ end-at l s m i j hi hj =
     let rest : (2 * i + j) % 2 ≡ j = omega arith in
     tabulate-at (λ q. endIn s (linkStart l (q / 2)) (q % 2)) (2 * m) (2 * i + j) (omega arith) 0 ∙ rw (half, rest)
 
-module _ (s : List ℕ) (l : Layout) (fine : Accepted s l) where
+module _ (s : List ℕ) (l : Layout) (fine : RecordsFine s l) where
   abbrev m : ℕ
   m = linkCount l s
 
   abbrev net : Network
   net = networkWith l s m
 
+  -- there are as many ranks as ceilings
+  ranks-length : length (take (ceilingsIn s) (ranksIn l s)) ≡ ceilingsIn s
+  unfolding ranksIn
+  ranks-length =
+      let all = length-take-le (l .slots) (drop ranksAt s)
+      (omega (arith, length-drop ranksAt s, fine .records .size, fine .records .roomy .yard)) in
+      length-take-le (ceilingsIn s) (take (l .slots) (drop ranksAt s)) (omega (arith, fine .yard .few-ceilings))
+
   -- the limits
-  pub network-limits : WithinLimits net
+  pub network-limits : positionCount net ≤ maxPlans → WithinLimits net
   unfolding networkWith
-  network-limits = record {
+  network-limits few = record {
     stations = fine .yard .few-stations;
     links = fine .yard .few-links;
-    ceilings = let few = fine .yard .few-ceilings in omega (arith, length-take (ceilingsIn s) (ranksIn s));
+    ceilings = omega (arith, ranks-length, fine .yard .few-ceilings, fine .records .roomy .ceilings);
+    positions = few;
   }
 
-  first : (i : ℕ) → i < m → getD (endsIn l s m) (2 * i) 0 ≡ byteAt s (linkStart l i + 2)
-  first i h =
-      let e : 2 * i + 0 ≡ 2 * i = omega arith in
-      let f : linkStart l i + 2 + 0 ≡ linkStart l i + 2 = omega arith in
-      rw e at (end-at l s m i 0 h (omega arith)) ∙ ap (byteAt s) f
+  -- where the layout has room for two ceilings there are never too many positions
+  pub narrow-few : l .slots ≡ narrowSlots → tooManyPositions net ≡ false
+  unfolding networkWith tooManyPositions
+  narrow-few e = le-ltb maxPlans _ (narrow-positions net (fine .yard .few-links) (omega (arith, ranks-length, fine .yard .few-ceilings, e)))
 
-  second : (i : ℕ) → i < m → getD (endsIn l s m) (2 * i + 1) 0 ≡ byteAt s (linkStart l i + 3)
-  second i h =
-      let f : linkStart l i + 2 + 1 ≡ linkStart l i + 3 = omega arith in
-      end-at l s m i 1 h (omega arith) ∙ ap (byteAt s) f
+  -- both ends of a link are stations
+  pub ends-below : (i : ℕ) → i < m → EndsBelow (stationsIn s) (endsAt (endsIn l s m) i)
+  ends-below i h =
+      let both : 2 * i + 0 ≡ 2 * i = omega arith in
+      let first : linkStart l i + 2 + 0 ≡ linkStart l i + 2 = omega arith in
+      let second : linkStart l i + 2 + 1 ≡ linkStart l i + 3 = omega arith in (
+        rw (rw both at (end-at l s m i 0 h (omega arith)) ∙ ap (byteAt s) first) (fine .link i h .first-end),
+        rw (end-at l s m i 1 h (omega arith) ∙ ap (byteAt s) second) (fine .link i h .second-end),
+      )
 
-  ends-length : length (endsIn l s m) ≡ 2 * m
+  pub ends-length : length (endsIn l s m) ≡ 2 * m
   unfolding endsIn
   ends-length = tabulate-length _ (2 * m)
 
@@ -176,42 +199,42 @@ module _ (s : List ℕ) (l : Layout) (fine : Accepted s l) where
       let both = or-false (not (eqb (restIn l s / 2 ^ stationsIn s) 0)) (eqb working 0) (fine .yard .resting) in
       omega (arith, eqb-false working 0 (both .1))
 
-  slack : slackOf (take (ceilingsIn s) (ranksIn s)) ≤ exceptionsHeld
+  slack : slackOf (take (ceilingsIn s) (ranksIn l s)) ≤ exceptionsHeld
   unfolding badRanks
   slack =
-      let all = ltb-false maxSlack (slackOf (ranksIn s)) (or-false (anyBadRank working (ceilingsIn s) 0 (ranksIn s)) _ (fine .yard .ranks) .1) in
-      omega (arith, slack-take (ceilingsIn s) (ranksIn s))
+      let all = ltb-false maxSlack (slackOf (ranksIn l s)) (or-false (anyBadRank working (ceilingsIn s) 0 (ranksIn l s)) _ (fine .yard .ranks) .1) in
+      omega (arith, slack-take (ceilingsIn s) (ranksIn l s))
 
-  rank-rule : anyBadRank working (ceilingsIn s) 0 (ranksIn s) ≡ false
+  rank-rule : anyBadRank working (ceilingsIn s) 0 (ranksIn l s) ≡ false
   unfolding badRanks
   rank-rule = or-false _ _ (fine .yard .ranks) .0
 
-  -- THE THEOREM: the network of an accepted survey can be planned
-  pub network-fine : NetworkFine net
+  -- THE THEOREM: the network of such a survey can be planned where it has no more than 1,600 positions
+  pub network-fine : positionCount net ≤ maxPlans → NetworkFine net
   unfolding networkWith
-  network-fine =
+  network-fine few =
       record {
         some-station = some-working;
-        rank-count = length-take-le (ceilingsIn s) (ranksIn s) (fine .yard .few-ceilings);
+        rank-count = ranks-length;
         end-count = ends-length;
         sum-count = sums-length l s m;
         cost-count = costs-length l s m (ceilingsIn s);
-        ranked = ranks-present working (ceilingsIn s) (ranksIn s) rank-rule;
-        first-end = λ i h. rw (first i h) (fine .link i h .first-end);
-        second-end = λ i h. rw (second i h) (fine .link i h .second-end);
+        ranked = ranks-present working (ceilingsIn s) (ranksIn l s) rank-rule;
+        first-end = λ i h. ends-below i h .0;
+        second-end = λ i h. ends-below i h .1;
         few-stations = fine .yard .few-stations;
         few-links = fine .yard .few-links;
-        few-ceilings = fine .yard .few-ceilings;
+        few-ceilings = omega (arith, fine .yard .few-ceilings, fine .records .roomy .ceilings);
         few-exceptions = slack;
-        few-positions = position-limit net network-limits;
+        few-positions = few;
         cheap = λ i h. rw (raised-at s l m i h) (raised-small _ (fine .link i h .priced));
       }
 
 pub survey-fine : (s : List ℕ) → checkedOf s ≡ Fine → NetworkFine (networkOf s)
-survey-fine s e = network-fine s (layoutOf s) (accepted s (layoutOf s) (layout-roomy s) e)
+survey-fine s e = network-fine s (layoutOf s) (accepted-records s e) (accepted-positions s e)
 
 pub survey-limits : (s : List ℕ) → checkedOf s ≡ Fine → WithinLimits (networkOf s)
-survey-limits s e = network-limits s (layoutOf s) (accepted s (layoutOf s) (layout-roomy s) e)
+survey-limits s e = network-limits s (layoutOf s) (accepted-records s e) (accepted-positions s e)
 
 -- ---- the graph
 

@@ -27,7 +27,7 @@ use Rattle.network.specs.Checked.{refuseIf, _orElse_}
 use Rattle.network.specs.Refusals.{checkedOf}
 use Rattle.network.specs.Calls.{ifFine, listAfter, listChecked, listStatus, plansAfter, plansChecked, roomChecked, status}
 use Rattle.network.specs.Meaning.{trees-iff, trees-rising}
-use Rattle.network.specs.NetworkFine.{need-limit, position-limit, survey-limits, survey-sound}
+use Rattle.network.specs.NetworkFine.{need-limit, survey-limits, survey-sound}
 use Rattle.network.specs.declared.Checked.{Checked}
 use Rattle.network.specs.declared.Checked.the-variants.{Fine, Refused}
 use Rattle.network.specs.Network.{Network}
@@ -159,5 +159,5 @@ program-checked s = go (checkedOf s) refl
         let fine = survey-limits s e in
         let few = complete (networkOf s) (survey-sound s e) .count in
         let room = le-ltb maxNeed (bufferNeed (networkOf s)) (need-limit (networkOf s) fine) in
-        let within = le-ltb maxPlans (solvedCount (networkOf s)) (omega (arith, position-limit (networkOf s) fine)) in
+        let within = le-ltb maxPlans (solvedCount (networkOf s)) (omega (arith, fine .positions)) in
         rw (room, within)

@@ -10,10 +10,11 @@ use borrow.Author.Tests.{le-ltb}
 use Rattle.network.specs.Moved.{Moved, moved-mark, moved-on, moved-u16, moved-u32}
 use Rattle.network.specs.Tabulate.{tabulate-same}
 use Rattle.network.specs.Bytes.{markAt}
-use Rattle.network.specs.Survey.{ceilingIn, ceilingsIn, costIn, costsIn, endsIn, layoutOf, linkCount, linkStart, networkOf, networkWith, raised}
-use Rattle.network.specs.Survey.{ranksIn, restIn, stationsIn, sumIn, sumsIn}
+use Rattle.network.specs.Survey.{ceilingIn, ceilingsIn, costBits, costIn, costsIn, endsIn, layoutOf, linkCount, linkStart, networkOf, networkWith}
+use Rattle.network.specs.Survey.{raised, ranksIn, restIn, stationsIn, sumIn, sumsIn}
 use Rattle.network.specs.Checked.{firstRefusal, refuseIf, _orElse_}
-use Rattle.network.specs.Refusals.{badCount, badLength, checkedOf, checkedWith, linkChecked, linkCheckedAt, linksChecked, yardChecked}
+use Rattle.network.specs.Refusals.{badCount, badLength, checkedOf, checkedWith, linkChecked, linkCheckedAt, linksChecked}
+use Rattle.network.specs.Refusals.{recordsChecked, tooManyPositions, yardChecked}
 use Rattle.network.specs.Alike.{Alike, alike}
 use Rattle.network.specs.declared.Checked.{Checked}
 use Rattle.network.specs.declared.Layout.{Layout}
@@ -24,10 +25,13 @@ pub record SameYard (s : List ℕ) (l : Layout) (s′ : List ℕ) (l′ : Layout
   pub layout′ : layoutOf s′ ≡ l′
   -- each has its mark, or neither does
   pub marked : markAt s′ 0 (l′ .yard .mark) ≡ markAt s 0 (l .yard .mark)
-  -- n, p, k1 and k2 are the same
+  -- there is room for the same ceilings
+  pub fewest : l′ .fewest ≡ l .fewest
+  pub slots : l′ .slots ≡ l .slots
+  -- n, p and the ranks are the same
   pub stations : stationsIn s′ ≡ stationsIn s
   pub ceilings : ceilingsIn s′ ≡ ceilingsIn s
-  pub ranks : ranksIn s′ ≡ ranksIn s
+  pub ranks : ranksIn l′ s′ ≡ ranksIn l s
   -- the link count is right in both, or wrong
   pub count : badCount s′ l′ (linkCount l s) ≡ badCount s l (linkCount l s)
   -- the same stations rest
@@ -48,12 +52,16 @@ module _ {s : List ℕ} {l : Layout} {s′ : List ℕ} {l′ : Layout} (y : Same
   moved-link : (i : ℕ) → Moved s (linkStart l i) s′ (l′ .yard .size + i * l .link .size)
   moved-link i = moved-on (y .records) (i * l .link .size)
 
+  bits-same : (i : ℕ) → costBits (l .slots) s′ (l′ .yard .size + i * l .link .size) ≡ costBits (l .slots) s (linkStart l i)
+  unfolding costBits
+  bits-same i = tabulate-same _ _ (l .slots) (λ j h. moved-u16 (moved-on (moved-on (moved-link i) 8) (2 * j)))
+
   link-same : (i : ℕ) → linkCheckedAt s′ l′ i ≡ linkCheckedAt s l i
   unfolding linkChecked
   link-same i =
       let m = moved-link i in
-      rw (y .form, y .stations, y .ceilings, moved-mark m (l .link .mark), moved-on m 2 .each 0, moved-on m 2 .each 1, moved-u32 (moved-on m 4))
-      (rw (moved-u16 (moved-on (moved-on m 8) (2 * 0)), moved-u16 (moved-on (moved-on m 8) (2 * 1))))
+      rw (y .form, y .slots, y .stations, y .ceilings, moved-mark m (l .link .mark), moved-on m 2 .each 0, moved-on m 2 .each 1, moved-u32 (moved-on m 4))
+      (rw (bits-same i))
 
   links-same : (m : ℕ) → linksChecked s′ l′ m ≡ linksChecked s l m
   links-same m = first-same (linkCheckedAt s′ l′) (linkCheckedAt s l) link-same m
@@ -61,7 +69,7 @@ module _ {s : List ℕ} {l : Layout} {s′ : List ℕ} {l′ : Layout} (y : Same
   -- the yard records
   yard-same : yardChecked s′ l′ (linkCount l s) ≡ yardChecked s l (linkCount l s)
   unfolding yardChecked
-  yard-same = rw (y .marked, y .stations, y .ceilings, y .ranks, y .count, y .rest)
+  yard-same = rw (y .marked, y .stations, y .ceilings, y .ranks, y .count, y .rest, y .fewest, y .slots)
 
   ends-same : (m : ℕ) → endsIn l′ s′ m ≡ endsIn l s m
   unfolding endsIn
@@ -115,11 +123,13 @@ module _ {s : List ℕ} {l : Layout} {s′ : List ℕ} {l′ : Layout} (y : Same
 
   -- THE THEOREM: they get the same refusal or none,
   pub same-checked : checkedOf s′ ≡ checkedOf s
-  unfolding checkedWith
+  unfolding checkedWith recordsChecked
   same-checked =
       let yard : yardChecked s′ l′ (linkCount l′ s′) ≡ yardChecked s l (linkCount l s) = rw count-same yard-same in
       let link : linksChecked s′ l′ (linkCount l′ s′) ≡ linksChecked s l (linkCount l s) = rw count-same (links-same (linkCount l s)) in
-      rw (y .layout, y .layout′) (λ i. refuseIf (length-same i) 1 0 orElse (yard i orElse link i))
+      let net : networkWith l′ s′ (linkCount l′ s′) ≡ networkWith l s (linkCount l s) = rw count-same (network-same (linkCount l s)) in
+      rw (y .layout, y .layout′)
+      (λ i. refuseIf (length-same i) 1 0 orElse (yard i orElse link i) orElse refuseIf (tooManyPositions (net i)) 19 0)
 
   -- and have the same network,
   pub same-network : networkOf s′ ≡ networkOf s

@@ -15,8 +15,7 @@ use Rattle.network.specs.Tabulate.{tabulate-at, tabulate-length}
 use Rattle.network.specs.Survey.{layoutOf, linkCount, linkStart, networkOf, networkWith, raised, sumIn, sumsIn}
 use Rattle.network.specs.Refusals.{badSum, checkedOf}
 use Rattle.network.specs.Yard.{sumCost}
-use Rattle.network.specs.Accepted.{Accepted, accepted, or-false}
-use Rattle.network.specs.Layouts.{layout-roomy}
+use Rattle.network.specs.Accepted.{RecordsFine, accepted-records, or-false}
 use Rattle.network.specs.declared.Checked.the-variants.{Fine}
 use Rattle.network.specs.declared.Layout.{Layout}
 
@@ -53,5 +52,5 @@ pub sum-said : (s : List ℕ) → checkedOf s ≡ Fine → (i : ℕ) → i < lin
 unfolding networkWith
 sum-said s e i h =
     let l = layoutOf s in
-    let fine : Accepted s l = accepted s l (layout-roomy s) e in
+    let fine : RecordsFine s l = accepted-records s e in
     ap (λ (n : ℕ). subℕ n raise) (raised-at s l (linkCount l s) i h) ∙ raised-back (sumIn s (linkStart l i)) (fine .link i h .priced)

@@ -4,7 +4,7 @@ use mathlib.Core.List.{List, [], _∷_, _++_}
 use Prim.Native.Nat.{ℕ, zero, suc, _+_, _-_, _*_, _/_, _%_}
 use lib.Dec.{ltb}
 use lib.IntN.{ℤ, negsuc, pos}
-use lib.ListN.{length, take}
+use lib.ListN.{drop, length, take}
 use mir.Syntax.{w16}
 use Rattle.network.specs.Capacities.{raise}
 use Rattle.network.specs.Bytes.{byteAt, i32At, markAt, signed, u16At, u24At}
@@ -14,45 +14,91 @@ use Rattle.network.specs.Yard.{working}
 use Rattle.network.specs.declared.Form.{Form}
 use Rattle.network.specs.declared.Layout.{Layout}
 
--- the bytes that each yard record has: mark, n, p, k1, k2
-abbrev pub yardSize : ℕ
-yardSize = 6
+-- how many ceilings the records of document 01 have room for, absent ones included
+abbrev pub narrowSlots : ℕ
+narrowSlots = 2
+
+-- how many those that go with mark 59 47 have room for
+abbrev pub wideSlots : ℕ
+wideSlots = 3
+
+-- where the ranks stand in a yard record: behind mark, n and p
+abbrev pub ranksAt : ℕ
+ranksAt = 4
+
+-- the bytes that each yard record has: mark, n, p, and a k for each ceiling that there is room for
+abbrev pub yardSize : ℕ → ℕ
+yardSize slots = ranksAt + slots
 
 -- the bytes that say which stations rest, where a yard record has them
 abbrev pub restSize : ℕ
 restSize = 3
 
--- the bytes that each link record has: mark, two stations, s, c1, c2
-abbrev pub linkSize : ℕ
-linkSize = 12
+-- the bytes of a link record: mark, two stations, s, and a cost for each ceiling that there is room for
+abbrev pub linkSize : ℕ → ℕ
+linkSize slots = 8 + 2 * slots
 
 -- ---- the layouts
 
--- the link record with mark 4C 4B
-abbrev pub linkForm : Form
-linkForm = record { mark = 0x4C ∷ 0x4B ∷ []; size = linkSize }
+-- the link record with mark 4C 4B, of 12 bytes
+abbrev pub narrowLink : Form
+narrowLink = record { mark = 0x4C ∷ 0x4B ∷ []; size = linkSize narrowSlots }
 
--- surveys whose yard record is that of document 01, with mark 59 44
+-- the one with mark 4C 4D, of 14 bytes
+abbrev pub wideLink : Form
+wideLink = record { mark = 0x4C ∷ 0x4D ∷ []; size = linkSize wideSlots }
+
+-- surveys whose yard record is that of document 01, with mark 59 44, of 6 bytes: up to two ceilings
 abbrev pub plain : Layout
-plain = record { yard = record { mark = 0x59 ∷ 0x44 ∷ []; size = yardSize }; count = 0; rest = 0; link = linkForm }
+plain =
+    record {
+      yard = record { mark = 0x59 ∷ 0x44 ∷ []; size = yardSize narrowSlots };
+      fewest = 0;
+      slots = narrowSlots;
+      count = 0;
+      rest = 0;
+      link = narrowLink;
+    }
 
--- surveys whose yard record has mark 59 45 and the link count behind the other fields
+-- surveys whose yard record has mark 59 45 and the link count behind the other fields, 7 bytes
 abbrev pub withCount : Layout
-withCount = record { yard = record { mark = 0x59 ∷ 0x45 ∷ []; size = yardSize + 1 }; count = yardSize; rest = 0; link = linkForm }
+withCount =
+    record {
+      yard = record { mark = 0x59 ∷ 0x45 ∷ []; size = yardSize narrowSlots + 1 };
+      fewest = 0;
+      slots = narrowSlots;
+      count = yardSize narrowSlots;
+      rest = 0;
+      link = narrowLink;
+    }
 
--- surveys whose yard record has mark 59 46, and the stations at rest behind the link count
+-- surveys whose yard record has mark 59 46, and the stations at rest behind the link count, 10 bytes
 abbrev pub withRest : Layout
 withRest =
     record {
-      yard = record { mark = 0x59 ∷ 0x46 ∷ []; size = yardSize + 1 + restSize };
-      count = yardSize;
-      rest = yardSize + 1;
-      link = linkForm;
+      yard = record { mark = 0x59 ∷ 0x46 ∷ []; size = yardSize narrowSlots + 1 + restSize };
+      fewest = 0;
+      slots = narrowSlots;
+      count = yardSize narrowSlots;
+      rest = yardSize narrowSlots + 1;
+      link = narrowLink;
+    }
+
+-- surveys whose yard record has mark 59 47 and the same fields with k3 behind k2, 11 bytes: just three ceilings
+abbrev pub triple : Layout
+triple =
+    record {
+      yard = record { mark = 0x59 ∷ 0x47 ∷ []; size = yardSize wideSlots + 1 + restSize };
+      fewest = wideSlots;
+      slots = wideSlots;
+      count = yardSize wideSlots;
+      rest = yardSize wideSlots + 1;
+      link = wideLink;
     }
 
 -- the layouts that are known: a row for each mark of a yard record
 abbrev pub layouts : List Layout
-layouts = plain ∷ withCount ∷ withRest ∷ []
+layouts = plain ∷ withCount ∷ withRest ∷ triple ∷ []
 
 -- the first row of a table that passes a test; where none does, the old layout
 unfoldable pub rowWhere : (Layout → Bool) → List Layout → Layout
@@ -83,7 +129,7 @@ linkCount l s = (length s - l .yard .size) / l .link .size
 abbrev pub linkStart : Layout → ℕ → ℕ
 linkStart l i = l .yard .size + i * l .link .size
 
--- ---- the fields of the yard record: mark, n, p, k1, k2, and in some layouts the link count and the stations at rest
+-- ---- the fields of the yard record: mark, n, p, the k of the ceilings, and in some layouts the link count and the stations at rest
 
 -- n, the number of stations
 abbrev pub stationsIn : List ℕ → ℕ
@@ -93,13 +139,9 @@ stationsIn s = byteAt s 2
 abbrev pub ceilingsIn : List ℕ → ℕ
 ceilingsIn s = byteAt s 3
 
--- the k of ceiling j, from 0
-abbrev pub rankIn : List ℕ → ℕ → ℕ
-rankIn s j = byteAt s (4 + j)
-
--- k1 and k2
-abbrev pub ranksIn : List ℕ → List ℕ
-ranksIn s = rankIn s 0 ∷ rankIn s 1 ∷ []
+-- k1, k2, ..: a byte for each ceiling that the layout has room for
+unfoldable pub ranksIn : Layout → List ℕ → List ℕ
+ranksIn l s = take (l .slots) (drop ranksAt s)
 
 -- the link count as it is written
 abbrev pub countIn : Layout → List ℕ → ℕ
@@ -113,7 +155,7 @@ restIn l s = cond (hasRest l) (u24At s (l .rest)) 0
 abbrev pub workingIn : Layout → List ℕ → List ℕ
 workingIn l s = working (stationsIn s) (restIn l s)
 
--- ---- the fields of a link record that starts at an index: mark, two stations, s, c1, c2
+-- ---- the fields of a link record that starts at an index: mark, two stations, s, the costs by the ceilings
 
 -- its end j, from 0
 abbrev pub endIn : List ℕ → ℕ → ℕ → ℕ
@@ -127,7 +169,11 @@ sumIn s at = i32At s (at + 4)
 abbrev pub costBitsIn : List ℕ → ℕ → ℕ → ℕ
 costBitsIn s at j = u16At s (at + 8 + 2 * j)
 
--- c1 or c2, its cost by ceiling j, from 0
+-- the bits of its costs by all ceilings that there is room for
+unfoldable pub costBits : ℕ → List ℕ → ℕ → List ℕ
+costBits slots s at = tabulate (costBitsIn s at) slots
+
+-- c1, c2, ..: its cost by ceiling j, from 0
 abbrev pub costIn : List ℕ → ℕ → ℕ → ℤ
 costIn s at j = signed w16 (costBitsIn s at j)
 
@@ -161,7 +207,7 @@ networkWith l s m =
     record {
       n = stationsIn s;
       p = ceilingsIn s;
-      k = take (ceilingsIn s) (ranksIn s);
+      k = take (ceilingsIn s) (ranksIn l s);
       rest = restIn l s;
       m = m;
       ends = endsIn l s m;

@@ -5,7 +5,7 @@ use mathlib.Core.List.{List, [], _∷_, _++_, map}
 use mathlib.Core.Path.{_≡_, refl}
 use Prim.Native.Nat.{ℕ, _-_}
 use lib.IntN.{ℤ, pos, negsuc}
-use lib.ListN.{length, replicate, take}
+use lib.ListN.{drop, length, replicate, take}
 use mir.Syntax.{w32}
 use Rattle.order.specs.Lists.{_∈_, filter, numbersFrom}
 use Rattle.order.specs.Every.{_▸_, done, every}
@@ -21,22 +21,24 @@ use Rattle.network.specs.Yard.{joinsWorking, working, works}
 use Rattle.network.specs.Walk.{plans, solvedCount, walked}
 use Rattle.network.specs.Bytes.{bitsOf, signed}
 use Rattle.network.specs.Tabulate.{tabulate}
-use Rattle.network.specs.Survey.{ceilingIn, costsIn, endsIn, layoutOf, networkOf, networkWith, raised, restIn, rowWhere, sumsIn}
-use Rattle.network.specs.PlanList.{bufferNeed, costsAt}
+use Rattle.network.specs.Survey.{ceilingIn, costBits, costsIn, endsIn, layoutOf, networkOf, networkWith, raised, ranksIn, restIn, rowWhere, sumsIn}
+use Rattle.network.specs.PlanList.{bufferNeed, ceilingBytes, costsAt, planMark, planSlots}
 use Rattle.network.specs.Checked.{firstRefusal, refuseIf, _orElse_}
-use Rattle.network.specs.Refusals.{badCount, badLength, badRanks, badRest, badSum, checkedOf, checkedWith, linkChecked, yardChecked}
+use Rattle.network.specs.Refusals.{absentCosts, badCount, badLength, badRanks, badRest, badSum, checkedOf, checkedWith, linkChecked}
+use Rattle.network.specs.Refusals.{recordsChecked, tooManyPositions, yardChecked}
 use Rattle.network.specs.Calls.{Reply, ifFine, reply, status}
 use Rattle.network.specs.Calls.{asked, askedChecked, bestTree, drawnChecked, judged, treeAfter, treeWith}
 use Rattle.network.specs.Calls.{listAfter, listChecked, listStatus, plansAfter, plansChecked, roomChecked}
-use Rattle.network.specs.Fetching.{damaged}
+use Rattle.network.specs.Fetching.{damaged, fetchLinks, fetchNumber}
 use Rattle.network.specs.Indexing.{cheapest, entriesFrom, foundBy, foundPlan, indexAfter, indexChecked, indexIn, indexKey, indexOf, indexStatus}
 use Rattle.network.specs.Indexing.{isIndex, lookedUp, lookupChecked, lookupReply, meets, saysFound, unfit}
 use Rattle.network.specs.Writing.{figuresChecked, figuresFrom, layoutFor, linkBytes, linkFiguresChecked, surveyAtFront, surveyIn, unknownKind}
 use Rattle.network.specs.Writing.{writeAfter, writeChecked, writeStatus, yardBytes, yardFiguresChecked}
 use Rattle.network.specs.Printing.{printed}
-use Rattle.network.specs.WorkedYards.{A, A₂, apart, bare, costs, costsA, countedA, cutA, endsA, entries, figures, link, links41, linksA, list, listA}
-use Rattle.network.specs.WorkedYards.{listWinter, looked, minus, mixed, one, output42, outputA, outputSolar, outputWinter, pair, panels, plan}
-use Rattle.network.specs.WorkedYards.{refused, replied, resting, single, solar, sumBits, sumsA, sunny, tallied, tied, two, unmarked, winter, yard}
+use Rattle.network.specs.WorkedYards.{A, apart, A₂, A₃, bare, costs, costsA, costs₃, countedA, cutA, endsA, entries, figures, graded, link, links41}
+use Rattle.network.specs.WorkedYards.{linksA, link₃, list, listA, listA₃, listWinter, looked, minus, mixed, mixed₃, mostAtRest, one, output42, outputA}
+use Rattle.network.specs.WorkedYards.{outputA₃, outputSolar, outputWinter, pair, panels, plan, plan₃, refused, replied, resting, single, solar, sumBits}
+use Rattle.network.specs.WorkedYards.{sumsA, sunny, tallied, three, tied, tripled, two, unmarked, winter, yard}
 use Rattle.network.specs.declared.Status.{Status}
 use Rattle.network.specs.declared.YardFigures.{YardFigures}
 
@@ -49,17 +51,19 @@ pub data Row : Type 0 where
   -- the list call with this allowance into a buffer that held other bytes: its reply, and the buffer after it
   allows : (survey : List ℕ) (allowance size : ℕ) → Status → List ℕ → Row
   -- the ceilings question into a tree buffer: the reply, and the buffer after it
-  asks : (survey : List ℕ) (b1 b2 : ℤ) (buffer : List ℕ) → Reply → List ℕ → Row
+  asks : (survey : List ℕ) (given : List ℤ) (buffer : List ℕ) → Reply → List ℕ → Row
   -- a drawn tree, and the reply
   draws : (survey drawn : List ℕ) → Reply → Row
   -- the k-th largest of some figures
   ranks : (k : ℕ) → List ℤ → ℤ → Row
-  -- the ranks k1 and k2, each from 0 to 4, that number 6 lets pass with n working stations and p ceilings
-  accepts : (n p : ℕ) (pairs : List (List ℕ)) → Row
+  -- the ranks of so many ceilings, each from 0 to 4, that number 6 lets pass with n working stations, where all are present
+  accepts : (p n : ℕ) (passed : List (List ℕ)) → Row
   -- bits of a sum cost, the numbers that they mean, and which of them number 8 lets pass
   prices : (bits : List ℕ) (meant passed : List ℤ) → Row
   -- a survey, and the number and place that decline it in every call; 0 and 0 if it is accepted
   checks : (survey : List ℕ) → Status → Row
+  -- fetching plan r of a list: the number, and the links
+  fetches : (list : List ℕ) (r number : ℕ) (links : List ℕ) → Row
   -- building the index of a list into a buffer: its reply, and the buffer after it
   builds : (list buffer : List ℕ) → Status → List ℕ → Row
   -- a lookup by a list and an index, with the given value, and the reply
@@ -78,20 +82,21 @@ pub record Lists (s : List ℕ) (links : List (List ℕ)) (count need : ℕ) (li
   pub succeeds : listStatus s maxPlans need ≡ record { number = 0; place = 0 }
   pub bytes : listAfter s maxPlans (replicate need 0xFF) ≡ list ++ replicate (need - length list) 0
 
--- all k1 and k2 from 0 to 4
-abbrev pub rankPairs : List (List ℕ)
-rankPairs = positions (numbersFrom 5 0 ∷ numbersFrom 5 0 ∷ [])
+-- all ranks of p ceilings from 0 to 4
+abbrev pub rankLists : ℕ → List (List ℕ)
+rankLists p = positions (replicate p (numbersFrom 5 0))
 
 -- the answer of a row is the one that the definitions give
 abbrev pub Right : Row → Type 0
 Right (lists s links count need list) = Lists s links count need list
 Right (allows s allowance size r after) = (listStatus s allowance size ≡ r) × (listAfter s allowance (replicate size 0xFF) ≡ after)
-Right (asks s b1 b2 buffer r after) = (asked s b1 b2 (length buffer) ≡ r) × (treeAfter s b1 b2 buffer ≡ after)
+Right (asks s given buffer r after) = (asked s given (length buffer) ≡ r) × (treeAfter s given buffer ≡ after)
 Right (draws s drawn r) = judged s drawn ≡ r
 Right (ranks k vs v) = kmax orderℤ k vs (pos 0) ≡ v
-Right (accepts n p pairs) = filter (λ ks. not (badRanks n p ks)) rankPairs ≡ pairs
+Right (accepts p n passed) = filter (λ ks. not (badRanks n p ks)) (rankLists p) ≡ passed
 Right (prices bits meant passed) = (map (signed w32) bits ≡ meant) × (filter (λ s. not (badSum s)) meant ≡ passed)
 Right (checks s r) = status (checkedOf s) ≡ r
+Right (fetches l r number links) = (fetchNumber l r ≡ number) × (fetchLinks l r ≡ links)
 Right (builds l buffer r after) = (indexStatus l (length buffer) ≡ r) × (indexAfter l buffer ≡ after)
 Right (looks l index y r) = lookupReply l index y ≡ r
 Right (writes kind y ends sums costs output r after) =
@@ -107,7 +112,10 @@ Right (prints input output) = printed input ≡ output
 -- costs below 0, a yard without links, and ceiling costs below 0; P32 in seven on the order of the numbers; P33 in four on columns and an output that
 -- are too short. Then stations may rest: P34 in six rows on A with a station that rests; P35 in two, A with none at rest; P36 in two on one working station,
 -- P37 on no usable link, P38 on bits of both kinds in each of the three bytes; P39 in seven on the bits and where 18 stands among the numbers, P40 in four on
--- unusable links that are tested all the same and on ranks by working stations
+-- unusable links that are tested all the same and on ranks by working stations. Then there may be three ceilings: P41 in two rows on A with second and
+-- third costs, P42 in two with ranks above 1, P43 in four on the third bound and the third rank, P44 in three on the ranks that pass; P45 in eleven on
+-- p, marks, lengths, the link count and the writer; P46 in nine on M at 1,600, at 1,610 and above, and where 19 stands among the numbers; P47 in seven
+-- on fetching from such lists, P48 in three on their index, which does not look at y3
 pub table : List Row
 table =
     lists (A 1) (two (two 1 2) (two 0 1)) 3 46 listA
@@ -118,22 +126,22 @@ table =
     ∷ lists (pair 8 3) (one (one 1)) 2 32 (list 1 2 1 1 (one (plan 5 3 0 (one 1))))
     ∷ lists single (one []) 1 20 (list 1 1 0 0 (one (plan 0 0 0 [])))
     ∷ lists bare [] 0 10 (list 0 0 1 1 [])
-    ∷ asks (A 1) (pos 8) (pos 0) (two 0xFF 0xFF) (costs (pos 7) (pos 7) (pos 0)) (two 0 1)
-    ∷ asks (A 1) (pos 6) (pos 0) (two 0xFF 0xFF) (refused 14 0) (two 0xFF 0xFF)
+    ∷ asks (A 1) (three (pos 8) (pos 0) (pos 0)) (two 0xFF 0xFF) (costs (pos 7) (pos 7) (pos 0)) (two 0 1)
+    ∷ asks (A 1) (three (pos 6) (pos 0) (pos 0)) (two 0xFF 0xFF) (refused 14 0) (two 0xFF 0xFF)
     ∷ draws (A 1) (two 0 2) (costs (pos 5) (pos 9) (pos 0))
     ∷ ranks 2 (pos 5 ∷ negsuc 2 ∷ pos 5 ∷ []) (pos 5)
     ∷ allows (A 1) 3 46 (replied 0 0) (listA ++ replicate 12 0)
     ∷ allows (A 1) 2 46 (replied 10 0) (replicate 46 0)
     ∷ lists (A₂ 2 2) (two 1 2 ∷ two 0 2 ∷ two 0 1 ∷ []) 3 118 (list 3 3 2 2 (plan 4 2 3 (two 1 2) ∷ plan 5 7 1 (two 0 2) ∷ plan 7 2 1 (two 0 1) ∷ []))
-    ∷ asks (A₂ 2 2) (pos 8) (pos 2) (two 0xFF 0xFF) (costs (pos 5) (pos 7) (pos 1)) (two 0 2)
-    ∷ asks (A₂ 2 2) (pos 8) (pos 3) (two 0xFF 0xFF) (costs (pos 4) (pos 2) (pos 3)) (two 1 2)
+    ∷ asks (A₂ 2 2) (three (pos 8) (pos 2) (pos 0)) (two 0xFF 0xFF) (costs (pos 5) (pos 7) (pos 1)) (two 0 2)
+    ∷ asks (A₂ 2 2) (three (pos 8) (pos 3) (pos 0)) (two 0xFF 0xFF) (costs (pos 4) (pos 2) (pos 3)) (two 1 2)
     ∷ accepts 2 2 (one (two 1 1))
-    ∷ accepts 3 2 (two 1 1 ∷ two 1 2 ∷ two 2 1 ∷ two 2 2 ∷ [])
-    ∷ accepts 4 2 (two 1 1 ∷ two 1 2 ∷ two 1 3 ∷ two 2 1 ∷ two 2 2 ∷ two 3 1 ∷ [])
+    ∷ accepts 2 3 (two 1 1 ∷ two 1 2 ∷ two 2 1 ∷ two 2 2 ∷ [])
+    ∷ accepts 2 4 (two 1 1 ∷ two 1 2 ∷ two 1 3 ∷ two 2 1 ∷ two 2 2 ∷ two 3 1 ∷ [])
     ∷ lists solar (two (two 0 2) (two 1 2)) 3 46 (list 2 3 2 1 (two (plan (minus 2) 9 0 (two 0 2)) (plan 5 7 0 (two 1 2))))
     ∷ prints solar outputSolar
     ∷ lists panels (one (one 1)) 2 32 (list 1 2 1 1 (one (plan (minus 5) 3 0 (one 1))))
-    ∷ asks sunny (pos 5) (pos 0) (two 0xFF 0xFF) (costs (negsuc 6) (pos 2) (pos 0)) (two 0 1)
+    ∷ asks sunny (three (pos 5) (pos 0) (pos 0)) (two 0xFF 0xFF) (costs (negsuc 6) (pos 2) (pos 0)) (two 0 1)
     ∷ draws solar (two 0 1) (costs (negsuc 0) (pos 9) (pos 0))
     ∷ prices sumBits
     (negsuc 2_147_483_647 ∷ negsuc 1_000_000 ∷ negsuc 999_999 ∷ negsuc 0 ∷ pos 0 ∷ pos 1_000_000 ∷ pos 1_000_001 ∷ pos 2_147_483_647 ∷ [])
@@ -141,7 +149,7 @@ table =
     ∷ lists countedA (two (two 1 2) (two 0 1)) 3 46 listA
     ∷ prints countedA outputA
     ∷ allows cutA 3 46 (replied 15 0) (replicate 46 0xFF)
-    ∷ asks cutA (pos 8) (pos 0) (two 0xFF 0xFF) (refused 15 0) (two 0xFF 0xFF)
+    ∷ asks cutA (three (pos 8) (pos 0) (pos 0)) (two 0xFF 0xFF) (refused 15 0) (two 0xFF 0xFF)
     ∷ draws cutA (two 0 1) (refused 15 0)
     ∷ checks (tallied 3 1 1 0 4 linksA) (replied 15 0)
     ∷ checks (tallied 3 1 1 0 2 linksA) (replied 15 0)
@@ -152,8 +160,8 @@ table =
     ∷ checks (tallied 1 0 0 0 0 []) (replied 0 0)
     ∷ checks (take 6 countedA) (replied 1 0)
     ∷ checks (take 1 countedA) (replied 1 0)
-    ∷ checks (0x59 ∷ 0x47 ∷ 3 ∷ 1 ∷ 1 ∷ 0 ∷ []) (replied 2 0)
-    ∷ checks (0x59 ∷ 0x47 ∷ 3 ∷ 1 ∷ 1 ∷ 0 ∷ 0 ∷ []) (replied 1 0)
+    ∷ checks (0x59 ∷ 0x48 ∷ 3 ∷ 1 ∷ 1 ∷ 0 ∷ []) (replied 2 0)
+    ∷ checks (0x59 ∷ 0x48 ∷ 3 ∷ 1 ∷ 1 ∷ 0 ∷ 0 ∷ []) (replied 1 0)
     ∷ builds listA (replicate 4 0xFF) (replied 0 0) (entries (two 1 0))
     ∷ looks listA (entries (two 1 0)) (pos 9) (looked 0)
     ∷ looks listA (entries (two 1 0)) (pos 8) (looked 1)
@@ -191,8 +199,8 @@ table =
     ∷ writes 0x5944 (figures 3 1 1 0) endsA sumsA costsA (take 41 output42) (replied 17 0) (take 41 output42)
     ∷ lists (winter 1) (two (two 2 3) (two 0 2)) 3 46 listWinter
     ∷ prints (winter 1) outputWinter
-    ∷ asks (winter 1) (pos 8) (pos 0) (replicate 3 0xFF) (costs (pos 7) (pos 7) (pos 0)) (0 ∷ 2 ∷ 0xFF ∷ [])
-    ∷ asks (winter 1) (pos 8) (pos 0) (one 0xFF) (refused 9 0) (one 0xFF)
+    ∷ asks (winter 1) (three (pos 8) (pos 0) (pos 0)) (replicate 3 0xFF) (costs (pos 7) (pos 7) (pos 0)) (0 ∷ 2 ∷ 0xFF ∷ [])
+    ∷ asks (winter 1) (three (pos 8) (pos 0) (pos 0)) (one 0xFF) (refused 9 0) (one 0xFF)
     ∷ draws (winter 1) (two 0 3) (costs (pos 5) (pos 9) (pos 0))
     ∷ draws (winter 1) (two 1 2) (refused 11 0)
     ∷ lists (resting 3 1 1 0 3 0 linksA) (two (two 1 2) (two 0 1)) 3 46 listA
@@ -212,6 +220,49 @@ table =
     ∷ checks (resting 3 1 1 0 1 4 (one (link 0 2 1_000_001 7 0))) (replied 8 1)
     ∷ checks (winter 2) (replied 0 0)
     ∷ checks (winter 3) (replied 6 0)
+    ∷ lists (A₃ (three 1 1 1)) (two 1 2 ∷ two 0 2 ∷ two 0 1 ∷ []) 9 388 listA₃
+    ∷ prints (A₃ (three 1 1 1)) outputA₃
+    ∷ lists (A₃ (three 2 2 1)) (two 1 2 ∷ two 0 2 ∷ two 0 1 ∷ []) 6 388
+    (list 3 6 2 3 (plan₃ 4 2 3 8 (two 1 2) ∷ plan₃ 5 7 1 5 (two 0 2) ∷ plan₃ 7 2 1 8 (two 0 1) ∷ []))
+    ∷ lists (A₃ (three 2 1 2)) (two (two 1 2) (two 0 2)) 4 388 (list 2 4 2 3 (two (plan₃ 4 2 6 4 (two 1 2)) (plan₃ 5 7 3 4 (two 0 2))))
+    ∷ asks (A₃ (three 1 1 1)) (three (pos 9) (pos 6) (pos 8)) (two 0xFF 0xFF) (costs₃ (pos 4) (pos 9) (pos 6) (pos 8)) (two 1 2)
+    ∷ asks (A₃ (three 1 1 1)) (three (pos 9) (pos 6) (pos 7)) (two 0xFF 0xFF) (costs₃ (pos 5) (pos 9) (pos 3) (pos 5)) (two 0 2)
+    ∷ asks (A₃ (three 1 1 1)) (three (pos 9) (pos 6) (pos 4)) (two 0xFF 0xFF) (refused 14 0) (two 0xFF 0xFF)
+    ∷ draws (A₃ (three 2 1 2)) (two 0 1) (costs₃ (pos 7) (pos 2) (pos 6) (pos 5))
+    ∷ accepts 3 2 (one (three 1 1 1))
+    ∷ accepts 3 3 (three 1 1 1 ∷ three 1 1 2 ∷ three 1 2 1 ∷ three 1 2 2 ∷ three 2 1 1 ∷ three 2 1 2 ∷ three 2 2 1 ∷ [])
+    ∷ accepts 3 4
+    (three 1 1 1 ∷ three 1 1 2 ∷ three 1 1 3 ∷ three 1 2 1 ∷ three 1 2 2 ∷ three 1 3 1 ∷ three 2 1 1 ∷ three 2 1 2 ∷ three 2 2 1 ∷ three 3 1 1 ∷ [])
+    ∷ checks (tripled 3 2 (three 1 1 0) 1 0 (one (link₃ 0 1 4 7 1 0))) (replied 5 0)
+    ∷ checks (tripled 3 4 (three 1 1 1) 1 0 (one (link₃ 0 1 4 7 1 5))) (replied 5 0)
+    ∷ checks (yard 3 3 1 1 linksA) (replied 5 0)
+    ∷ checks (resting 3 3 1 1 3 0 linksA) (replied 5 0)
+    ∷ checks (tripled 2 3 (three 1 1 1) 1 1 (one (link₃ 0 1 4 7 1 5))) (replied 6 0)
+    ∷ checks (tripled 3 3 (three 1 1 1) 1 0 (one (0x4C ∷ 0x4B ∷ drop 2 (link₃ 0 1 4 7 1 5)))) (replied 2 1)
+    ∷ checks (resting 3 1 1 0 1 0 (one (0x4C ∷ 0x4D ∷ drop 2 (link 0 1 4 7 0)))) (replied 2 1)
+    ∷ checks (take 10 (A₃ (three 1 1 1))) (replied 1 0)
+    ∷ checks (take 52 (A₃ (three 1 1 1))) (replied 1 0)
+    ∷ checks (take 39 (A₃ (three 1 1 1))) (replied 15 0)
+    ∷ writes 0x5947 (figures 3 1 1 0) endsA sumsA costsA output42 (replied 2 0) output42
+    ∷ checks (graded 10 10 16 0 1) (replied 0 0)
+    ∷ checks (graded 7 10 23 0 1) (replied 19 0)
+    ∷ checks (graded 40 40 40 0 1) (replied 19 0)
+    ∷ checks (graded 40 40 40 1 1) (replied 7 40)
+    ∷ allows (graded 7 10 23 0 1) 0 3 (replied 19 0) (replicate 3 0xFF)
+    ∷ asks (graded 7 10 23 0 1) (three (pos 9) (pos 9) (pos 9)) [] (refused 19 0) []
+    ∷ draws (graded 7 10 23 0 1) [] (refused 19 0)
+    ∷ checks (mostAtRest 11) (replied 0 0)
+    ∷ checks (mostAtRest 12) (replied 19 0)
+    ∷ fetches listA₃ 0 0 (two 1 2)
+    ∷ fetches listA₃ 2 0 (two 0 1)
+    ∷ fetches listA₃ 3 13 []
+    ∷ fetches (take 51 listA₃) 0 12 []
+    ∷ fetches (list 1 1 2 3 (one (plan 4 9 0 (0 ∷ 1 ∷ two 1 2)))) 0 12 []
+    ∷ fetches (list 1 1 2 4 (one (plan₃ 4 9 6 8 (two 1 2)))) 0 12 []
+    ∷ fetches listA 1 0 (two 0 1)
+    ∷ builds mixed₃ (replicate 10 0xFF) (replied 0 0) (entries (1 ∷ 2 ∷ 3 ∷ 0 ∷ 4 ∷ []))
+    ∷ looks mixed₃ (entries (1 ∷ 2 ∷ 3 ∷ 0 ∷ 4 ∷ [])) (pos 2) (looked 1)
+    ∷ looks mixed₃ (entries (1 ∷ 2 ∷ 3 ∷ 4 ∷ 0 ∷ [])) (pos 2) (refused 12 0)
     ∷ []
 
 -- ---- the theorem
@@ -220,10 +271,12 @@ table =
 pub table-right : (r : Row) → r ∈ table → Right r
 unfolding table endsIn sumsIn ceilingIn costsIn tabulate rowWhere layoutOf networkWith raised signed bitsOf
     spanningTrees choose chooseFrom tree.isTree tree.isTreeFrom tree.isForest tree.isOneComponent crosses merge numbersFrom isListed
-    works working joinsWorking restIn
-    badCount badLength badRanks badRest badSum checkedWith linkChecked yardChecked firstRefusal refuseIf _orElse_ reply status ifFine
+    works working joinsWorking restIn ranksIn costBits
+    badCount badLength badRanks badRest badSum absentCosts tooManyPositions checkedWith recordsChecked linkChecked yardChecked
+    firstRefusal refuseIf _orElse_ reply status ifFine
     judged drawnChecked asked askedChecked bestTree treeAfter treeWith roomChecked plansChecked plansAfter listChecked listStatus listAfter printed
-    costsAt damaged indexKey indexOf unfit indexChecked indexStatus indexIn indexAfter entriesFrom isIndex meets cheapest lookupChecked
+    planSlots planMark ceilingBytes costsAt damaged fetchNumber fetchLinks
+    indexKey indexOf unfit indexChecked indexStatus indexIn indexAfter entriesFrom isIndex meets cheapest lookupChecked
     foundPlan foundBy lookedUp saysFound lookupReply
     figuresFrom yardBytes linkBytes surveyIn layoutFor unknownKind yardFiguresChecked linkFiguresChecked figuresChecked
     writeChecked writeStatus surveyAtFront writeAfter
@@ -259,5 +312,14 @@ table-right = every Right (
     ▸ refl
     ▸ record { promised = refl; by-walk = refl; counted = refl; needed = refl; succeeds = refl; bytes = refl }
     ▸ record { promised = refl; by-walk = refl; counted = refl; needed = refl; succeeds = refl; bytes = refl }
-    ▸ refl ▸ refl ▸ refl ▸ refl ▸ refl ▸ refl ▸ refl ▸ refl ▸ refl ▸ refl ▸ refl ▸ done
+    ▸ refl ▸ refl ▸ refl ▸ refl ▸ refl ▸ refl ▸ refl ▸ refl ▸ refl ▸ refl ▸ refl
+    ▸ record { promised = refl; by-walk = refl; counted = refl; needed = refl; succeeds = refl; bytes = refl }
+    ▸ refl
+    ▸ record { promised = refl; by-walk = refl; counted = refl; needed = refl; succeeds = refl; bytes = refl }
+    ▸ record { promised = refl; by-walk = refl; counted = refl; needed = refl; succeeds = refl; bytes = refl }
+    ▸ (refl, refl) ▸ (refl, refl) ▸ (refl, refl) ▸ refl ▸ refl ▸ refl ▸ refl
+    ▸ refl ▸ refl ▸ refl ▸ refl ▸ refl ▸ refl ▸ refl ▸ refl ▸ refl ▸ refl ▸ (refl, refl)
+    ▸ refl ▸ refl ▸ refl ▸ refl ▸ (refl, refl) ▸ (refl, refl) ▸ refl ▸ refl ▸ refl
+    ▸ (refl, refl) ▸ (refl, refl) ▸ (refl, refl) ▸ (refl, refl) ▸ (refl, refl) ▸ (refl, refl) ▸ (refl, refl)
+    ▸ (refl, refl) ▸ refl ▸ refl ▸ done
     )

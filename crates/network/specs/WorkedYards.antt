@@ -1,12 +1,15 @@
 -- The yards and lists that are worked through, as bytes, and the replies to them.
+use mathlib.Core.Bool.{cond}
 use mathlib.Core.List.{List, [], _∷_, _++_, map}
-use Prim.Native.Nat.{ℕ, _-_}
+use Prim.Native.Nat.{ℕ, _-_, _%_}
+use lib.Dec.{ltb}
 use lib.IntN.{ℤ, pos, negsuc}
 use lib.ListN.{drop, replicate, take}
 use mir.Syntax.{w32}
+use Rattle.order.specs.Lists.{numbersFrom}
 use Rattle.network.specs.Bytes.{bitsOf, littleEndian}
-use Rattle.network.specs.Survey.{linkForm}
-use Rattle.network.specs.PlanList.{headMark, join, planMark}
+use Rattle.network.specs.Survey.{narrowLink, restSize, triple, wideLink}
+use Rattle.network.specs.PlanList.{headMark, join}
 use Rattle.network.specs.Calls.{Reply}
 use Rattle.network.specs.Count.{countedYard, plainYard, restedYard}
 use Rattle.network.specs.declared.Status.{Status}
@@ -30,20 +33,37 @@ abbrev pub resting : ℕ → ℕ → ℕ → ℕ → ℕ → ℕ → List (List 
 resting n p k1 k2 count rest links = restedYard n p k1 k2 count rest ++ join links
 
 abbrev pub link : ℕ → ℕ → ℕ → ℕ → ℕ → List ℕ
-link a b s c1 c2 = linkForm .mark ++ (a ∷ b ∷ []) ++ (littleEndian 4 s ++ (littleEndian 2 c1 ++ littleEndian 2 c2))
+link a b s c1 c2 = narrowLink .mark ++ (a ∷ b ∷ []) ++ (littleEndian 4 s ++ (littleEndian 2 c1 ++ littleEndian 2 c2))
+
+-- with three ceilings: n, p, the ranks, the link count, the stations at rest and the links; a link
+abbrev pub tripled : ℕ → ℕ → List ℕ → ℕ → ℕ → List (List ℕ) → List ℕ
+tripled n p ks count rest links = triple .yard .mark ++ (n ∷ p ∷ []) ++ ks ++ (count ∷ littleEndian restSize rest) ++ join links
+
+abbrev pub link₃ : ℕ → ℕ → ℕ → ℕ → ℕ → ℕ → List ℕ
+link₃ a b s c1 c2 c3 = wideLink .mark ++ (a ∷ b ∷ []) ++ (littleEndian 4 s ++ (littleEndian 2 c1 ++ (littleEndian 2 c2 ++ littleEndian 2 c3)))
 
 abbrev pub list : ℕ → ℕ → ℕ → ℕ → List (List ℕ) → List ℕ
 list count solved t p records = headMark ++ (littleEndian 2 count ++ (littleEndian 4 solved ++ (t ∷ p ∷ []))) ++ join records
 
 abbrev pub plan : ℕ → ℕ → ℕ → List ℕ → List ℕ
-plan s y1 y2 links = planMark ++ (littleEndian 4 s ++ (littleEndian 2 y1 ++ littleEndian 2 y2)) ++ links
+plan s y1 y2 links = 0x50 ∷ 0x4C ∷ (littleEndian 4 s ++ (littleEndian 2 y1 ++ littleEndian 2 y2)) ++ links
+
+abbrev pub plan₃ : ℕ → ℕ → ℕ → ℕ → List ℕ → List ℕ
+plan₃ s y1 y2 y3 links = 0x50 ∷ 0x4D ∷ (littleEndian 4 s ++ (littleEndian 2 y1 ++ (littleEndian 2 y2 ++ littleEndian 2 y3))) ++ links
 
 -- the bits of a sum of -n, where n is not 0
 abbrev pub minus : ℕ → ℕ
 minus n = bitsOf w32 (negsuc (n - 1))
 
+abbrev pub three : {A : Type 0} → A → A → A → List A
+three a b c = a ∷ b ∷ c ∷ []
+
+-- the costs of a plan with three ceilings, and with up to two
+abbrev pub costs₃ : ℤ → ℤ → ℤ → ℤ → Reply
+costs₃ s y1 y2 y3 = record { number = 0; place = 0; values = s ∷ three y1 y2 y3 }
+
 abbrev pub costs : ℤ → ℤ → ℤ → Reply
-costs s y1 y2 = record { number = 0; place = 0; values = s ∷ y1 ∷ y2 ∷ [] }
+costs s y1 y2 = costs₃ s y1 y2 (pos 0)
 
 abbrev pub looked : ℕ → Reply
 looked r = record { number = 0; place = 0; values = pos r ∷ [] }
@@ -166,3 +186,32 @@ outputWinter =
     0x70 ∷ 0x6C ∷ 0x61 ∷ 0x6E ∷ 0x73 ∷ 0x20 ∷ 0x32 ∷ 0x20 ∷ 0x73 ∷ 0x6F ∷ 0x6C ∷ 0x76 ∷ 0x65 ∷ 0x64 ∷ 0x20 ∷ 0x33 ∷ 0x0A
     ∷ 0x34 ∷ 0x20 ∷ 0x39 ∷ 0x20 ∷ 0x6C ∷ 0x69 ∷ 0x6E ∷ 0x6B ∷ 0x73 ∷ 0x20 ∷ 0x32 ∷ 0x20 ∷ 0x33 ∷ 0x0A
     ∷ 0x37 ∷ 0x20 ∷ 0x37 ∷ 0x20 ∷ 0x6C ∷ 0x69 ∷ 0x6E ∷ 0x6B ∷ 0x73 ∷ 0x20 ∷ 0x30 ∷ 0x20 ∷ 0x32 ∷ 0x0A ∷ []
+
+-- A with second and third costs, and its ranks; its list at ranks of 1
+abbrev pub A₃ : List ℕ → List ℕ
+A₃ ks = tripled 3 3 ks 3 0 (link₃ 0 1 4 7 1 5 ∷ link₃ 1 2 3 2 6 8 ∷ link₃ 0 2 1 9 3 4 ∷ [])
+
+abbrev pub listA₃ : List ℕ
+listA₃ = list 3 9 2 3 (plan₃ 4 9 6 8 (two 1 2) ∷ plan₃ 5 9 3 5 (two 0 2) ∷ plan₃ 7 7 6 8 (two 0 1) ∷ [])
+
+-- plans 3 solved 9 / 4 9 6 8 links 1 2 / 5 9 3 5 links 0 2 / 7 7 6 8 links 0 1
+abbrev pub outputA₃ : List ℕ
+outputA₃ =
+    0x70 ∷ 0x6C ∷ 0x61 ∷ 0x6E ∷ 0x73 ∷ 0x20 ∷ 0x33 ∷ 0x20 ∷ 0x73 ∷ 0x6F ∷ 0x6C ∷ 0x76 ∷ 0x65 ∷ 0x64 ∷ 0x20 ∷ 0x39 ∷ 0x0A
+    ∷ 0x34 ∷ 0x20 ∷ 0x39 ∷ 0x20 ∷ 0x36 ∷ 0x20 ∷ 0x38 ∷ 0x20 ∷ 0x6C ∷ 0x69 ∷ 0x6E ∷ 0x6B ∷ 0x73 ∷ 0x20 ∷ 0x31 ∷ 0x20 ∷ 0x32 ∷ 0x0A
+    ∷ 0x35 ∷ 0x20 ∷ 0x39 ∷ 0x20 ∷ 0x33 ∷ 0x20 ∷ 0x35 ∷ 0x20 ∷ 0x6C ∷ 0x69 ∷ 0x6E ∷ 0x6B ∷ 0x73 ∷ 0x20 ∷ 0x30 ∷ 0x20 ∷ 0x32 ∷ 0x0A
+    ∷ 0x37 ∷ 0x20 ∷ 0x37 ∷ 0x20 ∷ 0x36 ∷ 0x20 ∷ 0x38 ∷ 0x20 ∷ 0x6C ∷ 0x69 ∷ 0x6E ∷ 0x6B ∷ 0x73 ∷ 0x20 ∷ 0x30 ∷ 0x20 ∷ 0x31 ∷ 0x0A ∷ []
+
+-- two stations and 40 links between them, with a, b and c different values of the three ceilings, and the last link's ends: so a × b × c positions
+abbrev pub graded : ℕ → ℕ → ℕ → ℕ → ℕ → List ℕ
+graded a b c x y =
+    tripled 2 3 (three 1 1 1) 40 0
+    (map (λ e. link₃ 0 1 1 (e % a) (e % b) (e % c)) (numbersFrom 39 0) ++ one (link₃ x y 1 (39 % a) (39 % b) (39 % c)))
+
+-- the same with 40 values of each, where a third station rests and all but the first n links end at it
+abbrev pub mostAtRest : ℕ → List ℕ
+mostAtRest n = tripled 3 3 (three 1 1 1) 40 4 (map (λ e. link₃ 0 (cond (ltb e n) 1 2) 1 e e e) (numbersFrom 40 0))
+
+-- five plans of no links with three ceilings: one has another y1, one another sum, one another y2, and two differ in y3 alone, the higher first
+abbrev pub mixed₃ : List ℕ
+mixed₃ = list 5 0 0 3 (plan₃ 5 3 1 9 [] ∷ plan₃ 5 0xFFFE 4 0 [] ∷ plan₃ (minus 1) 3 9 0 [] ∷ plan₃ 5 3 0xFFF9 0 [] ∷ plan₃ 5 3 1 2 [] ∷ [])

@@ -8,10 +8,10 @@ use lib.IntN.{ℤ, pos}
 use lib.ListN.{drop, getD, length}
 use mir.Syntax.{w16, w32}
 use Rattle.order.specs.Lists.{numbersFrom}
-use Rattle.network.specs.Limits.{maxCeilings, maxLinks, maxStations}
+use Rattle.network.specs.Limits.{maxLinks, maxStations}
 use Rattle.network.specs.Bytes.{bitsOf, byteAt, littleEndian}
-use Rattle.network.specs.Survey.{ceilingsIn, costIn, endIn, hasCount, layoutOf, linkCount, linkStart, plain, rankIn, rowWhere, stationsIn}
-use Rattle.network.specs.Survey.{sumIn, withCount}
+use Rattle.network.specs.Survey.{ceilingsIn, costIn, endIn, hasCount, layoutOf, linkCount, linkStart, narrowSlots, plain, ranksIn, rowWhere}
+use Rattle.network.specs.Survey.{stationsIn, sumIn, withCount}
 use Rattle.network.specs.PlanList.{join}
 use Rattle.network.specs.Checked.{firstRefusal, refuseIf, _orElse_}
 use Rattle.network.specs.Refusals.{badCosts, badEnds, badRanks, outside}
@@ -45,7 +45,7 @@ linkIn s at = record { first = endIn s at 0; second = endIn s at 1; sum = sumIn 
 unfoldable pub figuresIn : Layout → List ℕ → Figures
 figuresIn l s =
     record {
-      yard = record { n = stationsIn s; p = ceilingsIn s; k1 = rankIn s 0; k2 = rankIn s 1 };
+      yard = record { n = stationsIn s; p = ceilingsIn s; k1 = getD (ranksIn l s) 0 0; k2 = getD (ranksIn l s) 1 0 };
       links = map (λ i. linkIn s (linkStart l i)) (numbersFrom (linkCount l s) 0);
     }
 
@@ -103,14 +103,14 @@ unfoldable pub yardFiguresChecked : YardFigures → ℕ → Checked
 yardFiguresChecked y m =
     refuseIf (outside (y .n) 1 maxStations) 3 0
     orElse refuseIf (ltb maxLinks m) 4 0
-    orElse refuseIf (ltb maxCeilings (y .p)) 5 0
+    orElse refuseIf (ltb narrowSlots (y .p)) 5 0
     orElse refuseIf (badRanks (y .n) (y .p) (y .k1 ∷ y .k2 ∷ [])) 6 0
 
 -- 7, 8 of a link
 unfoldable pub linkFiguresChecked : YardFigures → Link → ℕ → Checked
 linkFiguresChecked y x place =
     refuseIf (badEnds (y .n) (x .first) (x .second)) 7 place
-    orElse refuseIf (badCosts (y .p) (x .sum) (bitsOf w16 (x .c1)) (bitsOf w16 (x .c2))) 8 place
+    orElse refuseIf (badCosts (y .p) (x .sum) (bitsOf w16 (x .c1) ∷ bitsOf w16 (x .c2) ∷ [])) 8 place
 
 -- what stands for a link that is not there
 abbrev pub noLink : Link

@@ -1,7 +1,7 @@
 -- Document 01, "The yard and its plans", with stations at rest: stations, links, trees, cost vectors, the best tree under ceilings. `Tree` says what a
 -- tree is, and the test beside it computes; Meaning.antt says that they agree, and what dominance and the best tree are.
 use mathlib.Core.Bool.{Bool, true, _&&_}
-use mathlib.Core.List.{List, [], _∷_, map}
+use mathlib.Core.List.{List, _∷_, map}
 use mathlib.Core.Option.{Option}
 use mathlib.Core.Path.{_≡_}
 use Prim.Native.Nat.{ℕ, _+_, _*_, _-_, _/_, _%_, _^_, _<_}
@@ -51,7 +51,7 @@ sumAt sums c = getD sums c 0
 abbrev pub ceilingPart : ℕ → List ℤ → ℕ → List ℤ
 ceilingPart m costs i = take m (drop (i * m) costs)
 
--- c1, c2: the cost of link c by a ceiling, in the costs of all links by that ceiling
+-- c1, c2, ..: the cost of link c by a ceiling, in the costs of all links by that ceiling
 abbrev pub costAt : List ℤ → ℕ → ℤ
 costAt column c = getD column c (pos 0)
 
@@ -71,11 +71,11 @@ usable net = usableAt (net .rest) (net .ends)
 abbrev pub sumCost : Network → ℕ → ℤ
 sumCost net = lowered raise (sumAt (net .sums))
 
--- c1, c2: the cost of link c by ceiling i
+-- c1, c2, ..: the cost of link c by ceiling i
 abbrev pub ceilingCost : Network → ℕ → ℕ → ℤ
 ceilingCost net i = costAt (ceilingPart (net .m) (net .costs) i)
 
--- k1, k2: the ranks of the ceilings
+-- k1, k2, ..: the ranks of the ceilings
 abbrev pub ranks : Network → List ℕ
 ranks net = net .k
 
@@ -139,8 +139,8 @@ abbrev pub yard : Network → walk.Problem ℤ (List ℕ)
 yard net = problem (graph net)
 
 -- the numbers given for the present ceilings; those for absent ones are ignored
-abbrev pub bounds : Network → ℤ → ℤ → List ℤ
-bounds net b1 b2 = take (net .p) (b1 ∷ b2 ∷ [])
+abbrev pub bounds : Network → List ℤ → List ℤ
+bounds net given = take (net .p) given
 
 -- a tree fits: each of its ceiling costs is at most the given number
 abbrev pub fits : Network → List ℤ → List ℕ → Bool

@@ -8,7 +8,7 @@ pub const STATIONS_HELD: usize = 24;
 pub const LINKS_HELD: usize = 40;
 
 // Ceilings.
-pub const CEILINGS_HELD: usize = 2;
+pub const CEILINGS_HELD: usize = 3;
 
 // Links of a tree.
 pub const TREE_HELD: usize = STATIONS_HELD - 1;

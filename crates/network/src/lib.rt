@@ -17,7 +17,7 @@ pub struct Shape {
     pub t: u8,
 }
 
-// The figures of a yard record: n stations, p ceilings, and the ranks k1 and k2, 0 where a ceiling is absent.
+// The figures of a yard record that is written: n stations, p ceilings, and the ranks k1 and k2, 0 where a ceiling is absent.
 #[repr(C)]
 pub struct YardFigures {
     pub n: u8,
@@ -26,11 +26,18 @@ pub struct YardFigures {
     pub k2: u8,
 }
 
-// The costs of a plan: the sum, and the ceiling costs, 0 where a ceiling is absent.
+// The costs of a plan: the sum, and the ceiling costs y, 0 where a ceiling is absent.
 pub struct Costs {
+    pub sum: i32,
+    pub y: [i16; CEILINGS_HELD],
+}
+
+// The costs of a plan in an answer, each by itself: an enum holds no array.
+pub struct PlanCosts {
     pub sum: i32,
     pub y1: i16,
     pub y2: i16,
+    pub y3: i16,
 }
 
 // The number of a refusal, and its place: the link number plus 1 for a link, and 0 for all else.
@@ -48,7 +55,7 @@ pub struct Status {
 
 // The reply to a ceilings question, or of the judge of a drawn tree.
 pub enum Answer {
-    Plan(Costs),
+    Plan(PlanCosts),
     Refused(Refusal),
 }
 
@@ -70,10 +77,12 @@ pub struct Form {
     pub size: usize,
 }
 
-// What the records of a survey are: its yard record, the places of the link count and of the stations at rest in it, 0 where it has none, and its link
-// records.
+// What the records of a survey are: its yard record, the fewest ceilings that it may have, how many its records have room for, which are the most, the
+// places of the link count and of the stations at rest in the yard record, 0 where it has none, and its link records.
 pub struct Layout {
     pub yard: Form,
+    pub fewest: u8,
+    pub slots: u8,
     pub count: u8,
     pub rest: u8,
     pub link: Form,

@@ -1,17 +1,19 @@
 // The sizes of records, named as in specs/Survey.antt and specs/PlanList.antt.
 
-// Bytes that each yard record has, and each link record.
-pub const YARD_SIZE: usize = 6;
+// Ceilings that the records of document 01 have room for, absent ones included, and those that the records with mark 59 47 have room for.
+pub const NARROW_SLOTS: usize = 2;
 
-pub const LINK_SIZE: usize = 12;
+pub const WIDE_SLOTS: usize = 3;
+
+// Bytes of a yard record with no ranks, and of a link record with no ceiling costs.
+pub const YARD_FIELDS: usize = 4;
+
+pub const LINK_FIELDS: usize = 8;
 
 // Bytes that say which stations rest, where a yard record has them.
 pub const REST_SIZE: usize = 3;
 
-// Ceiling costs that a plan record holds, absent ones included.
-pub const PLAN_SLOTS: usize = 2;
-
-// Bytes of a list head, and of a plan record before its links.
+// Bytes of a list head, and of a plan record with no ceiling costs and no links.
 pub const HEAD_SIZE: usize = 10;
 
-pub const COSTS_SIZE: usize = 6 + 2 * PLAN_SLOTS;
+pub const PLAN_FIELDS: usize = 6;

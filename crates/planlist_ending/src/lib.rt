@@ -3,6 +3,7 @@ use encoding_copies::clear_from;
 use network::records::HEAD_SIZE;
 use planlist_head::write_head;
 use planlist_records::plan_size;
+use planlist_records::plan_slots;
 ghost use mathlib.Core.Path.{_≡_};
 ghost use Prim.Native.Nat.{_+_, _*_, _≤_};
 ghost use lib.ListN.{length, replicate};
@@ -12,11 +13,14 @@ ghost use Rattle.planlist_ending.specs.Finished.{finished};
 
 // Finishes a list of `count` plans of t links: the head in front of them, and zeros behind them.
 pub fn finish(out: &mut [u8], count: usize, solved: u32, t: u8, p: u8)
-    requires { ⌜ (count ≤ plansHeld) × (headSize + count * planSize planSlots t ≤ length (now out)) ⌝ }
+    requires { ⌜ (count ≤ plansHeld) × (headSize + count * planSize (planSlots p) t ≤ length (now out)) ⌝ }
     ensures { λ _. ⌜ now (out .exit) ≡ finished (now (out .entry)) count solved t p ⌝ }
 {
     write_head(out, count as u16, solved, t, p);
-    clear_from(out, HEAD_SIZE + count * plan_size(t));
+    clear_from(
+        out,
+        HEAD_SIZE + count * plan_size(plan_slots(p), t as usize),
+    );
 }
 
 // Clears the whole buffer.

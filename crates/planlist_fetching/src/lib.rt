@@ -1,9 +1,10 @@
 // Fetching one plan from the bytes of a list.
-use network::records::COSTS_SIZE;
 use planlist_finding::fetch_number;
 use planlist_finding::plan_start;
+use planlist_records::CEILINGS_AT;
 use planlist_records::TREE_SIZE_AT;
 use planlist_records::plan_size;
+use planlist_records::plan_slots;
 ghost use mathlib.Core.Path.{_≡_};
 ghost use Rattle.network.specs.Fetching.{fetchLinks, fetchStart};
 
@@ -12,7 +13,7 @@ pub fn fetch_start(list: &[u8], r: u32) -> usize
     ensures { λ at. ⌜ at ≡ fetchStart (now (list .entry)) r ⌝ }
 {
     if fetch_number(list, r) == 0 {
-        return plan_start(list, r) + COSTS_SIZE;
+        return plan_start(list, r) + plan_size(plan_slots(list[CEILINGS_AT]), 0);
     }
     0
 }
@@ -23,8 +24,9 @@ pub fn fetch_links<'a>(list: &'a [u8], r: u32) -> &'a [u8]
 {
     if fetch_number(list, r) == 0 {
         let at = plan_start(list, r);
-        let start = at + COSTS_SIZE;
-        let end = at + plan_size(list[TREE_SIZE_AT]);
+        let slots = plan_slots(list[CEILINGS_AT]);
+        let start = at + plan_size(slots, 0);
+        let end = at + plan_size(slots, list[TREE_SIZE_AT] as usize);
         return &list[start..end];
     }
     &list[0..0]

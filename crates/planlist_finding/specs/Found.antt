@@ -10,9 +10,9 @@ use lib.Dec.{ltb}
 use lib.ListN.{length}
 use Rattle.network.specs.Limits.{maxCeilings, maxPlans, maxTree}
 use Rattle.network.specs.Bytes.{markAt}
-use Rattle.network.specs.PlanList.{headMark, headSize, planMark, planSize, planSlots}
+use Rattle.network.specs.PlanList.{headMark, headSize, planSize}
 use Rattle.network.specs.Accepted.{or-false}
-use Rattle.network.specs.Fetching.{headCeilings, headCount, damaged, fetchNumber, planStart, headTreeSize}
+use Rattle.network.specs.Fetching.{damaged, fetchNumber, headCeilings, headCount, headSlots, headTreeSize, isMarked, planStart}
 
 -- a list with room for its head and for its plans, which are not too many
 pub record Whole (list : List ℕ) : Type 0 where
@@ -38,7 +38,7 @@ damaged-short list h = rw (lt-ltb (length list) headSize h)
 
 -- any other by the tests that the code makes
 pub damaged-by : (list : List ℕ) → headSize ≤ length list → {mark : Bool} {count size : ℕ} → mark ≡ markAt list 0 headMark → count ≡ headCount list
-    → size ≡ planSize planSlots (headTreeSize list)
+    → size ≡ planSize (headSlots list) (headTreeSize list)
     → not mark || ltb maxPlans count || ltb maxTree (headTreeSize list) || ltb maxCeilings (headCeilings list) || ltb (length list) (headSize + count * size)
     ≡ damaged list
 unfolding damaged
@@ -48,11 +48,11 @@ damaged-by list h m k z =
     || ltb (length list) (headSize + k i * z i)
 
 -- a plan below the count lies inside
-pub plan-inside : (list : List ℕ) (r : ℕ) → damaged list ≡ false → r < headCount list → planStart list r + planSize planSlots (headTreeSize list) ≤ length list
+pub plan-inside : (list : List ℕ) (r : ℕ) → damaged list ≡ false → r < headCount list
+    → planStart list r + planSize (headSlots list) (headTreeSize list) ≤ length list
 plan-inside list r e h =
-    let m = suc-mul r (planSize planSlots (headTreeSize list)) in
-    let n = mul-le-mul-right (planSize planSlots (headTreeSize list)) h in
-    omega (arith, whole list e .room)
+    let size = planSize (headSlots list) (headTreeSize list) in
+    omega (arith, whole list e .room, suc-mul r size, mul-le-mul-right size h)
 
 -- ---- the number, by the tests that lead to it
 
@@ -68,14 +68,14 @@ module _ (list : List ℕ) (r : ℕ) where
   number-none e h = rw (e, le-ltb r (headCount list) h)
 
   -- else by plan r's mark
-  pub number-marked : damaged list ≡ false → r < headCount list → {b : Bool} → markAt list (planStart list r) planMark ≡ b → fetchNumber list r ≡ cond b 0 12
+  pub number-marked : damaged list ≡ false → r < headCount list → {b : Bool} → isMarked list r ≡ b → fetchNumber list r ≡ cond b 0 12
   unfolding fetchNumber
   number-marked e h f = rw (e, lt-ltb r (headCount list) h, f)
 
   -- a plan that is found is below the count of a list that is not damaged
   pub found : fetchNumber list r ≡ 0 → (damaged list ≡ false) × (r < headCount list)
   unfolding fetchNumber
-  found = go (damaged list) (ltb r (headCount list)) (markAt list (planStart list r) planMark) (ltb-true r (headCount list))
+  found = go (damaged list) (ltb r (headCount list)) (isMarked list r) (ltb-true r (headCount list))
     where
       go : (a b c : Bool) → (b ≡ true → r < headCount list) → _≡_ {A = ℕ} (cond a 12 (cond b (cond c 0 12) 13)) 0 → (a ≡ false) × (r < headCount list)
       go true b c h e = absurd (omega arith)

@@ -16,29 +16,29 @@ use Rattle.network.specs.declared.Costs.{Costs}
 use Rattle.network.specs.PlanList.{costsAt}
 use Rattle.planlist_costs.specs.Orders.{atMost, inOrder}
 
--- records as solutions: the sum is the objective, and y1 and y2 are the ceiling costs
-abbrev pub records : Problem ℤ (List ℕ)
-records = record {
+-- records with room for so many ceiling costs, as solutions: the sum is the objective
+abbrev pub records : ℕ → Problem ℤ (List ℕ)
+records slots = record {
   order = orderℤ;
   solutions = [];
-  objective = λ b. costsAt b 0 .sum;
-  ceilings = λ b. costsAt b 0 .y1 ∷ costsAt b 0 .y2 ∷ [];
+  objective = λ b. costsAt slots b 0 .sum;
+  ceilings = λ b. costsAt slots b 0 .y;
   values = [];
 }
 
 -- one more record in the frontier
-unfoldable pub insertRecord : List ℕ → List (List ℕ) → List (List ℕ)
-insertRecord x bs = insertPlan records x bs
+unfoldable pub insertRecord : ℕ → List ℕ → List (List ℕ) → List (List ℕ)
+insertRecord slots x bs = insertPlan (records slots) x bs
 
 -- ---- its parts
 
 -- a record holds costs that are at most v
-unfoldable pub coveredBy : Costs → List (List ℕ) → Bool
-coveredBy v bs = any (λ b. atMost (costsAt b 0) v) bs
+unfoldable pub coveredBy : ℕ → Costs → List (List ℕ) → Bool
+coveredBy slots v bs = any (λ b. atMost (costsAt slots b 0) v) bs
 
 -- the records whose costs v is not at most
-unfoldable pub prunedBy : Costs → List (List ℕ) → List (List ℕ)
-prunedBy v bs = filter (λ b. not (atMost v (costsAt b 0))) bs
+unfoldable pub prunedBy : ℕ → Costs → List (List ℕ) → List (List ℕ)
+prunedBy slots v bs = filter (λ b. not (atMost v (costsAt slots b 0))) bs
 
 -- how many members stand before the first that passes the test
 abbrev pub leading : {A : Type 0} → (A → Bool) → List A → ℕ
@@ -46,12 +46,12 @@ leading p [] = 0
 leading p (x ∷ l) = let r = leading p l in cond (p x) 0 (suc r)
 
 -- the number of records that stand before v
-unfoldable pub placeOf : Costs → List (List ℕ) → ℕ
-placeOf v bs = leading (λ b. inOrder v (costsAt b 0)) bs
+unfoldable pub placeOf : ℕ → Costs → List (List ℕ) → ℕ
+placeOf slots v bs = leading (λ b. inOrder v (costsAt slots b 0)) bs
 
 -- the records stand in strictly rising order of their costs
-pub record RecordsRise (bs : List (List ℕ)) : Type 0 where
-  pub rising : Rising (vectorOrder records) (vector records) bs
+pub record RecordsRise (slots : ℕ) (bs : List (List ℕ)) : Type 0 where
+  pub rising : Rising (vectorOrder (records slots)) (vector (records slots)) bs
 
 -- ---- insertion by its parts
 
@@ -119,24 +119,24 @@ module _ {C S : Type 0} (P : Problem C S) (s : S) where
           (rising-sorted (vectorOrder P) (vector P) l r)
 
 -- of a record with the costs v
-module _ (x : List ℕ) (v : Costs) (bs : List (List ℕ)) (rise : RecordsRise bs) (holds : costsAt x 0 ≡ v) where
+module _ (slots : ℕ) (x : List ℕ) (v : Costs) (bs : List (List ℕ)) (rise : RecordsRise slots bs) (holds : costsAt slots x 0 ≡ v) where
   -- x among bs, by its costs and whether a record is at most them
   inserted : Costs → Bool → List (List ℕ)
-  inserted w b = cond b bs (take (placeOf w bs) bs ++ x ∷ prunedBy w (drop (placeOf w bs) bs))
+  inserted w b = cond b bs (take (placeOf slots w bs) bs ++ x ∷ prunedBy slots w (drop (placeOf slots w bs) bs))
 
-  parts : insertRecord x bs ≡ inserted (costsAt x 0) (coveredBy (costsAt x 0) bs)
+  parts : insertRecord slots x bs ≡ inserted (costsAt slots x 0) (coveredBy slots (costsAt slots x 0) bs)
   unfolding insertRecord inserted coveredBy prunedBy placeOf atMost inOrder
-  parts = by-parts records x bs (rise .rising)
+  parts = by-parts (records slots) x bs (rise .rising)
 
-  in-parts : {b : Bool} → coveredBy v bs ≡ b → insertRecord x bs ≡ inserted v b
-  in-parts t = parts ∙ ap (λ (w : Costs). inserted w (coveredBy w bs)) holds ∙ ap (inserted v) t
+  in-parts : {b : Bool} → coveredBy slots v bs ≡ b → insertRecord slots x bs ≡ inserted v b
+  in-parts t = parts ∙ ap (λ (w : Costs). inserted w (coveredBy slots w bs)) holds ∙ ap (inserted v) t
 
   -- where a record is at most it, the records stay as they are
-  pub insert-covered : coveredBy v bs ≡ true → insertRecord x bs ≡ bs
+  pub insert-covered : coveredBy slots v bs ≡ true → insertRecord slots x bs ≡ bs
   unfolding inserted
   insert-covered t = in-parts t
 
   -- else it stands at its place, and the records behind it that it is at most are gone
-  pub insert-free : coveredBy v bs ≡ false → insertRecord x bs ≡ take (placeOf v bs) bs ++ x ∷ prunedBy v (drop (placeOf v bs) bs)
+  pub insert-free : coveredBy slots v bs ≡ false → insertRecord slots x bs ≡ take (placeOf slots v bs) bs ++ x ∷ prunedBy slots v (drop (placeOf slots v bs) bs)
   unfolding inserted
   insert-free t = in-parts t

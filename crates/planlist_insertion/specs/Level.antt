@@ -22,9 +22,9 @@ use Rattle.planlist_pruning.specs.Pruned.{prunedLevel}
 use Rattle.planlist_insertion.specs.Insertion.{RecordsRise, coveredBy, leading, placeOf, prunedBy, records}
 
 -- records that are at most v, or that v is at most, have its sum
-pub record Level (v : Costs) (bs : List (List ℕ)) : Type 0 where
-  pub none-lower : (b : List ℕ) → b ∈ bs → atMost (costsAt b 0) v ≡ true → leZ (v .sum) (costsAt b 0 .sum) ≡ true
-  pub none-higher : (b : List ℕ) → b ∈ bs → atMost v (costsAt b 0) ≡ true → leZ (costsAt b 0 .sum) (v .sum) ≡ true
+pub record Level (slots : ℕ) (v : Costs) (bs : List (List ℕ)) : Type 0 where
+  pub none-lower : (b : List ℕ) → b ∈ bs → atMost (costsAt slots b 0) v ≡ true → leZ (v .sum) (costsAt slots b 0 .sum) ≡ true
+  pub none-higher : (b : List ℕ) → b ∈ bs → atMost v (costsAt slots b 0) ≡ true → leZ (costsAt slots b 0 .sum) (v .sum) ≡ true
 
 -- no more members stand before the first that passes than there are
 leading-few : {A : Type 0} (p : A → Bool) (l : List A) → leading p l ≤ length l
@@ -49,40 +49,42 @@ suc-cond true m n = refl
 suc-cond false m n = refl
 
 -- of two records in rising order the later has no lower sum
-no-lower-sum : (b c : List ℕ) → Less (vectorOrder records) (vector records b) (vector records c) → leZ (costsAt b 0 .sum) (costsAt c 0 .sum) ≡ true
+no-lower-sum : (slots : ℕ) (b c : List ℕ) → Less (vectorOrder (records slots)) (vector (records slots) b) (vector (records slots) c)
+    → leZ (costsAt slots b 0 .sum) (costsAt slots c 0 .sum) ≡ true
 unfolding inOrder
-no-lower-sum b c h =
-    by-test (leZ (costsAt b 0 .sum) (costsAt c 0 .sum)) (λ d. d) (λ d. clash (in-order-lower (costsAt c 0) (costsAt b 0) d) h)
+no-lower-sum slots b c h =
+    by-test (leZ (costsAt slots b 0 .sum) (costsAt slots c 0 .sum)) (λ d. d) (λ d. clash (in-order-lower (costsAt slots c 0) (costsAt slots b 0) d) h)
 
 -- so the sums do not fall
-pub sums-sorted : (bs : List (List ℕ)) → RecordsRise bs → SumsRise bs
-sums-sorted bs r = record { rise = pairwise-imp no-lower-sum bs (r .rising) }
+pub sums-sorted : (slots : ℕ) (bs : List (List ℕ)) → RecordsRise slots bs → SumsRise bs
+unfolding costsAt
+sums-sorted slots bs r = record { rise = pairwise-imp (no-lower-sum slots) bs (r .rising) }
 
 -- from a record on the sums are no lower
-sums-rise : (b : List ℕ) (bs : List (List ℕ)) → Rising (vectorOrder records) (vector records) (b ∷ bs) → (c : List ℕ) → c ∈ b ∷ bs
-    → leZ (costsAt b 0 .sum) (costsAt c 0 .sum) ≡ true
-sums-rise b bs r c (here q) = rw q (le-refl orderℤ (costsAt b 0 .sum))
-sums-rise b bs r c (there m) = no-lower-sum b c (r .0 c m)
+sums-rise : (slots : ℕ) (b : List ℕ) (bs : List (List ℕ)) → Rising (vectorOrder (records slots)) (vector (records slots)) (b ∷ bs) → (c : List ℕ) → c ∈ b ∷ bs
+    → leZ (costsAt slots b 0 .sum) (costsAt slots c 0 .sum) ≡ true
+sums-rise slots b bs r c (here q) = rw q (le-refl orderℤ (costsAt slots b 0 .sum))
+sums-rise slots b bs r c (there m) = no-lower-sum slots b c (r .0 c m)
 
-module _ (v : Costs) where
+module _ (slots : ℕ) (v : Costs) where
   -- from a record on that v stands before, none is at most v
-  free-from : (b : List ℕ) (bs : List (List ℕ)) → Rising (vectorOrder records) (vector records) (b ∷ bs) → inOrder v (costsAt b 0) ≡ true
-      → coveredBy v bs ≡ false
+  free-from : (b : List ℕ) (bs : List (List ℕ)) → Rising (vectorOrder (records slots)) (vector (records slots)) (b ∷ bs) → inOrder v (costsAt slots b 0) ≡ true
+      → coveredBy slots v bs ≡ false
   unfolding coveredBy inOrder atMost
   free-from b bs r h =
-      none-any (λ c. atMost (costsAt c 0) v) bs
-      (λ c m. refute (atMost (costsAt c 0) v) (inOrder (costsAt c 0) (costsAt b 0))
-      (λ k. dictionary-trans orderℤ (vector records c) (costValues v) (vector records b) (at-most-before (costsAt c 0) v k) h) (r .0 c m))
+      none-any (λ c. atMost (costsAt slots c 0) v) bs
+      (λ c m. refute (atMost (costsAt slots c 0) v) (inOrder (costsAt slots c 0) (costsAt slots b 0))
+      (λ k. dictionary-trans orderℤ (vector (records slots) c) (costValues v) (vector (records slots) b) (at-most-before (costsAt slots c 0) v k) h) (r .0 c m))
 
   -- the pass finds whether a record is at most v, and v's place
-  by-one-pass : (bs : List (List ℕ)) → Rising (vectorOrder records) (vector records) bs
-      → ((b : List ℕ) → b ∈ bs → atMost (costsAt b 0) v ≡ true → leZ (v .sum) (costsAt b 0 .sum) ≡ true)
-      → freePlace v bs ≡ cond (coveredBy v bs) (suc (length bs)) (placeOf v bs)
+  by-one-pass : (bs : List (List ℕ)) → Rising (vectorOrder (records slots)) (vector (records slots)) bs
+      → ((b : List ℕ) → b ∈ bs → atMost (costsAt slots b 0) v ≡ true → leZ (v .sum) (costsAt slots b 0 .sum) ≡ true)
+      → freePlace slots v bs ≡ cond (coveredBy slots v bs) (suc (length bs)) (placeOf slots v bs)
   unfolding freePlace coveredBy placeOf
   by-one-pass [] r h = refl
   by-one-pass (b ∷ bs) r h =
-      let w = costsAt b 0 in
-      let ih = ap suc (by-one-pass bs (r .1) (λ c m. h c (there m))) ∙ suc-cond (coveredBy v bs) (suc (length bs)) (placeOf v bs) in
+      let w = costsAt slots b 0 in
+      let ih = ap suc (by-one-pass bs (r .1) (λ c m. h c (there m))) ∙ suc-cond (coveredBy slots v bs) (suc (length bs)) (placeOf slots v bs) in
       by-test (leZ (v .sum) (w .sum))
       (λ d. by-test (atMost w v)
       (λ e. rw (d, e) refl)
@@ -90,33 +92,36 @@ module _ (v : Costs) where
       (λ d. rw (d, refute (atMost w v) (leZ (v .sum) (w .sum)) (h b (here refl)) d, in-order-higher v w d) ih)
 
   -- the pass that stops at a higher sum keeps what v is not at most
-  pruned-early : (bs : List (List ℕ)) → Rising (vectorOrder records) (vector records) bs
-      → ((b : List ℕ) → b ∈ bs → atMost v (costsAt b 0) ≡ true → leZ (costsAt b 0 .sum) (v .sum) ≡ true) → prunedLevel v bs ≡ prunedBy v bs
+  pruned-early : (bs : List (List ℕ)) → Rising (vectorOrder (records slots)) (vector (records slots)) bs
+      → ((b : List ℕ) → b ∈ bs → atMost v (costsAt slots b 0) ≡ true → leZ (costsAt slots b 0 .sum) (v .sum) ≡ true)
+      → prunedLevel slots v bs ≡ prunedBy slots v bs
   unfolding prunedLevel prunedBy
   pruned-early [] r h = refl
   pruned-early (b ∷ bs) r h =
       let ih = pruned-early bs (r .1) (λ c m. h c (there m)) in
-      let w = costsAt b 0 in
+      let w = costsAt slots b 0 in
       by-test (leZ (w .sum) (v .sum))
       (λ d. by-test (atMost v w) (λ e. rw (d, e) ih) (λ e. rw (d, e) (ap (λ (l : List (List ℕ)). b ∷ l) ih)))
-      (λ d. rw d (sym (filter-all (λ c. not (atMost v (costsAt c 0))) (b ∷ bs)
-      (λ c m. ap not (refute (atMost v (costsAt c 0)) (leZ (w .sum) (v .sum))
-      (λ k. leZ-trans (w .sum) (costsAt c 0 .sum) (v .sum) (sums-rise b bs r c m) (h c m k)) d)))))
+      (λ d. rw d (sym (filter-all (λ c. not (atMost v (costsAt slots c 0))) (b ∷ bs)
+      (λ c m. ap not (refute (atMost v (costsAt slots c 0)) (leZ (w .sum) (v .sum))
+      (λ k. leZ-trans (w .sum) (costsAt slots c 0 .sum) (v .sum) (sums-rise slots b bs r c m) (h c m k)) d)))))
 
-  module _ (bs : List (List ℕ)) (r : RecordsRise bs) (h : Level v bs) where
-    one-pass : {t : Bool} → coveredBy v bs ≡ t → freePlace v bs ≡ cond t (suc (length bs)) (placeOf v bs)
-    one-pass e = by-one-pass bs (r .rising) (h .none-lower) ∙ ap (λ (t : Bool). cond t (suc (length bs)) (placeOf v bs)) e
+  module _ (bs : List (List ℕ)) (r : RecordsRise slots bs) (h : Level slots v bs) where
+    one-pass : {t : Bool} → coveredBy slots v bs ≡ t → freePlace slots v bs ≡ cond t (suc (length bs)) (placeOf slots v bs)
+    one-pass e = by-one-pass bs (r .rising) (h .none-lower) ∙ ap (λ (t : Bool). cond t (suc (length bs)) (placeOf slots v bs)) e
 
     -- beyond all: a record is at most v
-    pub free-covered : length bs < freePlace v bs → coveredBy v bs ≡ true
+    pub free-covered : length bs < freePlace slots v bs → coveredBy slots v bs ≡ true
     unfolding placeOf
     free-covered k =
-        by-test (coveredBy v bs) (λ e. e) (λ e. let one = one-pass e in absurd (omega (arith, leading-few (λ b. inOrder v (costsAt b 0)) bs)))
+        by-test (coveredBy slots v bs) (λ e. e) (λ e. let one = one-pass e in absurd (omega (arith, leading-few (λ b. inOrder v (costsAt slots b 0)) bs)))
 
     -- else none is, and it is v's place
-    pub free-place : freePlace v bs ≤ length bs → (coveredBy v bs ≡ false) × (freePlace v bs ≡ placeOf v bs)
-    free-place k = by-test (coveredBy v bs) (λ e. let one = one-pass e in absurd (omega arith)) (λ e. (e, one-pass e))
+    pub free-place : freePlace slots v bs ≤ length bs → (coveredBy slots v bs ≡ false) × (freePlace slots v bs ≡ placeOf slots v bs)
+    free-place k = by-test (coveredBy slots v bs) (λ e. let one = one-pass e in absurd (omega arith)) (λ e. (e, one-pass e))
 
     -- from any place on, what v is not at most is what is left by sums
-    pub pruned-behind : (i : ℕ) → prunedLevel v (drop i bs) ≡ prunedBy v (drop i bs)
-    pruned-behind i = pruned-early (drop i bs) (rising-drop (vectorOrder records) (vector records) i bs (r .rising)) (λ b m. h .none-higher b (drop-mem i bs m))
+    pub pruned-behind : (i : ℕ) → prunedLevel slots v (drop i bs) ≡ prunedBy slots v (drop i bs)
+    pruned-behind i =
+        pruned-early (drop i bs) (rising-drop (vectorOrder (records slots)) (vector (records slots)) i bs (r .rising))
+        (λ b m. h .none-higher b (drop-mem i bs m))

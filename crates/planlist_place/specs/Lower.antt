@@ -13,16 +13,15 @@ use Rattle.order.specs.Test.{by-test, refute}
 use Rattle.order.specs.Lists.{getD-mem}
 use Rattle.order.specs.Order.{TotalOrder, le-refl, leZ-trans, orderℤ}
 use Rattle.order.specs.Sorted.{Sorted}
-use Rattle.network.specs.PlanList.{costsAt, planSize, planSlots}
-use Rattle.network.specs.declared.Costs.{Costs}
+use Rattle.network.specs.PlanList.{planSize, planSumAt}
 use Rattle.encoding_blocks.specs.Blocks.{blocks}
-use Rattle.planlist_costs.specs.Held.{costs-block}
+use Rattle.planlist_costs.specs.Held.{sum-block}
 
 -- ---- definitions
 
 -- the sum that a record holds
 abbrev pub recordSum : List ℕ → ℤ
-recordSum b = costsAt b 0 .sum
+recordSum b = planSumAt b 0
 
 -- the sum of the record at a place
 abbrev pub sumAt : List (List ℕ) → ℕ → ℤ
@@ -32,9 +31,9 @@ sumAt bs i = recordSum (getD bs i [])
 pub record SumsRise (bs : List (List ℕ)) : Type 0 where
   pub rise : Sorted orderℤ recordSum bs
 
--- the bytes hold `count` records, each with room for costs, and the sums do not fall
+-- the bytes hold `count` records, each with room for a sum, and the sums do not fall
 pub record Ordered (size count : ℕ) (bs : List ℕ) : Type 0 where
-  pub wide : planSize planSlots 0 ≤ size
+  pub wide : planSize 0 0 ≤ size
   pub room : count * size ≤ length bs
   pub sums : SumsRise (blocks size count bs)
 
@@ -68,10 +67,10 @@ block-at z (suc n) bs (suc i) h =
     block-at z n (drop z bs) i (omega arith) ∙ ap (take z) (drop-drop (i * z) z bs ∙ ap (λ (k : ℕ). drop k bs) e)
 
 -- what compares with its sum
-pub sum-tested : (x : ℤ) (z n : ℕ) (bs : List ℕ) (i : ℕ) {b : Bool} → planSize planSlots 0 ≤ z → i < n
-    → leZ x (costsAt bs (i * z) .sum) ≡ b → leZ x (sumAt (blocks z n bs) i) ≡ b
+pub sum-tested : (x : ℤ) (z n : ℕ) (bs : List ℕ) (i : ℕ) {b : Bool} → planSize 0 0 ≤ z → i < n
+    → leZ x (planSumAt bs (i * z)) ≡ b → leZ x (sumAt (blocks z n bs) i) ≡ b
 sum-tested x z n bs i w h e =
-    ap (λ (r : List ℕ). leZ x (recordSum r)) (block-at z n bs i h) ∙ ap (λ (v : Costs). leZ x (v .sum)) (costs-block bs (i * z) z w) ∙ e
+    ap (λ (r : List ℕ). leZ x (recordSum r)) (block-at z n bs i h) ∙ ap (leZ x) (sum-block bs (i * z) z w) ∙ e
 
 -- of two members of a sorted list the earlier has no larger key
 sorted-at : {K A : Type 0} (O : TotalOrder K) (key : A → K) (d : A) (l : List A) → Sorted O key l → (i j : ℕ) → i ≤ j → j < length l

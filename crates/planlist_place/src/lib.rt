@@ -6,6 +6,10 @@ use planlist_costs::costs_at;
 use planlist_costs::in_order;
 use planlist_costs::sum_in;
 ghost use mathlib.Core.Path.{_≡_};
+ghost use Prim.Native.Nat.{_≤_};
+ghost use lib.ListN.{length};
+ghost use Rattle.network.specs.Capacities.{ceilingsHeld};
+ghost use Rattle.network.specs.PlanList.{planSize};
 ghost use Rattle.encoding_blocks.specs.Blocks.{blocks};
 ghost use Rattle.planlist_place.specs.Lower.{Ordered, lowerSums};
 ghost use Rattle.planlist_place.specs.Place.{freePlace};
@@ -31,15 +35,15 @@ fn below(plans: &[u8], count: usize, size: usize, sum: i32) -> usize
 }
 
 // The number of records that stand before v; one more than all where, before that place, one of no lower sum is at most v.
-pub fn free_place(plans: &[u8], count: usize, size: usize, v: Costs) -> usize
-    requires { ⌜ Ordered size count (now plans) ⌝ }
-    ensures { λ r. ⌜ r ≡ freePlace v (blocks size count (now (plans .entry))) ⌝ }
+pub fn free_place(plans: &[u8], count: usize, size: usize, slots: usize, v: Costs) -> usize
+    requires { ⌜ Ordered size count (now plans) × (planSize slots 0 ≤ size) × (length (v .y) ≡ ceilingsHeld) ⌝ }
+    ensures { λ r. ⌜ r ≡ freePlace slots v (blocks size count (now (plans .entry))) ⌝ }
 {
     let low = below(plans, count, size, v.sum);
     let mut at = low * size;
     let mut left = count - low;
     while 0 < left {
-        let w = costs_at(plans, at);
+        let w = costs_at(plans, at, slots);
         if le32(v.sum, w.sum) {
             if at_most(w, v) {
                 return count + 1;

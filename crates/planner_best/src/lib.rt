@@ -12,10 +12,11 @@ ghost use lib.ListN.{length};
 ghost use Rattle.network.specs.Calls.{asked, says, treeAfter};
 ghost use Rattle.network.specs.Cut.{CutNoticed};
 
-// The best tree under the numbers b1 and b2: its costs, with its links in the first t bytes of the tree buffer, or the refusal.
-pub fn best(survey: &[u8], b1: i16, b2: i16, tree: &mut [u8]) -> Answer
-    ensures reply { λ r. ⌜ says r ≡ asked (now (survey .entry)) b1 b2 (length (now (tree .entry))) ⌝ }
-    ensures leaves { λ _. ⌜ now (tree .exit) ≡ treeAfter (now (survey .entry)) b1 b2 (now (tree .entry)) ⌝ }
+// The best tree under the numbers given for the ceilings, of which those for absent ones are ignored: its costs, with its links in the first t bytes of
+// the tree buffer, or the refusal.
+pub fn best(survey: &[u8], given: [i16; CEILINGS_HELD], tree: &mut [u8]) -> Answer
+    ensures reply { λ r. ⌜ says r ≡ asked (now (survey .entry)) given (length (now (tree .entry))) ⌝ }
+    ensures leaves { λ _. ⌜ now (tree .exit) ≡ treeAfter (now (survey .entry)) given (now (tree .entry)) ⌝ }
     ensures noticed { λ r. ⌜ CutNoticed (now (survey .entry)) (says r .number) (says r .place) ⌝ }
 {
     let mut ends = [0u8; 2 * LINKS_HELD];
@@ -39,14 +40,13 @@ pub fn best(survey: &[u8], b1: i16, b2: i16, tree: &mut [u8]) -> Answer
             let usable = order_usable(shape.rest, &ends[..2 * m], &sums[..m]);
             let order = usable.link;
             let count = usable.count;
-            let bounds = [b1, b2];
             solve(
                 shape,
                 &ends[..2 * m],
                 &sums[..m],
                 &costs[..size],
                 &order[..count],
-                &bounds[..p],
+                &given[..p],
                 tree,
             )
         }

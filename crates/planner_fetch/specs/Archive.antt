@@ -13,7 +13,7 @@ use Rattle.network.specs.Survey.{networkOf}
 use Rattle.network.specs.Refusals.{checkedOf}
 use Rattle.network.specs.Fetching.{fetchLinks, fetchNumber}
 use Rattle.network.specs.Meaning.{tree-size}
-use Rattle.network.specs.NetworkFine.{position-limit, survey-fine, survey-limits, survey-sound, tree-limit}
+use Rattle.network.specs.NetworkFine.{survey-fine, survey-limits, survey-sound, tree-limit}
 use Rattle.network.specs.Promise.{LinksKept, NumberKept, complete}
 use Rattle.network.specs.declared.Checked.the-variants.{Fine}
 use Rattle.planlist_fetching.specs.Fetched.{listed-links, listed-number}
@@ -34,7 +34,7 @@ listable s accepted =
     let list = complete net sound in
     record {
       full = λ ts m. tree-size net sound ts (list .only-trees ts m);
-      few = omega (arith, plans-few (yard net), ap length (list .by-walk), list .count, position-limit net limits);
+      few = omega (arith, plans-few (yard net), ap length (list .by-walk), list .count, limits .positions);
       short = tree-limit net limits;
       flat = omega arith;
     }

@@ -18,9 +18,9 @@ use Rattle.order.specs.Sorted.{numbers-mem}
 use Rattle.network.specs.Walk.{plans}
 use Rattle.network.specs.Survey.{networkOf}
 use Rattle.network.specs.Calls.{Reply}
-use Rattle.network.specs.Fetching.{damaged, fetchNumber, headCount}
+use Rattle.network.specs.Fetching.{damaged, fetchNumber, headCount, isMarked}
 use Rattle.network.specs.Indexing.{cheapest, declined, entriesFrom, foundPlan, indexAfter, indexIn, indexNeed, indexOf}
-use Rattle.network.specs.Indexing.{indexStatus, isIndex, isMarked, lookedUp, lookupReply, planNumbers, saysFound, unfit}
+use Rattle.network.specs.Indexing.{indexStatus, isIndex, lookedUp, lookupReply, planNumbers, saysFound, unfit}
 use Rattle.network.specs.IndexPromise.{IndexPromised, LookupPromised, Ordered}
 use Rattle.network.specs.Promise.{Archived}
 use Rattle.network.specs.declared.Found.{Found}

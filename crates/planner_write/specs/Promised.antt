@@ -8,10 +8,9 @@ use lib.Dec.{ltb}
 use lib.ListN.{drop, length, take}
 use lib.Seq.{take-at}
 use Rattle.network.specs.Survey.{layoutOf}
-use Rattle.network.specs.Layouts.{layout-roomy}
 use Rattle.network.specs.Checked.{fine-both, refuse-fine, refuseIf, _orElse_}
 use Rattle.network.specs.Refusals.{checkedOf}
-use Rattle.network.specs.Accepted.{accepted}
+use Rattle.network.specs.Accepted.{accepted-records}
 use Rattle.network.specs.Calls.{ifFine, status}
 use Rattle.network.specs.Writing.{Figures, figuresChecked, kindOf, layoutFor, surveyAtFront, surveyIn, surveyOf, unknownKind}
 use Rattle.network.specs.Writing.{writeAfter, writeChecked, writeStatus, yardFiguresChecked}
@@ -75,10 +74,9 @@ module _ (kind : ℕ) (f : Figures) (output : List ℕ) (met : unknownKind kind 
   same-bytes : (t : List ℕ) → OfBytes t → Says t kind f → unknownKind kind ≡ false → s ≡ t
   same-bytes t bytes told known =
       let layout : layoutFor kind ≡ layoutOf t = layout-known t kind (told .kept) known in
-      let fine = accepted t (layoutOf t) (layout-roomy t) (told .accepted) in
       ap (λ (k : Layout). surveyIn k f) layout
       ∙ ap (surveyIn (layoutOf t)) (sym (told .read))
-      ∙ survey-former t (layoutOf t) (rw (← layout) (writable-for kind)) fine bytes
+      ∙ survey-former t (layoutOf t) (rw (← layout) (writable-for kind)) (accepted-records t (told .accepted)) bytes
 
   module _ {r : Status} {left : List ℕ} (reply : r ≡ writeStatus kind f (length output)) (leaves : left ≡ writeAfter kind f output) where
     former : (t : List ℕ) → OfBytes t → Says t kind f → Known kind → length t ≤ length output → (r ≡ status Fine) × (left ≡ surveyAtFront t output)

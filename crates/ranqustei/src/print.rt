@@ -8,7 +8,7 @@ use console::text;
 use encoding_numbers::read_u16;
 use encoding_numbers::read_u32;
 use network::Answer;
-use network::Costs;
+use network::PlanCosts;
 use network::Status;
 use network::limits::MAX_NEED;
 use network::limits::MAX_PLANS;
@@ -18,17 +18,26 @@ use planner::fetch_number;
 use planner::judge;
 use planner::list;
 
+// A space and a ceiling cost, where the ceiling is present.
+fn ceiling(y: i16, present: bool) {
+    if present {
+        text(b" ");
+        signed16(y);
+    }
+}
+
+// The ceiling costs of the first p ceilings.
+fn ceilings(y: &[i16], p: u8) {
+    for i in 0..y.len() {
+        ceiling(y[i], i < p as usize);
+    }
+}
+
 // The sum and the present ceiling costs.
-fn costs(v: Costs, p: u8) {
+fn costs(v: PlanCosts, p: u8) {
+    let y = [v.y1, v.y2, v.y3];
     signed32(v.sum);
-    if 0 < p {
-        text(b" ");
-        signed16(v.y1);
-    }
-    if 1 < p {
-        text(b" ");
-        signed16(v.y2);
-    }
+    ceilings(&y, p);
 }
 
 // The line of plan r.

@@ -12,12 +12,13 @@ use Rattle.order.specs.Test.{clash}
 use Rattle.spanning.specs.Listing.{isListed-iff, listing-length}
 use Rattle.frontier.specs.Best.{best-some}
 use Rattle.network.specs.Yard.{best, ends as ends-of, stations, treeSize, usable, yard}
-use Rattle.network.specs.Calls.{isNone, treeWith}
+use Rattle.network.specs.Calls.{apart, isNone, together, treeWith}
+use Rattle.network.specs.Meaning.{together-apart}
 use Rattle.network.specs.PlanList.{costsOf}
 use Rattle.network.specs.Shaped.{Plannable, netOf}
 use Rattle.network.specs.declared.Answer.{Answer}
 use Rattle.network.specs.declared.Answer.the-variants.{Plan, Refused}
-use Rattle.network.specs.declared.Costs.{Costs}
+use Rattle.network.specs.declared.PlanCosts.{PlanCosts}
 use Rattle.network.specs.Network.{Network}
 use Rattle.network.specs.declared.Refusal.{Refusal}
 use Rattle.network.specs.declared.Shape.{Shape}
@@ -29,7 +30,7 @@ use Rattle.solver_search.specs.declared.Found as best
 -- the answer, by the best tree under the bounds
 unfoldable pub answerOf : Network → Option (List ℕ) → Answer
 answerOf net none = Refused (record { number = 14; place = 0 })
-answerOf net (some ts) = Plan (costsOf net ts)
+answerOf net (some ts) = Plan (apart (costsOf net ts))
 
 -- a refusal says that there is no tree
 pub answer-none : (net : Network) (o : Option (List ℕ)) {a : Answer} {r : Refusal} → a ≡ answerOf net o → a ≡ Refused r → o ≡ none
@@ -38,15 +39,17 @@ answer-none net none e f = refl
 answer-none net (some ts) e f = let z : _≡_ {A = ℕ} 0 1 = cc in absurd (omega arith)
 
 -- a plan says which tree is the best, by its costs
-pub record Found (net : Network) (o : Option (List ℕ)) (v : Costs) : Type 0 where
+pub record Found (net : Network) (o : Option (List ℕ)) (v : PlanCosts) : Type 0 where
   pub tree : List ℕ
   pub best-is : o ≡ some tree
-  pub costs-are : v ≡ costsOf net tree
+  pub costs-are : together v ≡ costsOf net tree
 
-pub answer-found : (net : Network) (o : Option (List ℕ)) {a : Answer} {v : Costs} → a ≡ answerOf net o → a ≡ Plan v → Found net o v
+pub answer-found : (net : Network) (o : Option (List ℕ)) {a : Answer} {v : PlanCosts} → a ≡ answerOf net o → a ≡ Plan v → Found net o v
 unfolding answerOf
 answer-found net none e f = let z : _≡_ {A = ℕ} 0 1 = cc in absurd (omega arith)
-answer-found net (some ts) e f = record { tree = ts; best-is = refl; costs-are = cc }
+answer-found net (some ts) {a} {v} e f =
+    let costs : v ≡ apart (costsOf net ts) = cc in
+    record { tree = ts; best-is = refl; costs-are = ap together costs ∙ together-apart net ts }
 
 -- its links are the front of the buffer
 pub tree-front : (o : Option (List ℕ)) (ts tree : List ℕ) → o ≡ some ts → take (length ts) (treeWith o tree) ≡ ts
@@ -92,7 +95,7 @@ module _ (shape : Shape) (ends sums : List ℕ) (costs bs : List ℤ) (can : Pla
   pub front-priceable : {raised : ℕ} → raised ≡ sumOf sums ts → Priceable shape costs (take (shape .t) left) raised
   front-priceable q = rw (front, q) (priceable shape ends sums costs can ts listed)
 
-  pub front-answer : {raised : ℕ} {v : Costs} → raised ≡ sumOf sums ts → v ≡ costsBy shape costs (take (shape .t) left) raised
+  pub front-answer : {raised : ℕ} {v : PlanCosts} → raised ≡ sumOf sums ts → v ≡ apart (costsBy shape costs (take (shape .t) left) raised)
       → Plan v ≡ answerOf net (best net bs)
   unfolding answerOf
   front-answer q f = rw (is, f, front, q, costs-net shape ends sums costs can ts)

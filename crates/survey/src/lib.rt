@@ -1,11 +1,13 @@
-// Reads a survey from bytes: its first refusal of the numbers 1 to 8, 15 and 18, or the network that it says.
-use crate::rules::check_with;
+// Reads a survey from bytes: its first refusal of the numbers 1 to 8, 15, 18 and 19, or the network that it says.
+use crate::rules::check_records;
 use network::Checked;
 use network::Layout;
 use network::Shape;
 use network::capacities::CEILINGS_HELD;
+use survey_checks::refuse_if;
 use survey_decode::decode;
 use survey_layout::layout::layout_of;
+use survey_positions::too_many_positions;
 ghost use Rattle.network.specs.Layouts.{Roomy};
 ghost use Rattle.network.specs.Refusals.{checkedOf, checkedWith};
 ghost use Rattle.network.specs.Survey.{linkCount, networkOf, networkWith};
@@ -37,18 +39,26 @@ fn read_with(s: &[u8], l: Layout, ends: &mut [u8], sums: &mut [u32], costs: &mut
     ensures { λ r. ⌜ SurveyRead (checkedWith l (now (s .entry))) (networkWith l (now (s .entry)) (linkCount l (now (s .entry)))) r
         (now (ends .exit)) (now (sums .exit)) (now (costs .exit)) ⌝ }
 {
-    let checked = check_with(s, l);
-    match checked {
+    let records = check_records(s, l);
+    match records {
         Checked::Refused(_) => {
             let shape = no_shape();
-            Survey { checked, shape }
+            Survey {
+                checked: records,
+                shape,
+            }
         }
         Checked::Fine => {
             let first = l.yard.size;
             let size = l.link.size;
             let m = (s.len() - first) / size;
             let shape = decode(s, l, m, ends, sums, costs);
-            Survey { checked, shape }
+            let cost_count = shape.p as usize * m;
+            let too_many = too_many_positions(shape, &ends[..2 * m], &costs[..cost_count]);
+            Survey {
+                checked: refuse_if(too_many, 19, 0),
+                shape,
+            }
         }
     }
 }

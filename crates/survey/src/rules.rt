@@ -1,4 +1,4 @@
-// The rules that a survey alone must keep, in document 01's order: its length, the yard record, the link records.
+// The rules that a survey's records must keep, in document 01's order: its length, the yard record, the link records.
 use network::Checked;
 use network::Layout;
 use survey_checks::refuse_if;
@@ -7,12 +7,12 @@ use survey_links::check_links;
 use survey_yard::check_yard;
 ghost use mathlib.Core.Path.{_≡_};
 ghost use Rattle.network.specs.Layouts.{Roomy};
-ghost use Rattle.network.specs.Refusals.{checkedWith};
+ghost use Rattle.network.specs.Refusals.{recordsChecked};
 
-// A survey in a layout: nothing, or its first refusal.
-pub(crate) fn check_with(s: &[u8], l: Layout) -> Checked
+// The records of a survey in a layout: nothing, or their first refusal.
+pub(crate) fn check_records(s: &[u8], l: Layout) -> Checked
     requires { ⌜ Roomy l ⌝ }
-    ensures { λ r. ⌜ r ≡ checkedWith l (now (s .entry)) ⌝ }
+    ensures { λ r. ⌜ r ≡ recordsChecked l (now (s .entry)) ⌝ }
 {
     if bad_length(l, s.len()) {
         return refuse_if(true, 1, 0);

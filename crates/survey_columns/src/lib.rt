@@ -16,17 +16,18 @@ pub fn decode_ends(s: &[u8], l: Layout, m: usize, ends: &mut [u8])
     requires { ⌜ Whole (now s) l m × (2 * m ≤ length (now ends)) ⌝ }
     ensures { λ _. ⌜ take (2 * m) (now (ends .exit)) ≡ endsIn l (now (s .entry)) m ⌝ }
 {
-    let mut q = 0;
-    while q < 2 * m {
-        let at = link_start(s, l, m, q / 2);
-        ends[q] = s[at + ENDS + q % 2];
-        q += 1;
+    let mut i = 0;
+    while i < m {
+        let at = link_start(s, l, m, i);
+        ends[2 * i] = s[at + ENDS];
+        ends[2 * i + 1] = s[at + ENDS + 1];
+        i += 1;
     }
 }
 
 // The costs of the m links by a ceiling.
 fn decode_ceiling(s: &[u8], l: Layout, m: usize, ceiling: usize, column: &mut [i16])
-    requires { ⌜ Whole (now s) l m × HasCosts (ceiling + 1) × (length (now column) ≡ m) ⌝ }
+    requires { ⌜ Whole (now s) l m × HasCosts l (ceiling + 1) × (length (now column) ≡ m) ⌝ }
     ensures { λ _. ⌜ now (column .exit) ≡ ceilingIn l (now (s .entry)) m ceiling ⌝ }
 {
     let mut e = 0;
@@ -39,7 +40,7 @@ fn decode_ceiling(s: &[u8], l: Layout, m: usize, ceiling: usize, column: &mut [i
 
 // The costs of the m links by the first p ceilings, one ceiling after the other, at the front of a column.
 pub fn decode_costs(s: &[u8], l: Layout, m: usize, p: usize, costs: &mut [i16])
-    requires { ⌜ Whole (now s) l m × HasCosts p × (p * m ≤ length (now costs)) ⌝ }
+    requires { ⌜ Whole (now s) l m × HasCosts l p × (p * m ≤ length (now costs)) ⌝ }
     ensures { λ _. ⌜ take (p * m) (now (costs .exit)) ≡ costsIn l (now (s .entry)) m p ⌝ }
 {
     let mut from = 0;

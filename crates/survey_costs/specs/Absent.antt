@@ -1,49 +1,29 @@
--- The costs of absent ceilings, tested one after the other.
-use Prim.Native.Nat.{ℕ, _≤_, _<_}
-use mathlib.Core.Bool.{Bool, true, false, not, _&&_, _||_, or-false}
-use mathlib.Core.Path.{_≡_, refl, sym}
-use native.Mathlib.Omega.{arith}
-use borrow.Author.Tests.{eq-eqb, le-leb, lt-leb, ne-eqb}
-use lib.Dec.{eqb, leb}
-use lib.IntN.{ℤ}
-use Rattle.network.specs.Refusals.{absentCost, badCosts, badSum}
+-- The costs of absent ceilings, looked at one after the other.
+use Prim.Native.Nat.{ℕ, _+_, _≤_, _<_}
+use mathlib.Core.Bool.{true, false}
+use mathlib.Core.List.{List, _∷_}
+use mathlib.Core.Path.{_≡_}
+use native.Mathlib.Numerals.{add-one}
+use borrow.Author.Tests.{eq-eqb, ne-eqb}
+use lib.ListN.{drop, drop-of-length-le, getD, length}
+use lib.Seq.{drop-cons}
+use Rattle.network.specs.Refusals.{absentCosts}
 
-or-true : (a : Bool) → true ≡ a || true
-or-true true = refl
-or-true false = refl
+module _ (bits : List ℕ) (j : ℕ) where
+  next : j < length bits → drop j bits ≡ getD bits j 0 ∷ drop (j + 1) bits
+  next h = rw (add-one j) (drop-cons bits j 0 h)
 
-and-false : (a : Bool) → a && false ≡ false
-and-false true = refl
-and-false false = refl
+  -- the first that is left is not 0
+  pub absent-found : j < length bits → (getD bits j 0 ≡ 0 → ⊥) → absentCosts j bits ≡ true
+  unfolding absentCosts
+  absent-found h e = rw (next h, ne-eqb (getD bits j 0) 0 e)
 
-or-last : (a b c : Bool) → b || c ≡ true → true ≡ a || b || c
-or-last true b c e = refl
-or-last false b c e = sym e
+  -- it is 0
+  pub absent-turn : j < length bits → getD bits j 0 ≡ 0 → absentCosts j bits ≡ absentCosts (j + 1) bits
+  unfolding absentCosts
+  absent-turn h e = rw (next h, eq-eqb (getD bits j 0) 0 e)
 
-or-first : (a b c : Bool) → b || c ≡ false → a ≡ a || b || c
-or-first true b c e = refl
-or-first false b c e = sym e
-
-module _ (p bits1 bits2 : ℕ) where
-  -- the second is not 0
-  pub second-left : p ≤ 1 → (bits2 ≡ 0 → ⊥) → true ≡ absentCost p 0 bits1 || absentCost p 1 bits2
-  second-left h e = rw (le-leb p 1 h, ne-eqb bits2 0 e) (or-true (absentCost p 0 bits1))
-
-  -- the second is 0, and the first is absent too
-  pub first-left : p ≤ 0 → bits2 ≡ 0 → not (eqb bits1 0) ≡ absentCost p 0 bits1 || absentCost p 1 bits2
-  first-left h e = rw (le-leb p 0 h, le-leb p 1 (omega arith), eq-eqb bits2 0 e) (sym (or-false (not (eqb bits1 0))))
-
-  -- the second is 0, and the first is present
-  pub first-present : 0 < p → bits2 ≡ 0 → false ≡ absentCost p 0 bits1 || absentCost p 1 bits2
-  first-present h e = rw (lt-leb p 0 h, eq-eqb bits2 0 e) (sym (and-false (leb p 1)))
-
-  -- both are present
-  pub both-present : 1 < p → false ≡ absentCost p 0 bits1 || absentCost p 1 bits2
-  both-present h = rw (lt-leb p 0 (omega arith), lt-leb p 1 h)
-
-  -- the rule of all costs: a sum cost is looked at last
-  pub costs-left : (s : ℤ) → absentCost p 0 bits1 || absentCost p 1 bits2 ≡ true → true ≡ badCosts p s bits1 bits2
-  costs-left s e = or-last (badSum s) _ _ e
-
-  pub sum-left : (s : ℤ) → absentCost p 0 bits1 || absentCost p 1 bits2 ≡ false → badSum s ≡ badCosts p s bits1 bits2
-  sum-left s e = or-first (badSum s) _ _ e
+  -- none is left
+  pub absent-none : length bits ≤ j → absentCosts j bits ≡ false
+  unfolding absentCosts
+  absent-none h = rw (drop-of-length-le bits h)

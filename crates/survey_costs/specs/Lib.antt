@@ -1,2 +1,2 @@
--- costs of absent ceilings, one after the other
+-- the costs of absent ceilings, one after the other
 pub mod Absent

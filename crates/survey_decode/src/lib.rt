@@ -1,6 +1,7 @@
 // The network that a survey's records say.
 use network::Layout;
 use network::Shape;
+use network::capacities::CEILINGS_HELD;
 use stations::count_working;
 use survey_columns::decode_costs;
 use survey_columns::decode_ends;
@@ -9,8 +10,32 @@ use survey_layout::fields::RANKS;
 use survey_layout::fields::STATIONS;
 use survey_rest::rest_in;
 use survey_sums::decode_sums;
-ghost use Rattle.network.specs.Survey.{networkWith};
-ghost use Rattle.survey_decode.specs.Decoded.{Decodable, Decoded};
+ghost use mathlib.Core.Path.{_≡_};
+ghost use Prim.Native.Nat.{_+_, _≤_};
+ghost use lib.ListN.{drop, length, take};
+ghost use Rattle.network.specs.Capacities.{ceilingsHeld};
+ghost use Rattle.network.specs.Survey.{networkWith, ranksAt};
+ghost use Rattle.survey_decode.specs.Decoded.{Decodable, Decoded, rankIn};
+
+// The rank of ceiling i; 0 where it is absent.
+fn rank_in(s: &[u8], p: usize, i: usize) -> u8
+    requires { ⌜ ranksAt + p ≤ length (now s) ⌝ }
+    ensures { λ r. ⌜ r ≡ rankIn (now (s .entry)) p i ⌝ }
+{
+    if i < p { s[RANKS + i] } else { 0 }
+}
+
+// The ranks of p ceilings, and 0 for those that are absent.
+fn ranks_in(s: &[u8], p: usize) -> [u8; CEILINGS_HELD]
+    requires { ⌜ (p ≤ ceilingsHeld) × (ranksAt + p ≤ length (now s)) ⌝ }
+    ensures { λ r. ⌜ (length r ≡ ceilingsHeld) × (take p r ≡ take p (drop ranksAt (now (s .entry)))) ⌝ }
+{
+    let mut k = [0u8; CEILINGS_HELD];
+    for i in 0..CEILINGS_HELD {
+        k[i] = rank_in(s, p, i);
+    }
+    k
+}
 
 // The shape of a survey with m links, whose columns go to the fronts of those that are lent.
 pub fn decode(
@@ -26,8 +51,7 @@ pub fn decode(
 {
     let n = s[STATIONS];
     let p = s[CEILINGS];
-    let k1 = s[RANKS];
-    let k2 = s[RANKS + 1];
+    let k = ranks_in(s, p as usize);
     let rest = rest_in(s, l);
     let working = count_working(n, rest);
     decode_ends(s, l, m, ends);
@@ -36,7 +60,7 @@ pub fn decode(
     Shape {
         n,
         p,
-        k: [k1, k2],
+        k,
         rest,
         m,
         t: working.count - 1,

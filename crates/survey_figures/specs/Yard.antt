@@ -4,7 +4,8 @@ use mathlib.Core.List.{[], _∷_}
 use mathlib.Core.Path.{_≡_, _∙_}
 use Prim.Native.Nat.{ℕ}
 use lib.Dec.{ltb}
-use Rattle.network.specs.Limits.{maxCeilings, maxLinks, maxStations}
+use Rattle.network.specs.Limits.{maxLinks, maxStations}
+use Rattle.network.specs.Survey.{narrowSlots}
 use Rattle.network.specs.Checked.{refuseIf, _orElse_}
 use Rattle.network.specs.Refusals.{badRanks, outside}
 use Rattle.network.specs.Writing.{yardFiguresChecked}
@@ -25,11 +26,11 @@ module _ (y : YardFigures) (m : ℕ) {r : Checked} where
 
     module _ (links : ltb maxLinks m ≡ false) where
       -- the number of ceilings
-      pub by-ceilings : ltb maxCeilings (y .p) ≡ true → r ≡ refuseIf true 5 0 → r ≡ yardFiguresChecked y m
+      pub by-ceilings : ltb narrowSlots (y .p) ≡ true → r ≡ refuseIf true 5 0 → r ≡ yardFiguresChecked y m
       unfolding yardFiguresChecked refuseIf _orElse_
       by-ceilings e q = q ∙ rw (stations, links, e)
 
       -- the ranks
-      pub by-ranks : ltb maxCeilings (y .p) ≡ false → r ≡ refuseIf (badRanks (y .n) (y .p) (y .k1 ∷ y .k2 ∷ [])) 6 0 → r ≡ yardFiguresChecked y m
+      pub by-ranks : ltb narrowSlots (y .p) ≡ false → r ≡ refuseIf (badRanks (y .n) (y .p) (y .k1 ∷ y .k2 ∷ [])) 6 0 → r ≡ yardFiguresChecked y m
       unfolding yardFiguresChecked refuseIf _orElse_
       by-ranks e q = q ∙ rw (stations, links, e)

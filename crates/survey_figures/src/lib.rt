@@ -2,13 +2,14 @@
 use encoding_writes::bits16;
 use network::Checked;
 use network::YardFigures;
-use network::limits::MAX_CEILINGS;
 use network::limits::MAX_LINKS;
 use network::limits::MAX_STATIONS;
+use network::records::NARROW_SLOTS;
 use survey_checks::is_outside;
 use survey_checks::or_refuse_if;
 use survey_checks::refuse_if;
-use survey_costs::bad_costs;
+use survey_costs::absent_costs;
+use survey_costs::bad_sum;
 use survey_ends::bad_ends;
 use survey_ranks::bad_ranks;
 ghost use mathlib.Core.Path.{_≡_};
@@ -25,7 +26,7 @@ pub fn check_yard(y: YardFigures, m: usize) -> Checked
     let p = y.p;
     let ranks = [y.k1, y.k2];
     let too_many_links = MAX_LINKS < m;
-    let too_many_ceilings = (MAX_CEILINGS as u8) < p;
+    let too_many_ceilings = (NARROW_SLOTS as u8) < p;
     if is_outside(n, 1, MAX_STATIONS as u8) {
         return refuse_if(true, 3, 0);
     }
@@ -45,7 +46,8 @@ fn check_link(y: YardFigures, a: u8, b: u8, sum: i32, c1: i16, c2: i16, place: u
     let n = y.n;
     let p = y.p;
     let wrong_ends = bad_ends(n, a, b);
-    let wrong_costs = bad_costs(p, sum, bits16(c1), bits16(c2));
+    let bits = [bits16(c1), bits16(c2)];
+    let wrong_costs = bad_sum(sum) | absent_costs(p, &bits);
     let c7 = refuse_if(wrong_ends, 7, place);
     or_refuse_if(c7, wrong_costs, 8, place)
 }

@@ -15,15 +15,14 @@ ghost use mathlib.Core.Path.{_≡_};
 ghost use Prim.Native.Nat.{_+_, _≤_};
 ghost use lib.ListN.{length};
 ghost use Rattle.network.specs.Limits.{maxLinks};
-ghost use Rattle.network.specs.Survey.{linkSize, yardSize};
 ghost use Rattle.network.specs.Writing.{linkBytes, yardBytes};
 ghost use Rattle.encoding_overwrite.specs.Overwrite.{overwrite};
-ghost use Rattle.survey_written.specs.Layouts.{Writable};
+ghost use Rattle.survey_written.specs.Layouts.{Writable, writtenLink, writtenYard};
 ghost use Rattle.survey_written.specs.Written.{fieldBytes};
 
 // Writes a yard record without a link count at the front.
 fn write_fields(out: &mut [u8], mark: [u8; 2], y: YardFigures)
-    requires { ⌜ yardSize ≤ length (now out) ⌝ }
+    requires { ⌜ writtenYard ≤ length (now out) ⌝ }
     ensures { λ _. ⌜ now (out .exit) ≡ overwrite (now (out .entry)) 0 (fieldBytes mark y) ⌝ }
 {
     copy_in(out, 0, &mark);
@@ -57,7 +56,7 @@ pub fn write_link(
     c1: i16,
     c2: i16,
 )
-    requires { ⌜ at + linkSize ≤ length (now out) ⌝ }
+    requires { ⌜ at + writtenLink ≤ length (now out) ⌝ }
     ensures { λ _. ⌜ now (out .exit) ≡ overwrite (now (out .entry)) at (linkBytes mark (record { first = a; second = b; sum = sum; c1 = c1; c2 = c2 })) ⌝ }
 {
     copy_in(out, at, &mark);

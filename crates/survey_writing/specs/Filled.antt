@@ -9,7 +9,6 @@ use borrow.Author.Tests.{le-ltb, lt-ltb}
 use lib.Dec.{ltb}
 use lib.IntN.{ℤ}
 use lib.ListN.{drop, length}
-use Rattle.network.specs.Survey.{linkSize}
 use Rattle.network.specs.Checked.{refuseIf, _orElse_}
 use Rattle.network.specs.Calls.{ifFine, status}
 use Rattle.network.specs.Writing.{Figures, figuresFrom, linksFiguresChecked, surveyAtFront, surveyIn, yardBytes}
@@ -22,7 +21,7 @@ use Rattle.network.specs.declared.YardFigures.{YardFigures}
 use Rattle.encoding_overwrite.specs.Overwrite.{overwrite, overwrite-chain}
 use Rattle.survey_written.specs.Columns.{columnsChecked, link-many, links-checked}
 use Rattle.survey_written.specs.Fields.{survey-length, yard-length}
-use Rattle.survey_written.specs.Layouts.{Writable}
+use Rattle.survey_written.specs.Layouts.{Writable, writtenLink}
 use Rattle.survey_written.specs.Written.{records-all, recordsTo}
 
 -- 7 and 8 link by link, then 17: what is left of `writeChecked` by then
@@ -55,15 +54,15 @@ module _ (l : Layout) (w : Writable l) (y : YardFigures) (ends : List ℕ) (sums
       ∙ ap (λ (k : ℕ). surveyIn l f ++ drop k d) (zero-add (length (surveyIn l f)))
 
   -- the survey has as many bytes as its records
-  full-length : length (surveyIn l f) ≡ l .yard .size + length sums * linkSize
-  full-length = survey-length l w f ∙ ap (λ (m : ℕ). l .yard .size + m * linkSize) (link-many y ends sums costs)
+  full-length : length (surveyIn l f) ≡ l .yard .size + length sums * writtenLink
+  full-length = survey-length l w f ∙ ap (λ (m : ℕ). l .yard .size + m * writtenLink) (link-many y ends sums costs)
 
   -- the bytes by the sizes of the records
   abbrev pub roomFor : ℕ
   roomFor = l .yard .size + length sums * l .link .size
 
   room : roomFor ≡ length (surveyIn l f)
-  room = let e : length sums * l .link .size ≡ length sums * linkSize = ap (λ (k : ℕ). length sums * k) (w .link-size) in omega (arith, full-length)
+  room = let e : length sums * l .link .size ≡ length sums * writtenLink = ap (λ (k : ℕ). length sums * k) (w .link-size) in omega (arith, full-length)
 
   module _ {c : Checked} (e : c ≡ columnsChecked y ends sums costs (length sums)) (output : List ℕ) where
     checked : fullChecked l f (length output) ≡ c orElse refuseIf (ltb (length output) (length (surveyIn l f))) 17 0

@@ -5,24 +5,24 @@ use Prim.Native.Nat.{ℕ, _+_, _*_, _≤_, _<_}
 use native.Mathlib.Omega.{arith}
 use lib.IntN.{ℤ}
 use lib.ListN.{length}
-use Rattle.network.specs.Survey.{linkSize}
 use Rattle.network.specs.Writing.{Link, linkBytes, linkFrom}
 use Rattle.encoding_overwrite.specs.Overwrite.{overwrite}
 use Rattle.survey_written.specs.Columns.{Full, link-read, linkRead}
 use Rattle.survey_written.specs.Fields.{Fitting}
+use Rattle.survey_written.specs.Layouts.{writtenLink}
 use Rattle.survey_written.specs.Written.{records-none, records-turn, recordsTo}
 
 module _ (mark ends : List ℕ) (sums costs : List ℤ) (first : ℕ) (before : List ℕ) where
   -- the records of the first i links stand from `first` on, and `at` is behind them
   pub record LinksWritten (size : ℕ) (after : List ℕ) (at i : ℕ) : Type 0 where
     pub written : after ≡ overwrite before first (recordsTo mark ends sums costs i)
-    pub behind : at ≡ first + i * linkSize
+    pub behind : at ≡ first + i * writtenLink
     pub few : i ≤ length sums
     pub kept : length after ≡ length before
-    pub room : first + length sums * linkSize ≤ length before
-    pub each : size ≡ linkSize
+    pub room : first + length sums * writtenLink ≤ length before
+    pub each : size ≡ writtenLink
 
-  pub links-start : (size : ℕ) → size ≡ linkSize → first + length sums * linkSize ≤ length before → LinksWritten size before first 0
+  pub links-start : (size : ℕ) → size ≡ writtenLink → first + length sums * writtenLink ≤ length before → LinksWritten size before first 0
   links-start size e room =
       record { written = records-none mark ends sums costs before first; behind = omega arith; few = omega arith; kept = refl; room = room; each = e }
 

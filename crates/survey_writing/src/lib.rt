@@ -9,18 +9,17 @@ use survey_records::write_yard;
 ghost use mathlib.Core.Path.{_≡_};
 ghost use Prim.Native.Nat.{_+_, _*_, _≤_};
 ghost use lib.ListN.{length};
-ghost use Rattle.network.specs.Survey.{linkSize};
 ghost use Rattle.network.specs.Writing.{figuresFrom, surveyAtFront, surveyIn};
 ghost use Rattle.encoding_overwrite.specs.Overwrite.{overwrite};
 ghost use Rattle.survey_written.specs.Columns.{Full};
 ghost use Rattle.survey_written.specs.Fields.{Met};
-ghost use Rattle.survey_written.specs.Layouts.{Writable};
+ghost use Rattle.survey_written.specs.Layouts.{Writable, writtenLink};
 ghost use Rattle.survey_written.specs.Written.{recordsTo};
 ghost use Rattle.survey_writing.specs.Filled.{fullAfter, fullStatus};
 
 // Writes the records of all links behind the yard record.
 fn write_links(out: &mut [u8], l: Layout, ends: &[u8], sums: &[i32], costs: &[i16])
-    requires { ⌜ Writable l × Full (now ends) (now sums) (now costs) × (l .yard .size + length (now sums) * linkSize ≤ length (now out)) ⌝ }
+    requires { ⌜ Writable l × Full (now ends) (now sums) (now costs) × (l .yard .size + length (now sums) * writtenLink ≤ length (now out)) ⌝ }
     ensures { λ _. ⌜ now (out .exit)
         ≡ overwrite (now (out .entry)) (l .yard .size)
         (recordsTo (l .link .mark) (now (ends .entry)) (now (sums .entry)) (now (costs .entry)) (length (now (sums .entry)))) ⌝ }
@@ -49,7 +48,7 @@ fn write_records(
     sums: &[i32],
     costs: &[i16],
 )
-    requires { ⌜ Writable l × Full (now ends) (now sums) (now costs) × (l .yard .size + length (now sums) * linkSize ≤ length (now out)) ⌝ }
+    requires { ⌜ Writable l × Full (now ends) (now sums) (now costs) × (l .yard .size + length (now sums) * writtenLink ≤ length (now out)) ⌝ }
     ensures { λ _. ⌜ now (out .exit)
         ≡ surveyAtFront (surveyIn l (figuresFrom y (now (ends .entry)) (now (sums .entry)) (now (costs .entry)))) (now (out .entry)) ⌝ }
 {

@@ -2,20 +2,22 @@
 use mathlib.Core.Bool.{Bool, true, false, cond}
 use mathlib.Core.List.{List, [], _∷_, _++_, map, append-assoc, append-nil}
 use mathlib.Core.Path.{_≡_, refl, sym, ap, ap₂, _∙_}
-use Prim.Native.Nat.{ℕ, suc, _+_, _*_, _≤_, _<_}
+use Prim.Native.Nat.{ℕ, zero, suc, _+_, _*_, _≤_, _<_}
 use native.Mathlib.Omega.{arith}
 use native.Mathlib.Nat.{zero-add}
 use lib.ListN.{drop, getD, length, length-append, length-map, take}
-use lib.Seq.{drop-append-add, getD-append-add, getD-drop, getD-take, take-at}
+use lib.Seq.{drop-append-add, drop-cons, getD-append-add, getD-drop, getD-take, take-at}
 use mir.Syntax.{w16, w32}
 use mir.Val.{SFits}
 use mir.ValLaws.{ofZ-fits}
 use store.Seg.{eqb-same}
-use Rattle.order.specs.Lists.{getD-map, map-mem}
+use Rattle.order.specs.Lists.{getD-map, map-mem, numbersFrom}
 use Rattle.order.specs.Test.{by-test}
 use Rattle.network.specs.Bytes.{bitsOf, byteAt, littleEndian, markAt, u32At}
 use Rattle.network.specs.Limits.{maxLinks}
-use Rattle.network.specs.Survey.{ceilingsIn, costBitsIn, countIn, endIn, hasCount, layoutOf, linkSize, linkStart, rankIn, stationsIn, yardSize}
+use Rattle.network.specs.Survey.{ceilingsIn, costBits, costBitsIn, countIn, endIn, hasCount, layoutOf, linkStart, narrowSlots, ranksAt, ranksIn}
+use Rattle.network.specs.Survey.{stationsIn}
+use Rattle.network.specs.Tabulate.{tabulate}
 use Rattle.network.specs.Layouts.{layout-kept}
 use Rattle.network.specs.Refusals.{badCount}
 use Rattle.network.specs.PlanList.{join}
@@ -26,7 +28,21 @@ use Rattle.network.specs.declared.Layout.{Layout}
 use Rattle.network.specs.declared.YardFigures.{YardFigures}
 use Rattle.encoding_numbers.specs.RoundTrip.{u16-bytes, u32-bytes}
 use Rattle.encoding_blocks.specs.Blocks.{Sized, join-at, length-join}
-use Rattle.survey_written.specs.Layouts.{Writable}
+use Rattle.survey_written.specs.Layouts.{Writable, writtenLink, writtenYard}
+
+-- ---- slices
+
+-- k bytes from an index on, one by one
+pub window : (k at : ℕ) (s : List ℕ) → at + k ≤ length s → take k (drop at s) ≡ map (byteAt s) (numbersFrom k at)
+unfolding numbersFrom
+window zero at s h = refl
+window (suc k) at s h =
+    ap (take (suc k)) (drop-cons s at 0 (omega arith)) ∙ ap (λ (r : List ℕ). byteAt s at ∷ r) (window k (suc at) s (omega arith))
+
+-- the ranks, of which there are two
+pub ranks-are : (l : Layout) → Writable l → (s : List ℕ) → l .yard .size ≤ length s → ranksIn l s ≡ byteAt s 4 ∷ byteAt s 5 ∷ []
+unfolding ranksIn numbersFrom
+ranks-are l w s h = ap (λ (k : ℕ). take k (drop ranksAt s)) (w .slots) ∙ window narrowSlots ranksAt s (omega (arith, w .size))
 
 -- ---- one link record
 
@@ -49,6 +65,12 @@ pub record LinkHeld (s : List ℕ) (at : ℕ) (mark : List ℕ) (x : Link) : Typ
   pub sum : u32At s (at + 4) ≡ bitsOf w32 (x .sum)
   pub c1 : costBitsIn s at 0 ≡ bitsOf w16 (x .c1)
   pub c2 : costBitsIn s at 1 ≡ bitsOf w16 (x .c2)
+
+-- the bits of its costs, of which there are two
+pub costs-are : {s : List ℕ} {at : ℕ} {mark : List ℕ} {x : Link} → LinkHeld s at mark x
+    → costBits narrowSlots s at ≡ bitsOf w16 (x .c1) ∷ bitsOf w16 (x .c2) ∷ []
+unfolding costBits tabulate
+costs-are held = ap₂ (λ (a b : ℕ). a ∷ b ∷ []) (held .c1) (held .c2)
 
 -- in its own bytes
 link-front : (mark : List ℕ) (x : Link) (rest : List ℕ) → length mark ≡ 2 → Fitting x → LinkHeld (linkBytes mark x ++ rest) 0 mark x
@@ -78,7 +100,7 @@ link-moved t s at mark x moved held =
       c2 = moved-u16 (moved-on (moved-on moved 8) (2 * 1)) ∙ held .c2;
     }
 
-pub length-link : (mark : List ℕ) (x : Link) → length mark ≡ 2 → length (linkBytes mark x) ≡ linkSize
+pub length-link : (mark : List ℕ) (x : Link) → length mark ≡ 2 → length (linkBytes mark x) ≡ writtenLink
 unfolding linkBytes
 length-link mark x e = length-append mark _ ∙ ap (λ (k : ℕ). k + 10) e
 
@@ -118,16 +140,16 @@ module _ (l : Layout) (w : Writable l) (f : Figures) where
   length-yard : length yard ≡ l .yard .size
   length-yard = yard-length l w (f .yard) m
 
-  sized : Sized linkSize records
+  sized : Sized writtenLink records
   sized b q =
       let x = map-mem (linkBytes (l .link .mark)) (f .links) b q in
       ap length (x .2) ∙ length-link (l .link .mark) (x .0) (w .link-marked)
 
-  pub survey-length : length s ≡ l .yard .size + m * linkSize
+  pub survey-length : length s ≡ l .yard .size + m * writtenLink
   unfolding surveyIn
   survey-length =
       length-append yard (join records)
-      ∙ ap₂ (λ (a b : ℕ). a + b) length-yard (length-join linkSize records sized ∙ ap (λ (k : ℕ). k * linkSize) (length-map (f .links) _))
+      ∙ ap₂ (λ (a b : ℕ). a + b) length-yard (length-join writtenLink records sized ∙ ap (λ (k : ℕ). k * writtenLink) (length-map (f .links) _))
 
   -- what stands from link record i on
   abbrev behind : ℕ → List ℕ
@@ -136,12 +158,12 @@ module _ (l : Layout) (w : Writable l) (f : Figures) where
   link-bytes : (i : ℕ) → i < m → drop (linkStart l i) s ≡ linkBytes (l .link .mark) (getD (f .links) i noLink) ++ behind i
   unfolding surveyIn
   link-bytes i h =
-      let start : linkStart l i ≡ length yard + i * linkSize = ap₂ (λ (a b : ℕ). a + i * b) (sym length-yard) (w .link-size) in
+      let start : linkStart l i ≡ length yard + i * writtenLink = ap₂ (λ (a b : ℕ). a + i * b) (sym length-yard) (w .link-size) in
       let inside : i < length records = rw (length-map (f .links) (linkBytes (l .link .mark))) h in
       ap (λ (k : ℕ). drop k s) start
-      ∙ drop-append-add yard (join records) (i * linkSize)
-      ∙ ap (drop (i * linkSize)) (sym (append-nil (join records)))
-      ∙ join-at linkSize records [] sized i inside
+      ∙ drop-append-add yard (join records) (i * writtenLink)
+      ∙ ap (drop (i * writtenLink)) (sym (append-nil (join records)))
+      ∙ join-at writtenLink records [] sized i inside
       ∙ ap (λ (b : List ℕ). b ++ behind i) (getD-map (linkBytes (l .link .mark)) (f .links) i noLink [] h)
 
   -- link record i holds the figures of link i
@@ -181,13 +203,12 @@ module _ (l : Layout) (w : Writable l) (f : Figures) where
     pub marked : markAt s 0 (l .yard .mark) ≡ true
     pub stations : stationsIn s ≡ f .yard .n
     pub ceilings : ceilingsIn s ≡ f .yard .p
-    pub rank1 : rankIn s 0 ≡ f .yard .k1
-    pub rank2 : rankIn s 1 ≡ f .yard .k2
+    pub ranks : ranksIn l s ≡ f .yard .k1 ∷ f .yard .k2 ∷ []
     pub count : m ≤ maxLinks → badCount s l m ≡ false
 
   counted : hasCount l ≡ true → m ≤ maxLinks → countIn l s ≡ m
   counted e few =
-      ap (byteAt s) (w .counted ∙ ap (λ (b : Bool). cond b yardSize 0) e)
+      ap (byteAt s) (w .counted ∙ ap (λ (b : Bool). cond b writtenYard 0) e)
       ∙ field 4
       ∙ ap (λ (b : Bool). byteAt (cond b (littleEndian 1 m) [] ++ join records) 0) e
       ∙ omega arith
@@ -202,7 +223,6 @@ module _ (l : Layout) (w : Writable l) (f : Figures) where
         marked = rw (mark-byte 0 (omega arith), mark-byte 1 (omega arith), eqb-same (byteAt (l .yard .mark) 0), eqb-same (byteAt (l .yard .mark) 1));
         stations = field 0;
         ceilings = field 1;
-        rank1 = field 2;
-        rank2 = field 3;
+        ranks = ranks-are l w s (omega (arith, survey-length)) ∙ ap₂ (λ (a b : ℕ). a ∷ b ∷ []) (field 2) (field 3);
         count = right-count;
       }

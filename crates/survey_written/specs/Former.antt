@@ -6,31 +6,25 @@ use Prim.Native.Nat.{ℕ, zero, suc, _+_, _*_, _%_, _≤_}
 use native.Mathlib.Nat.{suc-mul, zero-add, zero-mul}
 use native.Mathlib.Omega.{arith}
 use lib.Dec.{eqb}
-use lib.ListN.{drop, length, length-drop, length-map, take, take-append-drop}
-use lib.Seq.{drop-cons, drop-drop, getD-drop, take-add, take-all}
+use lib.ListN.{drop, getD, length, length-drop, length-map, take, take-append-drop}
+use lib.Seq.{drop-drop, getD-drop, take-add, take-all}
 use borrow.Author.Tests.{eqb-true, not-false}
 use mir.Syntax.{w16, w32}
 use Rattle.order.specs.Lists.{numbersFrom}
 use Rattle.order.specs.Sorted.{numbers-length}
 use Rattle.order.specs.Test.{by-test, left, right}
 use Rattle.network.specs.Bytes.{byteAt, littleEndian, markAt, signed}
-use Rattle.network.specs.Survey.{countIn, hasCount, linkCount, linkSize, linkStart, yardSize}
+use Rattle.network.specs.Survey.{countIn, hasCount, linkCount, linkStart}
 use Rattle.network.specs.PlanList.{join}
 use Rattle.network.specs.Moved.{Moved, moved-mark, moved-on, moved-u16, moved-u32}
 use Rattle.network.specs.Refusals.{badCount}
-use Rattle.network.specs.Accepted.{Accepted, inside}
+use Rattle.network.specs.Accepted.{RecordsFine, inside}
 use Rattle.network.specs.Writing.{figuresIn, linkBytes, linkIn, surveyIn, yardBytes}
 use Rattle.network.specs.WritingPromise.{OfBytes}
 use Rattle.network.specs.declared.Layout.{Layout}
 use Rattle.encoding_signed.specs.RoundTrip.{bytes-i16, bytes-i32}
-use Rattle.survey_written.specs.Layouts.{Writable}
-
--- the first k bytes, one by one
-window : (k at : ℕ) (s : List ℕ) → at + k ≤ length s → take k (drop at s) ≡ map (byteAt s) (numbersFrom k at)
-unfolding numbersFrom
-window zero at s h = refl
-window (suc k) at s h =
-    ap (take (suc k)) (drop-cons s at 0 (omega arith)) ∙ ap (λ (r : List ℕ). byteAt s at ∷ r) (window k (suc at) s (omega arith))
+use Rattle.survey_written.specs.Layouts.{Writable, writtenLink, writtenYard}
+use Rattle.survey_written.specs.Fields.{ranks-are, window}
 
 -- a mark that opens bytes is their first two
 opening : (s mark : List ℕ) → length mark ≡ 2 → markAt s 0 mark ≡ true → mark ≡ byteAt s 0 ∷ byteAt s 1 ∷ []
@@ -43,7 +37,8 @@ opening s (a ∷ b ∷ c ∷ mark) e q = absurd (omega arith)
 -- ---- one link record
 
 -- a record at the front
-link-front : (t mark : List ℕ) → OfBytes t → linkSize ≤ length t → length mark ≡ 2 → markAt t 0 mark ≡ true → linkBytes mark (linkIn t 0) ≡ take linkSize t
+link-front : (t mark : List ℕ) → OfBytes t → writtenLink ≤ length t → length mark ≡ 2 → markAt t 0 mark ≡ true
+    → linkBytes mark (linkIn t 0) ≡ take writtenLink t
 unfolding linkBytes numbersFrom
 link-front t mark bytes room two marked =
     let sum = bytes-i32 t (bytes .each) 4 in
@@ -51,7 +46,7 @@ link-front t mark bytes room two marked =
     let c2 = bytes-i16 t (bytes .each) 10 in
     ap₂ (λ (a b : List ℕ). a ++ (byteAt t 2 ∷ byteAt t 3 ∷ b)) (opening t mark two marked)
     (ap₂ (λ (a b : List ℕ). a ++ b) sum (ap₂ (λ (a b : List ℕ). a ++ b) c1 c2))
-    ∙ sym (window linkSize 0 t room)
+    ∙ sym (window writtenLink 0 t room)
 
 -- the figures of a record are those of its bytes elsewhere
 link-moved : (t s : List ℕ) (at : ℕ) → Moved t 0 s at → linkIn s at ≡ linkIn t 0
@@ -66,8 +61,8 @@ link-moved t s at moved =
     }
 
 -- a record at an index
-link-former : (s mark : List ℕ) (at : ℕ) → OfBytes s → at + linkSize ≤ length s → length mark ≡ 2 → markAt s at mark ≡ true
-    → linkBytes mark (linkIn s at) ≡ take linkSize (drop at s)
+link-former : (s mark : List ℕ) (at : ℕ) → OfBytes s → at + writtenLink ≤ length s → length mark ≡ 2 → markAt s at mark ≡ true
+    → linkBytes mark (linkIn s at) ≡ take writtenLink (drop at s)
 link-former s mark at bytes room two marked =
     let t : List ℕ = drop at s in
     let here : (k : ℕ) → byteAt s (at + k) ≡ byteAt t k = λ k. sym (getD-drop at s k 0) in
@@ -78,23 +73,23 @@ link-former s mark at bytes room two marked =
 
 -- ---- the survey
 
-module _ (s : List ℕ) (l : Layout) (w : Writable l) (fine : Accepted s l) (bytes : OfBytes s) where
+module _ (s : List ℕ) (l : Layout) (w : Writable l) (fine : RecordsFine s l) (bytes : OfBytes s) where
   abbrev m : ℕ
   m = linkCount l s
 
   -- the link records from number k on
   links-former : (n k : ℕ) → k + n ≤ m
-      → join (map (linkBytes (l .link .mark)) (map (λ i. linkIn s (linkStart l i)) (numbersFrom n k))) ≡ take (n * linkSize) (drop (linkStart l k) s)
+      → join (map (linkBytes (l .link .mark)) (map (λ i. linkIn s (linkStart l i)) (numbersFrom n k))) ≡ take (n * writtenLink) (drop (linkStart l k) s)
   unfolding numbersFrom
   links-former zero k h = refl
   links-former (suc n) k h =
-      let room = inside (fine .records) k (omega arith) in
+      let room : linkStart l k + writtenLink ≤ length s = omega (arith, inside (fine .records) k (omega arith), w .slots) in
       let first = link-former s (l .link .mark) (linkStart l k) bytes room (w .link-marked) (fine .link k (omega arith) .marked) in
-      let next : linkStart l (suc k) ≡ linkStart l k + linkSize = let e = suc-mul k (l .link .size) in omega (arith, w .link-size) in
-      let more : suc n * linkSize ≡ linkSize + n * linkSize = let e = suc-mul n linkSize in omega arith in
-      ap₂ (λ (a b : List ℕ). a ++ b) first (links-former n (suc k) (omega arith) ∙ ap (λ (j : ℕ). take (n * linkSize) (drop j s)) next)
-      ∙ ap (λ (r : List ℕ). take linkSize (drop (linkStart l k) s) ++ take (n * linkSize) r) (sym (drop-drop linkSize (linkStart l k) s))
-      ∙ sym (take-add linkSize (n * linkSize) (drop (linkStart l k) s))
+      let next : linkStart l (suc k) ≡ linkStart l k + writtenLink = let e = suc-mul k (l .link .size) in omega (arith, w .link-size) in
+      let more : suc n * writtenLink ≡ writtenLink + n * writtenLink = let e = suc-mul n writtenLink in omega arith in
+      ap₂ (λ (a b : List ℕ). a ++ b) first (links-former n (suc k) (omega arith) ∙ ap (λ (j : ℕ). take (n * writtenLink) (drop j s)) next)
+      ∙ ap (λ (r : List ℕ). take writtenLink (drop (linkStart l k) s) ++ take (n * writtenLink) r) (sym (drop-drop writtenLink (linkStart l k) s))
+      ∙ sym (take-add writtenLink (n * writtenLink) (drop (linkStart l k) s))
       ∙ ap (λ (j : ℕ). take j (drop (linkStart l k) s)) (sym more)
 
   -- the link count that is written is that of the links
@@ -109,7 +104,9 @@ module _ (s : List ℕ) (l : Layout) (w : Writable l) (fine : Accepted s l) (byt
   unfolding yardBytes figuresIn
   yard-by rest size count e bytes-are =
       let mark = opening s (l .yard .mark) (w .marked) (fine .yard .mark) in
-      ap₂ (λ (a b : List ℕ). a ++ (byteAt s 2 ∷ byteAt s 3 ∷ byteAt s 4 ∷ byteAt s 5 ∷ b)) mark count
+      ap (λ (k : List ℕ). l .yard .mark ++ (byteAt s 2 ∷ byteAt s 3 ∷ getD k 0 0 ∷ getD k 1 0 ∷ cond (hasCount l) (littleEndian 1 m) []))
+      (ranks-are l w s (omega (arith, fine .records .size)))
+      ∙ ap₂ (λ (a b : List ℕ). a ++ (byteAt s 2 ∷ byteAt s 3 ∷ byteAt s 4 ∷ byteAt s 5 ∷ b)) mark count
       ∙ bytes-are
       ∙ sym (window size 0 s (omega (arith, fine .records .size)))
       ∙ ap (λ (k : ℕ). take k s) (sym e)
@@ -118,17 +115,17 @@ module _ (s : List ℕ) (l : Layout) (w : Writable l) (fine : Accepted s l) (byt
   with-count : hasCount l ≡ true → yardBytes l (figuresIn l s .yard) m ≡ take (l .yard .size) s
   unfolding numbersFrom
   with-count e =
-      let at : l .count ≡ 6 = w .counted ∙ ap (λ (b : Bool). cond b yardSize 0) e in
+      let at : l .count ≡ 6 = w .counted ∙ ap (λ (b : Bool). cond b writtenYard 0) e in
       let written : byteAt s 6 ≡ m = ap (byteAt s) (sym at) ∙ counted e in
       let byte : m % 256 ≡ byteAt s 6 = omega (arith, written, fine .yard .few-links) in
       yard-by (byteAt s 6 ∷ []) 7 (ap (λ (b : Bool). cond b (littleEndian 1 m) []) e ∙ ap (λ (x : ℕ). x ∷ []) byte)
-      (w .size ∙ ap (λ (b : Bool). yardSize + cond b 1 0) e) refl
+      (w .size ∙ ap (λ (b : Bool). writtenYard + cond b 1 0) e) refl
 
   -- and without one
   without-count : hasCount l ≡ false → yardBytes l (figuresIn l s .yard) m ≡ take (l .yard .size) s
   unfolding numbersFrom
   without-count e =
-      yard-by [] 6 (ap (λ (b : Bool). cond b (littleEndian 1 m) []) e) (w .size ∙ ap (λ (b : Bool). yardSize + cond b 1 0) e) refl
+      yard-by [] 6 (ap (λ (b : Bool). cond b (littleEndian 1 m) []) e) (w .size ∙ ap (λ (b : Bool). writtenYard + cond b 1 0) e) refl
 
   -- THE THEOREM: its former bytes
   pub survey-former : surveyIn l (figuresIn l s) ≡ s
@@ -137,9 +134,9 @@ module _ (s : List ℕ) (l : Layout) (w : Writable l) (fine : Accepted s l) (byt
       let first = l .yard .size in
       let many : length (figuresIn l s .links) ≡ m = length-map (numbersFrom m 0) (λ i. linkIn s (linkStart l i)) ∙ numbers-length m 0 in
       let start : linkStart l 0 ≡ first = let e = zero-mul (l .link .size) in omega arith in
-      let size : m * l .link .size ≡ m * linkSize = ap (λ (k : ℕ). m * k) (w .link-size) in
-      let room : length (drop first s) ≤ m * linkSize = let e = length-drop first s in omega (arith, fine .records .size) in
+      let size : m * l .link .size ≡ m * writtenLink = ap (λ (k : ℕ). m * k) (w .link-size) in
+      let room : length (drop first s) ≤ m * writtenLink = let e = length-drop first s in omega (arith, fine .records .size) in
       ap₂ (λ (a b : List ℕ). a ++ b)
       (ap (yardBytes l (figuresIn l s .yard)) many ∙ by-test (hasCount l) with-count without-count)
-      (links-former m 0 (omega arith) ∙ ap (λ (k : ℕ). take (m * linkSize) (drop k s)) start ∙ take-all (m * linkSize) (drop first s) room)
+      (links-former m 0 (omega arith) ∙ ap (λ (k : ℕ). take (m * writtenLink) (drop k s)) start ∙ take-all (m * writtenLink) (drop first s) room)
       ∙ take-append-drop first s

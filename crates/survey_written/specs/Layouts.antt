@@ -10,28 +10,37 @@ use borrow.Author.Tests.{eqb-true, ne-eqb, not-false}
 use lib.Dec.{eqb}
 use Rattle.order.specs.Every.{_▸_, done, every}
 use Rattle.order.specs.Test.{clash}
-use Rattle.network.specs.Survey.{hasCount, layoutOf, linkSize, plain, restIn, rowWhere, withCount, withRest, yardSize}
+use Rattle.network.specs.Survey.{hasCount, layoutOf, linkSize, narrowSlots, plain, restIn, rowWhere, triple, withCount, withRest, yardSize}
 use Rattle.network.specs.Layouts.{layout-has, row-has}
 use Rattle.network.specs.Writing.{isOfKind, kindOf, layoutFor, unknownKind, writable}
 use Rattle.network.specs.WritingPromise.{Known}
 use Rattle.network.specs.declared.Layout.{Layout}
 
--- its marks have two bytes; its yard record has the shared fields and then the link count, if it has one, and no stations at rest; and a survey with its
--- mark is read by it
+-- the bytes of a yard record that is written, but for its link count, and of a link record: they have room for two ceilings
+abbrev pub writtenYard : ℕ
+writtenYard = yardSize narrowSlots
+
+abbrev pub writtenLink : ℕ
+writtenLink = linkSize narrowSlots
+
+-- it has room for two ceilings, and needs none; its marks have two bytes; its yard record has the shared fields and then the link count, if it has one, and
+-- no stations at rest; and a survey with its mark is read by it
 pub record Writable (l : Layout) : Type 0 where
+  pub fewest : l .fewest ≡ 0
+  pub slots : l .slots ≡ narrowSlots
   pub marked : length (l .yard .mark) ≡ 2
-  pub size : l .yard .size ≡ yardSize + cond (hasCount l) 1 0
-  pub counted : l .count ≡ cond (hasCount l) yardSize 0
+  pub size : l .yard .size ≡ writtenYard + cond (hasCount l) 1 0
+  pub counted : l .count ≡ cond (hasCount l) writtenYard 0
   pub awake : l .rest ≡ 0
   pub link-marked : length (l .link .mark) ≡ 2
-  pub link-size : l .link .size ≡ linkSize
+  pub link-size : l .link .size ≡ writtenLink
   pub read : layoutOf (l .yard .mark) ≡ l
 
 -- its yard record has at most one byte more than the shared fields
-pub yard-small : {l : Layout} → Writable l → l .yard .size ≤ yardSize + 1
+pub yard-small : {l : Layout} → Writable l → l .yard .size ≤ writtenYard + 1
 yard-small {l} w = go (hasCount l) (w .size)
   where
-    go : (b : Bool) → l .yard .size ≡ yardSize + cond b 1 0 → l .yard .size ≤ yardSize + 1
+    go : (b : Bool) → l .yard .size ≡ writtenYard + cond b 1 0 → l .yard .size ≤ writtenYard + 1
     go true e = omega arith
     go false e = omega arith
 
@@ -42,11 +51,13 @@ none-at-rest l w s = rw (w .awake)
 
 plain-writable : Writable plain
 unfolding layoutOf rowWhere
-plain-writable = record { marked = refl; size = refl; counted = refl; awake = refl; link-marked = refl; link-size = refl; read = refl }
+plain-writable =
+    record { fewest = refl; slots = refl; marked = refl; size = refl; counted = refl; awake = refl; link-marked = refl; link-size = refl; read = refl }
 
 counted-writable : Writable withCount
 unfolding layoutOf rowWhere
-counted-writable = record { marked = refl; size = refl; counted = refl; awake = refl; link-marked = refl; link-size = refl; read = refl }
+counted-writable =
+    record { fewest = refl; slots = refl; marked = refl; size = refl; counted = refl; awake = refl; link-marked = refl; link-size = refl; read = refl }
 
 -- the layout of any kind that is asked for is one of them
 pub writable-for : (kind : ℕ) → Writable (layoutFor kind)
@@ -69,9 +80,13 @@ rested-named : Named withRest
 unfolding unknownKind layoutFor rowWhere
 rested-named e = clash refl e
 
+triple-named : Named triple
+unfolding unknownKind layoutFor rowWhere
+triple-named e = clash refl e
+
 -- the layout of a survey of a kind that is known is the layout of that kind
 pub layout-known : (s : List ℕ) (kind : ℕ) → kindOf (layoutOf s) ≡ kind → unknownKind kind ≡ false → layoutFor kind ≡ layoutOf s
-layout-known s kind e known = rw (← e) (layout-has Named (every Named (plain-named ▸ counted-named ▸ rested-named ▸ done)) s (rw (← e) at known))
+layout-known s kind e known = rw (← e) (layout-has Named (every Named (plain-named ▸ counted-named ▸ rested-named ▸ triple-named ▸ done)) s (rw (← e) at known))
 
 -- the kinds of the table are known,
 pub kind-listed : (kind : ℕ) → Known kind → unknownKind kind ≡ false

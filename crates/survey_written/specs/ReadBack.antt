@@ -12,22 +12,24 @@ use borrow.Author.Tests.{le-ltb, ltb-false, ne-eqb}
 use mir.Syntax.{w16, w32}
 use mir.ValLaws.{toZ-ofZ}
 use Rattle.order.specs.Lists.{numbersFrom}
-use Rattle.network.specs.Limits.{maxCeilings, maxLinks, maxStations}
+use Rattle.network.specs.Limits.{maxLinks, maxStations}
 use Rattle.network.specs.Bytes.{bitsOf, signed}
-use Rattle.network.specs.Survey.{linkCount, linkSize, linkStart}
-use Rattle.network.specs.Accepted.{or-false}
+use Rattle.network.specs.Survey.{costBits, linkCount, linkStart, narrowSlots}
+use Rattle.network.specs.Accepted.{or-false, records-fine}
 use Rattle.network.specs.Checked.{fine-both, firstRefusal, refuse-fine, refuseIf, _orElse_}
-use Rattle.network.specs.Refusals.{badCount, badLength, badRanks, badRest, checkedOf, checkedWith, linkChecked, linkCheckedAt, linksChecked, outside}
-use Rattle.network.specs.Refusals.{yardChecked}
+use Rattle.network.specs.Layouts.{Roomy, layout-roomy}
+use Rattle.network.specs.NetworkFine.{narrow-few}
+use Rattle.network.specs.Refusals.{badCeilings, badCount, badLength, badRanks, badRest, checkedOf, checkedWith, linkChecked, linkCheckedAt, linksChecked}
+use Rattle.network.specs.Refusals.{outside, recordsChecked, yardChecked}
 use Rattle.network.specs.Resting.{all-counted}
 use Rattle.network.specs.Writing.{Figures, Link, figuresChecked, figuresIn, figuresOf, linkFiguresChecked, linkIn, linksFiguresChecked, noLink}
 use Rattle.network.specs.Writing.{surveyIn, yardFiguresChecked}
 use Rattle.network.specs.declared.Checked.{Checked}
 use Rattle.network.specs.declared.Checked.the-variants.{Fine, Refused}
 use Rattle.network.specs.declared.Layout.{Layout}
-use Rattle.survey_written.specs.Layouts.{Writable, none-at-rest}
+use Rattle.survey_written.specs.Layouts.{Writable, none-at-rest, writtenLink}
 use Rattle.survey_written.specs.Columns.{first-agree}
-use Rattle.survey_written.specs.Fields.{Fitting, Met, link-held, survey-layout, survey-length, yard-held}
+use Rattle.survey_written.specs.Fields.{Fitting, Met, costs-are, link-held, survey-layout, survey-length, yard-held}
 
 -- ---- the order of the refusals
 
@@ -65,14 +67,14 @@ module _ (l : Layout) (w : Writable l) (f : Figures) where
   abbrev s : List ℕ
   s = surveyIn l f
 
-  rest : length s - l .yard .size ≡ m * linkSize
+  rest : length s - l .yard .size ≡ m * writtenLink
   rest = let e = survey-length l w f in omega arith
 
   right-length : badLength l (length s) ≡ false
   unfolding badLength
   right-length =
       let room : ltb (length s) (l .yard .size) ≡ false = le-ltb (length s) (l .yard .size) (omega (arith, survey-length l w f)) in
-      let whole : m * linkSize % linkSize ≡ 0 = omega arith in
+      let whole : m * writtenLink % writtenLink ≡ 0 = omega arith in
       rw (room, rest, w .link-size, whole)
 
   link-count : linkCount l s ≡ m
@@ -88,13 +90,17 @@ module _ (l : Layout) (w : Writable l) (f : Figures) where
   some-station : first ≡ Fine → 1 ≤ f .yard .n
   some-station e = ltb-false _ _ (or-false _ _ (refuse-fine _ _ _ (fine-both _ _ e .0)) .0)
 
+  -- no number of ceilings is too small
+  right-ceilings : (p : ℕ) → badCeilings l p ≡ ltb narrowSlots p
+  right-ceilings p = rw (w .fewest, w .slots, le-ltb p 0 (omega arith))
+
   yard-agrees : yardChecked s l m ≡ yardFiguresChecked (f .yard) m
   unfolding yardChecked yardFiguresChecked refuseIf _orElse_
   yard-agrees =
       let held = yard-held l w f in
       let y = f .yard in
-      rw (held .marked, held .stations, held .ceilings, held .rank1, held .rank2, none-at-rest l w s, all-counted (y .n))
-      (ap (λ (c : Checked). c orElse refuseIf (ltb maxCeilings (y .p)) 5 0 orElse refuseIf (badRanks (y .n) (y .p) (y .k1 ∷ y .k2 ∷ [])) 6 0)
+      rw (held .marked, held .stations, held .ceilings, held .ranks, none-at-rest l w s, all-counted (y .n), right-ceilings (y .p))
+      (ap (λ (c : Checked). c orElse refuseIf (ltb narrowSlots (y .p)) 5 0 orElse refuseIf (badRanks (y .n) (y .p) (y .k1 ∷ y .k2 ∷ [])) 6 0)
       (ap (λ (c : Checked). c orElse refuseIf (badRest (y .n) 0) 18 0) (no-more first (badCount s l m) 15 0 (λ e. held .count (few-links e)))
       ∙ no-more first (badRest (y .n) 0) 18 0 (λ e. none-rest (y .n) (some-station e))))
 
@@ -106,24 +112,31 @@ module _ (l : Layout) (w : Writable l) (f : Figures) where
       let x : Link = getD (f .links) i noLink in
       let yard = yard-held l w f in
       let held = link-held l w f i h fits in
-      rw (held .marked, yard .stations, yard .ceilings, held .first, held .second)
-      (rw (held .sum, held .c1, held .c2, toZ-ofZ w32 (x .sum) (fits .sum)))
+      let costs = ap (λ (k : ℕ). costBits k s (linkStart l i)) (w .slots) ∙ costs-are held in
+      rw (held .marked, yard .stations, yard .ceilings, held .first, held .second, costs) (rw (held .sum, toZ-ofZ w32 (x .sum) (fits .sum)))
 
   module _ (met : yardFiguresChecked (f .yard) m ≡ Fine → Met f) where
     -- the reader's verdict on the links, once the yard is not refused
     links-agree : yardFiguresChecked (f .yard) m ≡ Fine → linksChecked s l m ≡ linksFiguresChecked (f .yard) (f .links) m
     links-agree yard = first-agree _ _ m (λ i h so-far. link-agrees i h (met yard .each i h so-far))
 
-    -- the reader's verdict on the survey is that on its figures
-    pub reader-agrees : checkedOf s ≡ figuresChecked f
-    unfolding checkedWith figuresChecked refuseIf _orElse_
-    reader-agrees =
-        rw (survey-layout l w f, right-length, link-count, yard-agrees) (go (yardFiguresChecked (f .yard) m) links-agree)
+    -- the reader's verdict on the records is that on the figures
+    records-agree : recordsChecked l s ≡ figuresChecked f
+    unfolding recordsChecked figuresChecked refuseIf _orElse_
+    records-agree = rw (right-length, link-count, yard-agrees) (go (yardFiguresChecked (f .yard) m) links-agree)
       where
         go : (c : Checked) → (c ≡ Fine → linksChecked s l m ≡ linksFiguresChecked (f .yard) (f .links) m)
             → c orElse linksChecked s l m ≡ c orElse linksFiguresChecked (f .yard) (f .links) m
         go Fine e = e refl
         go (Refused r) e = refl
+
+    -- and so is that on the survey: two ceilings never make too many positions
+    pub reader-agrees : checkedOf s ≡ figuresChecked f
+    unfolding checkedWith
+    reader-agrees =
+        let layout = survey-layout l w f in
+        let roomy : Roomy l = rw (← layout) (layout-roomy s) in
+        rw layout (no-more (recordsChecked l s) _ 19 0 (λ e. narrow-few s l (records-fine s l roomy e) (w .slots)) ∙ records-agree)
 
   module _ (fits : (i : ℕ) → i < m → Fitting (getD (f .links) i noLink)) where
     -- the figures of link record i are read back
@@ -151,7 +164,11 @@ module _ (l : Layout) (w : Writable l) (f : Figures) where
         ap (λ (n : ℕ). map (λ i. linkIn s (linkStart l i)) (numbersFrom n 0)) link-count
         ∙ map-numbers (λ i. linkIn s (linkStart l i)) noLink (f .links) 0 (λ i h. rw (zero-add i) (link-read i h)) in
         ap (λ (k : Layout). figuresIn k s) (survey-layout l w f)
-        ∙ (λ k. record { yard = record { n = yard .stations k; p = yard .ceilings k; k1 = yard .rank1 k; k2 = yard .rank2 k }; links = links k })
+        ∙ (λ k.
+        record {
+          yard = record { n = yard .stations k; p = yard .ceilings k; k1 = getD (yard .ranks k) 0 0; k2 = getD (yard .ranks k) 1 0 };
+          links = links k;
+        })
 
   -- where nothing is refused, all links fit
   pub legal-fit : figuresChecked f ≡ Fine → (yardFiguresChecked (f .yard) m ≡ Fine → Met f) → (i : ℕ) → i < m → Fitting (getD (f .links) i noLink)

@@ -13,13 +13,13 @@ use mir.Syntax.{w16, w32}
 use Rattle.order.specs.Lists.{numbersFrom}
 use Rattle.network.specs.Bytes.{bitsOf, littleEndian}
 use Rattle.network.specs.Limits.{maxLinks}
-use Rattle.network.specs.Survey.{hasCount, linkSize, yardSize}
+use Rattle.network.specs.Survey.{hasCount}
 use Rattle.network.specs.PlanList.{join}
 use Rattle.network.specs.Writing.{Link, figuresFrom, linkBytes, linkFrom, yardBytes}
 use Rattle.network.specs.declared.Layout.{Layout}
 use Rattle.network.specs.declared.YardFigures.{YardFigures}
 use Rattle.encoding_overwrite.specs.Overwrite.{overwrite, overwrite-chain, overwrite-nothing}
-use Rattle.survey_written.specs.Layouts.{Writable}
+use Rattle.survey_written.specs.Layouts.{Writable, writtenLink, writtenYard}
 use Rattle.survey_written.specs.Fields.{length-link}
 
 -- ---- one record
@@ -71,7 +71,7 @@ module _ (l : Layout) (w : Writable l) (y : YardFigures) (m : ℕ) (few : m ≤ 
   unfolding yardBytes
   yard-counted h q =
       let has : hasCount l ≡ true = lt-ltb 0 (l .count) h in
-      let at : l .count ≡ yardSize = w .counted ∙ ap (λ (b : Bool). cond b yardSize 0) has in
+      let at : l .count ≡ writtenYard = w .counted ∙ ap (λ (b : Bool). cond b writtenYard 0) has in
       let size = length-append (l .yard .mark) (y .n ∷ y .p ∷ y .k1 ∷ y .k2 ∷ []) in
       let byte : m ≡ m % 256 = omega arith in
       let fields : List ℕ = y .n ∷ y .p ∷ y .k1 ∷ y .k2 ∷ [] in
@@ -107,7 +107,7 @@ module _ (mark : List ℕ) (ends : List ℕ) (sums costs : List ℤ) where
   unfoldable pub recordsTo : ℕ → List ℕ
   recordsTo i = join (map bytesOf (numbersFrom i 0))
 
-  records-length : length mark ≡ 2 → (i : ℕ) → length (recordsTo i) ≡ i * linkSize
+  records-length : length mark ≡ 2 → (i : ℕ) → length (recordsTo i) ≡ i * writtenLink
   unfolding recordsTo numbersFrom
   records-length two zero = refl
   records-length two (suc i) =
@@ -117,7 +117,7 @@ module _ (mark : List ℕ) (ends : List ℕ) (sums costs : List ℤ) where
       ap length (join-more bytesOf i 0) ∙ omega arith
 
   -- a record written behind the first i
-  pub records-turn : length mark ≡ 2 → (d : List ℕ) (first at i : ℕ) {o o′ : List ℕ} → first ≤ length d → at ≡ first + i * linkSize
+  pub records-turn : length mark ≡ 2 → (d : List ℕ) (first at i : ℕ) {o o′ : List ℕ} → first ≤ length d → at ≡ first + i * writtenLink
       → o ≡ overwrite d first (recordsTo i) → o′ ≡ overwrite o at (bytesOf i) → o′ ≡ overwrite d first (recordsTo (i + 1))
   unfolding recordsTo
   records-turn two d first at i room behind so-far e =

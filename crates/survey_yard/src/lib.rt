@@ -2,7 +2,6 @@
 use encoding_numbers::mark_at;
 use network::Checked;
 use network::Layout;
-use network::limits::MAX_CEILINGS;
 use network::limits::MAX_LINKS;
 use network::limits::MAX_STATIONS;
 use stations::count_working;
@@ -30,7 +29,8 @@ pub fn check_yard(s: &[u8], l: Layout, m: usize) -> Checked
     let n = s[STATIONS];
     let p = s[CEILINGS];
     let miscounted = bad_count(s, l, m);
-    let too_many_ceilings = (MAX_CEILINGS as u8) < p;
+    let slots = l.slots;
+    let other_ceilings = is_outside(p, l.fewest, slots);
     let c2 = refuse_if(!mark_at(s, 0, mark), 2, 0);
     let c3 = or_refuse_if(c2, is_outside(n, 1, MAX_STATIONS as u8), 3, 0);
     let c4 = or_refuse_if(c3, MAX_LINKS < m, 4, 0);
@@ -40,10 +40,10 @@ pub fn check_yard(s: &[u8], l: Layout, m: usize) -> Checked
     let above = working.above;
     let bad_rest = (above != 0) | (count == 0);
     let c18 = or_refuse_if(c15, bad_rest, 18, 0);
-    let c5 = or_refuse_if(c18, too_many_ceilings, 5, 0);
+    let c5 = or_refuse_if(c18, other_ceilings, 5, 0);
     or_refuse_if(
         c5,
-        bad_ranks(count, p, &s[RANKS..RANKS + MAX_CEILINGS]),
+        bad_ranks(count, p, &s[RANKS..RANKS + slots as usize]),
         6,
         0,
     )

@@ -9,7 +9,7 @@ use borrow.Author.Tests.{eqb-true, ltb-false, ltb-true}
 use lib.Dec.{eqb, ltb}
 use lib.IntN.{ℤ, pos}
 use lib.ListN.{drop, getD, length, length-drop, length-take, replicate, set, take}
-use lib.Seq.{getD-take}
+use lib.Seq.{ext-getD, getD-take}
 use Rattle.order.specs.Test.{by-test, left, right}
 use Rattle.order.specs.Lists.{all, getD-mem}
 use Rattle.order.specs.Order.{orderℤ}
@@ -20,10 +20,11 @@ use Rattle.spanning.specs.Tree as tree
 use Rattle.spanning.specs.Rising.{isRisingIn, isRisingIn-iff, rising-range}
 use Rattle.spanning.specs.Listing.{isListed}
 use Rattle.network.specs.Capacities.{ceilingsHeld, linksHeld, raise, sumHeld, treeHeld}
-use Rattle.network.specs.Column.{column, column-at, column-more, column-none, column-past}
+use Rattle.network.specs.Column.{column, column-at, column-length, column-more, column-none, column-past}
 use Rattle.network.specs.Network.{Network}
 use Rattle.network.specs.PlanList.{costsOf}
 use Rattle.network.specs.Shaped.{Plannable, netOf}
+use Rattle.network.specs.Tabulate.{tabulate-at, tabulate-length}
 use Rattle.network.specs.Resting.{working-few}
 use Rattle.network.specs.Yard.{ceilingCosts, ceilingPart, ends, graph, isTree, stations, sumAt, treeSize, treeSum, usable}
 use Rattle.network.specs.declared.Costs.{Costs}
@@ -43,9 +44,7 @@ ceilingsBy shape costs ts = ceilingsTo (shape .m) (shape .k) costs ts (shape .p)
 
 -- the costs of links whose raised sum costs add up to `raised`
 unfoldable pub costsBy : Shape → List ℤ → List ℕ → ℕ → Costs
-costsBy shape costs ts raised =
-    let y = ceilingsBy shape costs ts in
-    record { sum = loweredSum raised (length ts); y1 = getD y 0 (pos 0); y2 = getD y 1 (pos 0) }
+costsBy shape costs ts raised = record { sum = loweredSum raised (length ts); y = ceilingsBy shape costs ts }
 
 -- links that have such costs: known, at most t, with ranks of theirs
 pub record Ceiled (shape : Shape) (costs : List ℤ) (ts : List ℕ) : Type 0 where
@@ -80,6 +79,11 @@ module _ (shape : Shape) (costs : List ℤ) (ts : List ℕ) where
   pub ceilings-end : (i : ℕ) {l : List ℤ} → l ≡ ceilingsTo (shape .m) (shape .k) costs ts i → i ≡ shape .p → l ≡ ceilingsBy shape costs ts
   unfolding ceilingsBy
   ceilings-end i e q = rw (e, q)
+
+  -- one for each ceiling that is held
+  ceilings-full : length (ceilingsBy shape costs ts) ≡ ceilingsHeld
+  unfolding ceilingsBy ceilingsTo
+  ceilings-full = column-length ceilingsHeld (pos 0) _ (shape .p)
 
   -- ceiling i at its turn: its part lies inside, and its rank is one of the links'
   module _ (fine : Ceiled shape costs ts) (i from to : ℕ) (h : i < shape .p) (e : from ≡ i * shape .m) (f : to ≡ from + shape .m) where
@@ -146,12 +150,22 @@ module _ (shape : Shape) (ends sums : List ℕ) (costs : List ℤ) (can : Planna
       f : ℕ → ℤ
       f j = ceilingOf (ceilingPart (shape .m) costs j) (getD (shape .k) j 0) ts
 
+  -- and so all of them
+  ceilings-net : ceilingsBy shape costs ts ≡ costsOf net ts .y
+  ceilings-net =
+      let size = ceilings-full shape costs ts in
+      ext-getD (pos 0) (ceilingsBy shape costs ts) (costsOf net ts .y) (size ∙ sym (tabulate-length at ceilingsHeld))
+      (λ i h. ceiling-at i (omega (arith, size)) ∙ sym (tabulate-at at ceilingsHeld i (omega (arith, size)) (pos 0)))
+    where
+      at : ℕ → ℤ
+      at j = getD (ceilingCosts net ts) j (pos 0)
+
   -- THE LAW: these are the tree's costs
   pub costs-net : costsBy shape costs ts (sumOf sums ts) ≡ costsOf net ts
   unfolding costsBy sumOf loweredSum
   costs-net =
       let s : treeSum net ts ≡ loweredSum (sumOf sums ts) (length ts) = sum-lowered raise (sumAt sums) ts in
-      λ i. record { sum = sym s i; y1 = ceiling-at 0 (omega arith) i; y2 = ceiling-at 1 (omega arith) i }
+      λ i. record { sum = sym s i; y = ceilings-net i }
 
   module _ (links : TreeLinks net ts) where
     -- t links are few

@@ -1,5 +1,5 @@
 // The costs of a list of links: the sum, and for each ceiling the k-th largest cost.
-use network::Costs;
+use network::PlanCosts;
 use network::Shape;
 use network::capacities::CEILINGS_HELD;
 use trees_ceilings::ceiling_cost;
@@ -7,6 +7,7 @@ use trees_sums::lowered;
 use trees_sums::sum_of;
 ghost use mathlib.Core.Path.{_≡_};
 ghost use lib.ListN.{length};
+ghost use Rattle.network.specs.Calls.{apart};
 ghost use Rattle.trees_sums.specs.Added.{sumOf};
 ghost use Rattle.trees_costs.specs.TreeCosts.{Ceiled, Priceable, ceilingsBy, costsBy};
 
@@ -29,22 +30,23 @@ fn ceiling_costs(shape: Shape, costs: &[i16], links: &[u8]) -> [i16; CEILINGS_HE
 }
 
 // The costs of t links, whose raised sum costs add up to `raised`.
-pub fn costs_with(shape: Shape, costs: &[i16], links: &[u8], raised: u32) -> Costs
+pub fn costs_with(shape: Shape, costs: &[i16], links: &[u8], raised: u32) -> PlanCosts
     requires { ⌜ Priceable shape (now costs) (now links) raised ⌝ }
-    ensures { λ r. ⌜ r ≡ costsBy shape (now (costs .entry)) (now (links .entry)) raised ⌝ }
+    ensures { λ r. ⌜ r ≡ apart (costsBy shape (now (costs .entry)) (now (links .entry)) raised) ⌝ }
 {
     let y = ceiling_costs(shape, costs, links);
-    Costs {
+    PlanCosts {
         sum: lowered(raised, links.len()),
         y1: y[0],
         y2: y[1],
+        y3: y[2],
     }
 }
 
 // The costs of t links.
-pub fn tree_costs(shape: Shape, sums: &[u32], costs: &[i16], links: &[u8]) -> Costs
+pub fn tree_costs(shape: Shape, sums: &[u32], costs: &[i16], links: &[u8]) -> PlanCosts
     requires { ⌜ (length (now sums) ≡ shape .m) × Priceable shape (now costs) (now links) (sumOf (now sums) (now links)) ⌝ }
-    ensures { λ r. ⌜ r ≡ costsBy shape (now (costs .entry)) (now (links .entry)) (sumOf (now (sums .entry)) (now (links .entry))) ⌝ }
+    ensures { λ r. ⌜ r ≡ apart (costsBy shape (now (costs .entry)) (now (links .entry)) (sumOf (now (sums .entry)) (now (links .entry)))) ⌝ }
 {
     costs_with(shape, costs, links, sum_of(sums, links))
 }

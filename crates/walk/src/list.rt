@@ -4,10 +4,11 @@ use network::Shape;
 use network::Status;
 use network::capacities::CEILINGS_HELD;
 use network::capacities::LINKS_HELD;
-use network::records::COSTS_SIZE;
 use network::records::HEAD_SIZE;
 use planlist_ending::clear;
 use planlist_ending::finish;
+use planlist_records::plan_size;
+use planlist_records::plan_slots;
 use walk_positions::positions::Walked;
 use walk_positions::positions::visit_all;
 ghost use mathlib.Core.Path.{_≡_};
@@ -20,17 +21,17 @@ ghost use Rattle.network.specs.PlanList.{headSize, planSize, planSlots};
 ghost use Rattle.network.specs.Shaped.{Plannable, netOf};
 ghost use Rattle.walk.specs.Concluded.{concluded};
 
-// What a list buffer needs, by the numbers of positions and of links of a tree.
-fn need(total: usize, t: u8) -> usize
+// What a list buffer needs, by the numbers of positions, of links of a tree and of ceilings.
+fn need(total: usize, t: u8, p: u8) -> usize
     requires { ⌜ total ≤ plansHeld ⌝ }
-    ensures { λ r. ⌜ r ≡ headSize + total * planSize planSlots t ⌝ }
+    ensures { λ r. ⌜ r ≡ headSize + total * planSize (planSlots p) t ⌝ }
 {
-    HEAD_SIZE + total * (COSTS_SIZE + t as usize)
+    HEAD_SIZE + total * plan_size(plan_slots(p), t as usize)
 }
 
 // Clears the buffer where the walk gave up, and finishes the list where it ended; t links make a tree, and p ceilings are present.
 fn conclude(out: &mut [u8], walked: Walked, t: u8, p: u8) -> Status
-    requires { ⌜ (walked .plans ≤ plansHeld) × (headSize + walked .plans * planSize planSlots t ≤ length (now out)) ⌝ }
+    requires { ⌜ (walked .plans ≤ plansHeld) × (headSize + walked .plans * planSize (planSlots p) t ≤ length (now out)) ⌝ }
     ensures { λ r. ⌜ (r ≡ status (refuseIf (walked .spent) 10 0)) × (now (out .exit) ≡ concluded walked t p (now (out .entry))) ⌝ }
 {
     if walked.spent {
@@ -66,7 +67,7 @@ pub fn list_plans(
     let size = costs.len();
     let mut values = [0i16; CEILINGS_HELD * LINKS_HELD];
     let grid = grid_of(shape, ends, costs, &mut values[..size]);
-    if out.len() < need(grid.total, shape.t) {
+    if out.len() < need(grid.total, shape.t, shape.p) {
         return Status {
             number: 9,
             place: 0,

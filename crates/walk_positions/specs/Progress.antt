@@ -6,23 +6,29 @@ use mathlib.Core.Option.{Option, none, some}
 use mathlib.Core.Path.{_≡_, refl, sym, ap, _∙_, subst, subst⁻¹}
 use Prim.Native.Nat.{ℕ, _+_, _*_, _≤_, _<_}
 use native.Mathlib.Omega.{arith}
-use lib.IntN.{ℤ}
+use lib.Dec.{leb}
+use lib.IntN.{ℤ, pos}
 use lib.ListN.{drop, getD, getD-replicate, length, length-append, replicate}
+use borrow.Author.Tests.{leb-true}
+use Rattle.order.specs.Test.{by-test}
 use Rattle.order.specs.Lists.{_∈_, any-snoc}
 use Rattle.frontier.specs.Frontier.{Entry, answers, collect, covered, covers, solve}
 use Rattle.frontier.specs.Plans.{Front, collect-front, collect-member}
 use Rattle.frontier.specs.Walk.{positions-length}
 use Rattle.planning.specs.Grid.{walk-lists}
-use Rattle.network.specs.Yard.{best, graph, treeSize, yard}
+use Rattle.network.specs.Capacities.{ceilingsHeld}
+use Rattle.network.specs.Resting.{working-few}
+use Rattle.network.specs.Survey.{narrowSlots}
+use Rattle.network.specs.Tabulate.{tabulate-length}
+use Rattle.network.specs.Yard.{best, ceilingCosts, graph, treeSize, yard}
 use Rattle.network.specs.Walk.{plans, positionCount, positions, solvedCount, values}
 use Rattle.network.specs.PlanList.{costsOf, headSize, planSize, planSlots}
-use Rattle.network.specs.NetworkFine.{NetworkFine, graph-sound}
+use Rattle.network.specs.NetworkFine.{NetworkFine, graph-sound, slots-few}
 use Rattle.network.specs.Network.{Network}
-use Rattle.planlist_insertion.specs.Stored.{Holds, Padded, absent, costs-padded, holds-inserted, holds-level, holds-none, holds-rise}
+use Rattle.planlist_insertion.specs.Stored.{Holds, Padded, absent, costs-absent, costs-padded, holds-inserted, holds-level, holds-none, holds-rise}
 use Rattle.marking_marks.specs.Unmarked.{nextUnmarked, unmarked-keeps}
-use Rattle.walk_visit.specs.Answered.{recordsIn}
 use Rattle.walk_visit.specs.Visit.{bestAt}
-use Rattle.walk_visit.specs.Visited.{Prepared, Visited, takeRecord}
+use Rattle.walk_visit.specs.Visited.{Prepared, Visited, recordsOf, slotsOf, takeRecord}
 use Rattle.walk_positions.specs.Entries.{answered, collect-more, entries-all, entries-fewer, entries-none}
 use Rattle.walk_positions.specs.Entries.{entries-skip, entries-solve, entriesAt, no-lower, takeAnswer}
 
@@ -49,10 +55,21 @@ bit-one false e = absurd (e refl)
 module _ (net : Network) where
   -- the first `count` records behind the head's place are those of the plans l
   abbrev pub Recorded : ℕ → List ℕ → List (List ℕ) → Type 0
-  Recorded count bs l = Holds (yard net) (costsOf net) (λ ts. ts) (absent net) (planSize planSlots (treeSize net)) count (drop headSize bs) l
+  Recorded count bs l = Holds (yard net) (slotsOf net) (costsOf net) (λ ts. ts) (absent net) (planSize (slotsOf net) (treeSize net)) count (drop headSize bs) l
 
-  padded : NetworkFine net → (ts : List ℕ) → Padded (yard net) (costsOf net) (λ ts. ts) (absent net) ts
-  padded fine ts = costs-padded net ts (omega (arith, fine .rank-count, fine .few-ceilings))
+  padded : NetworkFine net → (ts : List ℕ) → Padded (yard net) (slotsOf net) (costsOf net) (λ ts. ts) (absent net) ts
+  padded fine ts = record {
+    values = costs-padded net ts (omega (arith, fine .rank-count, fine .few-ceilings));
+    held = tabulate-length (λ j. getD (ceilingCosts net ts) j (pos 0)) ceilingsHeld;
+  }
+
+  -- a record has room for each cost of a tree
+  slots-hold : NetworkFine net → net .p ≤ slotsOf net
+  unfolding planSlots
+  slots-hold fine =
+      by-test (leb (net .p) narrowSlots)
+      (λ e. rw e (leb-true (net .p) narrowSlots e))
+      (λ e. rw e (fine .few-ceilings))
 
   -- the marks, the records and the counts when the entries es have been solved
   pub record Reached (es : List (Entry ℤ (List ℕ))) (ms bs : List ℕ) (count done : ℕ) : Type 0 where
@@ -69,7 +86,7 @@ module _ (net : Network) where
       subst (λ (es : List (Entry ℤ (List ℕ))). Reached es (replicate size 0) bs 0 0) (sym (entries-none (yard net)))
       (record {
         marks = λ x g. getD-replicate size x 0 0 (omega arith);
-        records = holds-none (yard net) (costsOf net) (λ ts. ts) (absent net) (planSize planSlots (treeSize net)) (drop headSize bs);
+        records = holds-none (yard net) (slotsOf net) (costsOf net) (λ ts. ts) (absent net) (planSize (slotsOf net) (treeSize net)) (drop headSize bs);
         counted = refl;
       })
 
@@ -79,14 +96,18 @@ module _ (net : Network) where
 
     -- Its plan can be taken in, where there is room. Of two plans found, one that is at most the other fits where the other is best, so its sum is not
     -- the lower one.
-    pub prepared : NetworkFine net → headSize + (count + 1) * planSize planSlots (treeSize net) ≤ length bs → Prepared net n bs count
+    pub prepared : NetworkFine net → headSize + (count + 1) * planSize (slotsOf net) (treeSize net) ≤ length bs → Prepared net n bs count
     prepared fine room = record {
+      few = omega (arith, slots-few (net .p));
+      few-links = omega (arith, fine .few-stations, working-few (net .n) (net .rest));
       room = room;
-      rise = holds-rise (yard net) (costsOf net) (λ ts. ts) (absent net) refl plans (p .records) (front .rising);
+      rise = holds-rise (yard net) (slotsOf net) (costsOf net) (λ ts. ts) (absent net) refl plans (p .records) (front .rising);
       level = λ ts e.
-          holds-level (yard net) (costsOf net) (λ ts. ts) (absent net) refl plans (p .records) ts (padded fine ts)
+          holds-level (yard net) (slotsOf net) (costsOf net) (λ ts. ts) (absent net) refl plans (p .records) ts (padded fine ts)
           (λ s m h. let w = best-at s m in no-lower (yard net) (getD (positions net) n []) (w .0) s ts e (w .1) h)
           (λ s m h. let w = best-at s m in no-lower (yard net) (w .0) (getD (positions net) n []) ts s (w .1) e h);
+      absent = λ ts e j h.
+          costs-absent net ts j (omega (arith, fine .rank-count, fine .few-ceilings)) (omega (arith, fine .rank-count, slots-hold fine));
     }
       where
         found : List (List ℕ)
@@ -138,10 +159,10 @@ module _ (net : Network) where
 
           -- the answer's plan among those recorded
           taken : (o : Option (List ℕ)) → bestAt net n ≡ o
-              → recordsIn (treeSize net) count′ bs′ ≡ takeRecord net o (recordsIn (treeSize net) count bs) → Recorded count′ bs′ (takeAnswer (yard net) o plans)
+              → recordsOf net count′ bs′ ≡ takeRecord net o (recordsOf net count bs) → Recorded count′ bs′ (takeAnswer (yard net) o plans)
           taken none b e = record { records-are = e ∙ p .records .records-are; stored = p .records .stored }
           taken (some ts) b e =
-              holds-inserted (yard net) (costsOf net) (λ ts. ts) (absent net) refl ts plans (p .records)
+              holds-inserted (yard net) (slotsOf net) (costsOf net) (λ ts. ts) (absent net) refl ts plans (p .records)
               (record { writable = v .writable ts b; padded = padded fine ts }) e
 
   -- all marked positions among n from number `at` on are skipped

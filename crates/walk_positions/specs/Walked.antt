@@ -12,6 +12,7 @@ use Rattle.network.specs.Walk.{passes, plans, positionCount, solvedCount}
 use Rattle.network.specs.Yard.{yard}
 use Rattle.network.specs.Network.{Network}
 use Rattle.planlist_insertion.specs.Stored.{absent, holds-count}
+use Rattle.walk_visit.specs.Visited.{slotsOf}
 use Rattle.walk_positions.specs.Progress.{Recorded}
 use Rattle.walk_positions.specs.declared.positions.Walked.{Walked}
 
@@ -48,7 +49,7 @@ module _ (net : Network) {allowance : ℕ} {bs : List ℕ} {count done : ℕ} (f
       record {
         gives-up = sym (le-ltb allowance (solvedCount net) (omega arith));
         within = within;
-        ended = λ f. (counted, holds-count (yard net) (costsOf net) (λ ts. ts) (absent net) (r .1), r .1);
+        ended = λ f. (counted, holds-count (yard net) (slotsOf net) (costsOf net) (λ ts. ts) (absent net) (r .1), r .1);
         gave-up = λ f. clash f refl;
         few = few;
       }

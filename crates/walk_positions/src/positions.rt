@@ -6,6 +6,7 @@ use network::Shape;
 use network::capacities::CEILINGS_HELD;
 use network::capacities::PLANS_HELD;
 use network::capacities::TREE_HELD;
+use planlist_records::plan_slots;
 use solver::question::solve;
 use walk_visit::visit::put_position;
 use walk_visit::visit::settle;
@@ -53,6 +54,7 @@ pub fn visit_all(
 {
     let p = shape.p as usize;
     let t = shape.t as usize;
+    let slots = plan_slots(shape.p);
     let total = grid.total;
     let usable = order_usable(shape.rest, ends, sums);
     let order = usable.link;
@@ -79,7 +81,7 @@ pub fn visit_all(
             &mut tree,
         );
         settle(&mut marks, n, shape, values, grid, &places[..p], answer);
-        plans = take_in(out, plans, answer, &tree[..t]);
+        plans = take_in(out, plans, slots, answer, &tree[..t]);
         solved += 1;
         n = next_unmarked(&marks, n + 1, total);
     }

@@ -20,6 +20,9 @@ use Rattle.planning.specs.Grid.{all-fall, on-grid}
 use Rattle.network.specs.Yard.{best, ceilingCosts, graph, usableAt, yard}
 use Rattle.network.specs.Walk.{positionCount, positions, values}
 use Rattle.network.specs.PlanList.{costsOf}
+use Rattle.network.specs.Calls.{apart}
+use Rattle.network.specs.Meaning.{together-apart}
+use Rattle.network.specs.declared.Costs.{Costs}
 use Rattle.network.specs.NetworkFine.{NetworkFine, graph-sound}
 use Rattle.network.specs.Network.{Network}
 use Rattle.network.specs.Shaped.{Plannable, netOf}
@@ -162,10 +165,11 @@ module _ {shape : Shape} {ends sums : List ℕ} {costs array : List ℤ} {grid :
         sound = graph-sound net fine
 
         -- a plan holds the costs of the ceilings that there are
-        own-costs : (ts : List ℕ) → bestAt net n ≡ some ts → take (shape .p) (planCosts (costsOf net ts)) ≡ ceilingCosts net ts
+        own-costs : (ts : List ℕ) → bestAt net n ≡ some ts → take (shape .p) (planCosts (apart (costsOf net ts))) ≡ ceilingCosts net ts
         own-costs ts e =
             let few = fine .few-ceilings in
-            ap (λ (v : List ℤ). take (shape .p) (drop 1 v)) (costs-padded net ts (omega (arith, fine .rank-count)))
+            ap (λ (v : Costs). take (shape .p) (v .y)) (together-apart net ts)
+            ∙ ap (λ (v : List ℤ). take (shape .p) (drop 1 v)) (costs-padded net ts (omega (arith, fine .rank-count)))
             ∙ take-at (ceilingCosts net ts) (absent net) (shape .p) (picks-length (own-picks net sound n h ts e) ∙ ceiling-count)
 
         -- the sides of its box

@@ -4,11 +4,14 @@ use marking_grid::put_places;
 use marking_marks::mark::mark_box;
 use marking_values::place::place_of;
 use network::Answer;
+use network::Costs;
+use network::PlanCosts;
 use network::Shape;
 use network::capacities::CEILINGS_HELD;
 use planlist_insertion::insert_plan;
 ghost use mathlib.Core.Path.{_≡_};
 ghost use lib.ListN.{length};
+ghost use Rattle.network.specs.Calls.{together};
 ghost use Rattle.walk_visit.specs.Found.{Parted, Placed, Within, boundsAt, lastSides, ownSides};
 ghost use Rattle.walk_visit.specs.Position.{Locatable, placesAt};
 ghost use Rattle.walk_visit.specs.Answered.{Reaches, Taken, Takes, settledBy};
@@ -75,6 +78,16 @@ fn put_own_sides(
     }
 }
 
+// The costs of a plan, with its ceiling costs in an array.
+fn costs_of(plan: PlanCosts) -> Costs
+    ensures { λ r. ⌜ r ≡ together plan ⌝ }
+{
+    Costs {
+        sum: plan.sum,
+        y: [plan.y1, plan.y2, plan.y3],
+    }
+}
+
 // Marks the positions that the answer at position n settles.
 pub fn settle(
     marks: &mut [u8],
@@ -92,12 +105,13 @@ pub fn settle(
     let counts = grid.counts;
     let strides = grid.strides;
     let mut sides = [0usize; CEILINGS_HELD];
-    let Answer::Plan(costs) = answer else {
+    let Answer::Plan(plan) = answer else {
         put_last_sides(&counts[..p], places, &mut sides[..p]);
         mark_box(marks, n, &strides[..p], &sides[..p]);
         return;
     };
-    let y = [costs.y1, costs.y2];
+    let v = costs_of(plan);
+    let y = v.y;
     put_own_sides(
         values,
         shape.m,
@@ -110,12 +124,12 @@ pub fn settle(
 }
 
 // Takes the plan of an answer, if it is one, into the frontier; returns the new number of plans.
-pub fn take_in(out: &mut [u8], count: usize, answer: Answer, links: &[u8]) -> usize
-    requires { ⌜ Takes answer (now links) count (now out) ⌝ }
-    ensures { λ r. ⌜ Taken answer (now (links .entry)) count r (now (out .entry)) (now (out .exit)) ⌝ }
+pub fn take_in(out: &mut [u8], count: usize, slots: usize, answer: Answer, links: &[u8]) -> usize
+    requires { ⌜ Takes slots answer (now links) count (now out) ⌝ }
+    ensures { λ r. ⌜ Taken slots answer (now (links .entry)) count r (now (out .entry)) (now (out .exit)) ⌝ }
 {
-    let Answer::Plan(costs) = answer else {
+    let Answer::Plan(plan) = answer else {
         return count;
     };
-    insert_plan(out, count, costs, links)
+    insert_plan(out, count, slots, costs_of(plan), links)
 }

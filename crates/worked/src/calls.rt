@@ -49,8 +49,8 @@ fn fetch(plans: &mut [u8], i: u32, x: u32) {
 }
 
 // The ceilings question, and the tree buffer after it.
-fn ask(survey: &[u8], b1: u32, b2: u32, tree: &mut [u8]) {
-    answer(best(survey, cost(b1), cost(b2), tree));
+fn ask(survey: &[u8], b1: u32, b2: u32, b3: u32, tree: &mut [u8]) {
+    answer(best(survey, [cost(b1), cost(b2), cost(b3)], tree));
     row(b" tree", tree);
 }
 
@@ -67,7 +67,7 @@ fn plans(survey: &[u8], word: u8, a: u32, i: u32, x: u32, buffer: &mut [u8]) {
 // A call that fills a buffer.
 fn fill(survey: &[u8], word: u8, a: u32, b: u32, c: u32, buffer: &mut [u8]) {
     if word == b'a' {
-        ask(survey, a, b, buffer);
+        ask(survey, a, b, c, buffer);
     } else {
         plans(survey, word, a, b, c, buffer);
     }

@@ -5,7 +5,10 @@
 //     yard N P K1 K2          a survey begins with this yard record
 //     tally N P K1 K2 COUNT   a survey begins with this yard record, which has a link count
 //     quiet N P K1 K2 COUNT R a survey begins with this yard record, which has a link count and rest bytes: bit J of R is 1 where station J rests
+//     broad N P K1 K2 K3 COUNT R
+//                             a survey begins with this yard record, which is that of three ceilings
 //     link A B S C1 C2        one link record more
+//     edge A B S C1 C2 C3     one link record more with three ceiling costs
 //     set I X                 byte I is X
 //     cut L                   the survey has L bytes
 //
@@ -13,12 +16,13 @@
 //
 //     head COUNT SOLVED T P   a list begins with this head
 //     row S Y1 Y2 LINK        one plan record more, with one link
+//     detail S Y1 Y2 Y3 LINK  one plan record more with three ceiling costs, with one link
 //     walk ALLOWANCE          the list call's list of the survey, with 656 bytes
 //
 // And these print what stands before their colon, and what a call replies on that survey or list:
 //
 //     judge LINKS             the judge, with these links drawn
-//     ask L B1 B2             the ceilings question, and the tree buffer of L bytes after it
+//     ask L B1 B2 B3          the ceilings question, and the tree buffer of L bytes after it
 //     plans L ALLOWANCE       the list call, and the list buffer of L bytes after it
 //     fetch L ALLOWANCE I X   the list call, and the plans 0, 1, 2 and 4,294,967,295 of its list with byte I as X
 //     index L                 building the list's index, and the index buffer of L bytes after it
@@ -54,9 +58,12 @@ fn obey(yard: Yard, line: Line, byte: u8) -> Yard {
         b'y' => Yard::begin(numbers),
         b't' => Yard::begin_counted(numbers),
         b'q' => Yard::begin_resting(numbers),
+        b'b' => Yard::begin_wide(numbers),
         b'l' => yard.link(numbers),
+        b'e' => yard.wide_link(numbers),
         b'h' => Yard::begin_list(numbers),
         b'r' => yard.plan(numbers),
+        b'd' => yard.wide_plan(numbers),
         b'w' => yard.walk(numbers),
         b's' => yard.set(numbers),
         b'c' => yard.cut(numbers),

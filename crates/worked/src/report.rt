@@ -6,21 +6,23 @@ use console::signed16;
 use console::signed32;
 use console::text;
 use network::Answer;
-use network::Costs;
 use network::Found;
+use network::PlanCosts;
 use network::Status;
 
-// A space and a ceiling cost.
-fn ceiling(y: i16) {
-    text(b" ");
-    signed16(y);
+// Each ceiling cost after a space.
+fn ceilings(y: &[i16]) {
+    for i in 0..y.len() {
+        text(b" ");
+        signed16(y[i]);
+    }
 }
 
-// The sum, y1 and y2.
-fn costs(v: Costs) {
+// The sum, and all ceiling costs, absent ones as well.
+fn costs(v: PlanCosts) {
+    let y = [v.y1, v.y2, v.y3];
     signed32(v.sum);
-    ceiling(v.y1);
-    ceiling(v.y2);
+    ceilings(&y);
 }
 
 // A plan's number.

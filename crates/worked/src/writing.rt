@@ -9,9 +9,11 @@ use encoding_signed::read_i16;
 use encoding_signed::read_i32;
 use network::YardFigures;
 use network::limits::MAX_LINKS;
-use network::records::LINK_SIZE;
+use network::records::LINK_FIELDS;
+use network::records::NARROW_SLOTS;
 use network::records::REST_SIZE;
-use network::records::YARD_SIZE;
+use network::records::WIDE_SLOTS;
+use network::records::YARD_FIELDS;
 use planner::write_survey;
 use std::num::wrapping_add_usize;
 
@@ -20,6 +22,9 @@ const LINKS: usize = MAX_LINKS + 1;
 
 // More bytes than a survey of as many links as there may be.
 const ROOM: usize = 16 * LINKS;
+
+// Bytes of a link record with two ceiling costs.
+const LINK_SIZE: usize = LINK_FIELDS + 2 * NARROW_SLOTS;
 
 // The figures of links by column; past the last link they are 0.
 struct Columns {
@@ -59,12 +64,22 @@ fn yard_of(survey: &[u8]) -> YardFigures {
     }
 }
 
-// Where the link records begin, by the second byte of the mark.
+// How many ceilings the records of a survey have room for, by the second byte of the mark.
+fn slots(mark: u8) -> u8 {
+    if mark == 0x47 {
+        WIDE_SLOTS as u8
+    } else {
+        NARROW_SLOTS as u8
+    }
+}
+
+// Where the link records begin, by the same byte.
 fn first_link(mark: u8) -> usize {
     match mark {
-        0x45 => YARD_SIZE + 1,
-        0x46 => YARD_SIZE + 1 + REST_SIZE,
-        _ => YARD_SIZE,
+        0x45 => YARD_FIELDS + NARROW_SLOTS + 1,
+        0x46 => YARD_FIELDS + NARROW_SLOTS + 1 + REST_SIZE,
+        0x47 => YARD_FIELDS + WIDE_SLOTS + 1 + REST_SIZE,
+        _ => YARD_FIELDS + NARROW_SLOTS,
     }
 }
 
@@ -73,15 +88,18 @@ fn records(survey: &[u8]) -> &[u8] {
     part(survey, first_link(byte(survey, 1)), survey.len())
 }
 
-// The figures of all link records.
-fn columns_of(records: &[u8]) -> Columns {
+// The figures of all link records, which have so many bytes each.
+fn columns_of(records: &[u8], size: usize) -> Columns {
     let mut columns = Columns {
         ends: [0; 2 * LINKS],
         sums: [0; LINKS],
         costs: [0; 2 * LINKS],
     };
+    let mut at = 0;
     for e in 0..LINKS {
-        columns = columns.link(e, part(records, LINK_SIZE * e, LINK_SIZE * (e + 1)));
+        let next = wrapping_add_usize(at, size);
+        columns = columns.link(e, part(records, at, next));
+        at = next;
     }
     columns
 }
@@ -114,8 +132,9 @@ fn entries(line: Line, i: usize, m: usize) -> usize {
 fn write(survey: &[u8], line: Line, output: &mut [u8]) {
     let ns = line.numbers;
     let links = records(survey);
-    let m = links.len() / LINK_SIZE;
-    let columns = columns_of(links);
+    let size = LINK_FIELDS + 2 * (slots(byte(survey, 1)) as usize);
+    let m = links.len() / size;
+    let columns = columns_of(links, size);
     let ends = columns.ends;
     let sums = columns.sums;
     let costs = columns.costs;

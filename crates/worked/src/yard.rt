@@ -18,28 +18,40 @@ const COUNTED_MARK: u32 = 0x4559;
 
 const RESTING_MARK: u32 = 0x4659;
 
+const WIDE_MARK: u32 = 0x4759;
+
 const LINK_MARK: u32 = 0x4B4C;
+
+const WIDE_LINK_MARK: u32 = 0x4D4C;
 
 pub const HEAD_MARK: u32 = 0x4850;
 
 pub const PLAN_MARK: u32 = 0x4C50;
 
+pub const WIDE_PLAN_MARK: u32 = 0x4D50;
+
 // How many numbers a record has at most.
-const FIELDS: usize = 6;
+const FIELDS: usize = 7;
 
-// How many bytes each number of a yard record takes, of one with a link count, of one with rest bytes as well, of a link record, of a list's head, and of
-// a plan record with one link.
-const YARD_SIZES: [u8; FIELDS] = [1, 1, 1, 1, 0, 0];
+// How many bytes each number of a yard record takes, of one with a link count, of one with rest bytes as well, of one with three ranks, of a link record,
+// of one with three ceiling costs, of a list's head, of a plan record with one link, and of one with three ceiling costs.
+const YARD_SIZES: [u8; FIELDS] = [1, 1, 1, 1, 0, 0, 0];
 
-const COUNTED_SIZES: [u8; FIELDS] = [1, 1, 1, 1, 1, 0];
+const COUNTED_SIZES: [u8; FIELDS] = [1, 1, 1, 1, 1, 0, 0];
 
-const RESTING_SIZES: [u8; FIELDS] = [1, 1, 1, 1, 1, 3];
+const RESTING_SIZES: [u8; FIELDS] = [1, 1, 1, 1, 1, 3, 0];
 
-const LINK_SIZES: [u8; FIELDS] = [1, 1, 4, 2, 2, 0];
+const WIDE_SIZES: [u8; FIELDS] = [1, 1, 1, 1, 1, 1, 3];
 
-const HEAD_SIZES: [u8; FIELDS] = [2, 4, 1, 1, 0, 0];
+const LINK_SIZES: [u8; FIELDS] = [1, 1, 4, 2, 2, 0, 0];
 
-const PLAN_SIZES: [u8; FIELDS] = [4, 2, 2, 1, 0, 0];
+const WIDE_LINK_SIZES: [u8; FIELDS] = [1, 1, 4, 2, 2, 2, 0];
+
+const HEAD_SIZES: [u8; FIELDS] = [2, 4, 1, 1, 0, 0, 0];
+
+const PLAN_SIZES: [u8; FIELDS] = [4, 2, 2, 1, 0, 0, 0];
+
+const WIDE_PLAN_SIZES: [u8; FIELDS] = [4, 2, 2, 2, 1, 0, 0];
 
 // The bytes of a survey or list, of which the first `len` count.
 pub struct Yard {
@@ -93,9 +105,19 @@ impl Yard {
         Yard::new().record(RESTING_MARK, RESTING_SIZES, numbers)
     }
 
+    // A yard record of three ceilings alone.
+    pub fn begin_wide(numbers: [u32; NUMBERS]) -> Yard {
+        Yard::new().record(WIDE_MARK, WIDE_SIZES, numbers)
+    }
+
     // A link record more.
     pub fn link(self, numbers: [u32; NUMBERS]) -> Yard {
         self.record(LINK_MARK, LINK_SIZES, numbers)
+    }
+
+    // A link record with three ceiling costs more.
+    pub fn wide_link(self, numbers: [u32; NUMBERS]) -> Yard {
+        self.record(WIDE_LINK_MARK, WIDE_LINK_SIZES, numbers)
     }
 
     // A list's head alone.
@@ -106,6 +128,11 @@ impl Yard {
     // A plan record more.
     pub fn plan(self, numbers: [u32; NUMBERS]) -> Yard {
         self.record(PLAN_MARK, PLAN_SIZES, numbers)
+    }
+
+    // A plan record with three ceiling costs more.
+    pub fn wide_plan(self, numbers: [u32; NUMBERS]) -> Yard {
+        self.record(WIDE_PLAN_MARK, WIDE_PLAN_SIZES, numbers)
     }
 
     // The list of its survey in all the room, under an allowance.

@@ -19,7 +19,7 @@ returns : tie.Need-returns
 unfolding flatReply
 returns c =
     let s = c .before .before .before .before .before .before .before in
-    let e = rw (toZ-ofZ (s .fits .b1), toZ-ofZ (s .fits .b2)) at (c .before .before .before .best .ensures) in
+    let e = rw (toZ-ofZ (s .fits .b1), toZ-ofZ (s .fits .b2), toZ-ofZ (s .fits .b3)) at (c .before .before .before .best .ensures) in
     (c .flat .ensures ∙ ap flatReply (e .0), (e .1 .0, rw (c .flat .ensures) (e .1 .1)))
 
 pub ranqustei-best-spec : {M : Type 1} → statement M

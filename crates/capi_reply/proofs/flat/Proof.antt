@@ -19,7 +19,8 @@ returns c =
     let sum = toZ-ofZ {w = w32} {z = v .sum} (record { sfits = c .struct-told .given .0 .1 }) in
     let y1 = toZ-ofZ {w = w16} {z = v .y1} (record { sfits = c .struct-told .given .1 .0 .1 }) in
     let y2 = toZ-ofZ {w = w16} {z = v .y2} (record { sfits = c .struct-told .given .1 .1 .0 .1 }) in
-    (λ i. record { number = 0; place = 0; sum = sum i; y1 = y1 i; y2 = y2 i })
+    let y3 = toZ-ofZ {w = w16} {z = v .y3} (record { sfits = c .struct-told .given .1 .1 .1 .0 .1 }) in
+    (λ i. record { number = 0; place = 0; sum = sum i; y1 = y1 i; y2 = y2 i; y3 = y3 i })
     ∙ flat-plan _ v (c .before .before .answer .given .1)
 
 returns-2 : tie.Need-returns-2

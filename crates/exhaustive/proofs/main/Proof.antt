@@ -4,10 +4,10 @@ use Rattle.exhaustive.proofs.main.Statement.{statement}
 use Rattle.exhaustive.proofs.main.Tie as tie
 
 abbrev Inv-loop : tie.InvT-loop
-Inv-loop x₀ tally₀ i₀ x tally i = i ≤ 620
+Inv-loop x₀ tally₀ i₀ x tally i = i ≤ 1180
 
 abbrev μ-loop : tie.MeasureT-loop
-μ-loop x₀ tally₀ i₀ x tally i = 620 - i
+μ-loop x₀ tally₀ i₀ x tally i = 1180 - i
 
 new-requires : tie.Need-new-requires Inv-loop μ-loop
 new-requires c κs = search needs

@@ -37,6 +37,9 @@ raised16-requires c κs = search needs
 add-read-u16-2 : tie.Need-add-read-u16-2
 add-read-u16-2 c = search needs
 
+add-read-u16-3 : tie.Need-add-read-u16-3
+add-read-u16-3 c = search needs
+
 read-u16-requires-2 : tie.Need-read-u16-requires-2
 read-u16-requires-2 c κs = search needs
 
@@ -70,6 +73,7 @@ key-at-spec =
     read-u16-requires
     raised16-requires
     add-read-u16-2
+    add-read-u16-3
     read-u16-requires-2
     raised16-requires-2
     packed-requires-2

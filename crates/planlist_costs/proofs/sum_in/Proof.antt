@@ -2,7 +2,6 @@
 use mathlib.Core.Path.{_∙_}
 use mir.Syntax.{w32}
 use mir.ValLaws.{toZ-ofZ}
-use Rattle.network.specs.PlanList.{costsAt}
 use borrow.Author.Needs.{needs}
 use Rattle.planlist_costs.proofs.sum_in.Statement.{statement}
 use Rattle.planlist_costs.proofs.sum_in.Tie as tie
@@ -14,7 +13,6 @@ read-i32-requires : tie.Need-read-i32-requires
 read-i32-requires c κs = search needs
 
 returns : tie.Need-returns
-unfolding costsAt
 returns c = toZ-ofZ w32 (c .read-i32 .result) (search needs) ∙ c .read-i32 .ensures
 
 pub sum-in-spec : {M : Type 1} → statement M

@@ -15,17 +15,24 @@ use Rattle.planlist_ending.proofs.finish.Tie as tie
 
 -- the start, from where the size of a record is known
 abbrev entry : tie.After-plan-size → tie.Start
-entry c = c .before .before .before .before .before .before .before
+entry c = c .before .before .before .before .before .before .before .before
 
 -- the bytes of the plans
-plans-size : (c : tie.After-plan-size) → entry c .args .count * c .plan-size .result ≡ entry c .args .count * planSize planSlots (entry c .args .t)
-plans-size c = ap (λ (k : ℕ). entry c .args .count * k) (c .plan-size .ensures)
+plans-size : (c : tie.After-plan-size)
+    → let a = entry c .args in
+    a .count * c .plan-size .result ≡ a .count * planSize (planSlots (a .p)) (a .t)
+plans-size c =
+    let a = entry c .args in
+    ap (λ (k : ℕ). a .count * k) (c .plan-size .ensures ∙ ap (λ (slots : ℕ). planSize slots (a .t)) (c .before .plan-slots .ensures .0))
 
 cast-write-head : tie.Need-cast-write-head
 cast-write-head c = search needs
 
 write-head-requires : tie.Need-write-head-requires
 write-head-requires c κs = search needs
+
+plan-slots-requires : tie.Need-plan-slots-requires
+plan-slots-requires c κs = search needs
 
 plan-size-requires : tie.Need-plan-size-requires
 plan-size-requires c κs = search needs
@@ -37,7 +44,7 @@ add-clear-from : tie.Need-add-clear-from
 add-clear-from c = omega (arith, plans-size c, entry c .pre, entry c .good)
 
 clear-from-requires : tie.Need-clear-from-requires
-clear-from-requires c κs = omega (arith, plans-size c, entry c .pre, c .before .before .before .before .write-head .kept .0)
+clear-from-requires c κs = omega (arith, plans-size c, entry c .pre, c .before .before .before .before .before .write-head .kept .0)
 
 same-length : tie.Need-same-length
 same-length c = search needs
@@ -48,9 +55,9 @@ returns c =
     let sized = c .before .before .before in
     let a = entry sized .args in
     let d = now (a .out) in
-    let n = a .count * planSize planSlots (a .t) in
+    let n = a .count * planSize (planSlots (a .p)) (a .t) in
     let head = headBytes (a .count) (a .solved) (a .t) (a .p) in
-    let headed = sized .before .before .before .before .write-head in
+    let headed = sized .before .before .before .before .before .write-head in
     let end = ap (λ (k : ℕ). headSize + k) (plans-size sized) in
     c .before .before .clear-from .ensures
     ∙ ap₂ (λ (k : ℕ) (o : List ℕ). take k o ++ replicate (length o - k) 0) end (headed .ensures)
@@ -65,6 +72,7 @@ finish-spec =
     (tie.spec
     cast-write-head
     write-head-requires
+    plan-slots-requires
     plan-size-requires
     mul-clear-from
     add-clear-from

@@ -1,12 +1,12 @@
 -- `planlist_finding::fetch_number` meets its contract. Each return by the tests that lead to it.
-use mathlib.Core.Path.{_≡_, sym, ap, _∙_}
+use mathlib.Core.Path.{_≡_, sym, ap, ap₂, _∙_}
 use mathlib.Core.Bool.{Bool, cond, false}
-use Prim.Native.Nat.{ℕ, _<_}
+use Prim.Native.Nat.{_<_}
 use native.Mathlib.Omega.{arith}
 use denote.Ref.{now}
 use Rattle.network.specs.Bytes.{markAt}
 use Rattle.network.specs.PlanList.{planMark}
-use Rattle.network.specs.Fetching.{damaged, fetchNumber, headCount}
+use Rattle.network.specs.Fetching.{damaged, fetchNumber, headCount, headSlots}
 use Rattle.planlist_finding.specs.Found.{whole, number-damaged, number-none, number-marked}
 use borrow.Author.Needs.{needs}
 use Rattle.planlist_finding.proofs.fetch_number.Statement.{statement}
@@ -33,18 +33,32 @@ cast-if2 c = search needs
 plan-start-requires : tie.Need-plan-start-requires
 plan-start-requires c κs = (intact (c .before .before), omega (arith, c .if2 .taken, c .before .read-u16 .ensures))
 
+shared-slice-read-plan-slots : tie.Need-shared-slice-read-plan-slots
+shared-slice-read-plan-slots c =
+    let else = c .before .before .before .before in
+    omega (arith, whole (now (else .before .before .before .args .list)) (intact else) .long)
+
+plan-slots-requires : tie.Need-plan-slots-requires
+plan-slots-requires c κs = search needs
+
+plan-mark-requires : tie.Need-plan-mark-requires
+plan-mark-requires c κs = search needs
+
 mark-at-requires : tie.Need-mark-at-requires
 mark-at-requires c κs = search needs
 
 -- the number of a plan below the count, by whether its mark is there
 marked : (c : tie.After-mark-at) → {b : Bool} → c .mark-at .result ≡ b
-    → let a = c .before .before .before .before .before .before .before .args in fetchNumber (now (a .list)) (a .r) ≡ cond b 0 12
+    → let a = c .before .before .before .before .before .before .before .before .before .before .args in fetchNumber (now (a .list)) (a .r) ≡ cond b 0 12
 marked c e =
-    let then = c .before .before in
+    let then = c .before .before .before .before .before in
     let a = then .before .before .before .before .before .args in
-    let below : a .r < headCount (now (a .list)) = omega (arith, then .if2 .taken, then .before .read-u16 .ensures) in
-    let mark = ap (λ (k : ℕ). markAt (now (a .list)) k planMark) (sym (c .before .plan-start .ensures .0)) ∙ sym (c .mark-at .ensures) ∙ e in
-    number-marked (now (a .list)) (a .r) (intact (then .before .before)) below mark
+    let list = now (a .list) in
+    let below : a .r < headCount list = omega (arith, then .if2 .taken, then .before .read-u16 .ensures) in
+    let mark : c .before .plan-mark .result ≡ planMark (headSlots list) =
+    c .before .plan-mark .ensures ∙ ap planMark (c .before .before .plan-slots .ensures .0) in
+    let there = ap₂ (markAt list) (sym (c .before .before .before .before .plan-start .ensures .0)) (sym mark) ∙ sym (c .mark-at .ensures) ∙ e in
+    number-marked list (a .r) (intact (then .before .before)) below there
 
 returns-2 : tie.Need-returns-2
 returns-2 c = sym (marked (c .before) (c .if3 .taken))
@@ -66,6 +80,9 @@ fetch-number-spec =
     read-u16-requires
     cast-if2
     plan-start-requires
+    shared-slice-read-plan-slots
+    plan-slots-requires
+    plan-mark-requires
     mark-at-requires
     returns-2
     returns-3

@@ -1,29 +1,27 @@
 -- `planlist_finding::is_damaged` meets its contract. Each test of the code is one of the definition.
-use mathlib.Core.Path.{sym}
+use mathlib.Core.Path.{sym, ap, _∙_}
 use Prim.Native.Nat.{ℕ, _*_, _≤_, _<_}
 use native.Mathlib.Nat.{mul-le-mul}
 use native.Mathlib.Omega.{arith}
 use denote.Ref.{now}
-use Rattle.network.specs.PlanList.{planSize, planSlots}
+use Rattle.network.specs.PlanList.{planSize}
+use Rattle.network.specs.Survey.{wideSlots}
 use Rattle.network.specs.Fetching.{headTreeSize}
 use Rattle.planlist_finding.specs.Found.{damaged-short, damaged-by}
 use borrow.Author.Needs.{needs}
 use Rattle.planlist_finding.proofs.is_damaged.Statement.{statement}
 use Rattle.planlist_finding.proofs.is_damaged.Tie as tie
 
--- a count of two bytes times the size of a record, by a tree size of one byte
-product : (count t : ℕ) → count < 65536 → t < 256 → count * planSize planSlots t ≤ 65535 * planSize planSlots 255
-product count t h k =
-    let few : count ≤ 65535 = omega arith in
-    let short : planSize planSlots t ≤ planSize planSlots 255 = omega arith in
-    mul-le-mul few short
+-- the tree size is one byte
+byte : (c : tie.After-plan-slots) → headTreeSize (now (c .before .before .before .before .before .before .args .list)) < 256
+byte c = omega (arith, c .before .shared-slice-known3 .given 8)
 
--- the bytes of the plans, as the head has them
-plans-size : (c : tie.After-plan-size) → c .before .before .before .read-u16 .result * c .plan-size .result ≤ 65535 * planSize planSlots 255
+-- the bytes of the plans, as the head has them: a count of two bytes times the size of a record
+plans-size : (c : tie.After-plan-size) → c .before .before .before .before .read-u16 .result * c .plan-size .result ≤ 65535 * planSize wideSlots 255
 plans-size c =
-    let t = headTreeSize (now (c .before .before .before .before .before .before .args .list)) in
-    let short : t < 256 = omega (arith, c .before .shared-slice-known3 .given 8) in
-    rw (c .plan-size .ensures) (product (c .before .before .before .read-u16 .result) t (search needs) short)
+    let count : c .before .before .before .before .read-u16 .result ≤ 65535 = search needs in
+    let size : c .plan-size .result ≤ planSize wideSlots 255 = omega (arith, c .plan-size .ensures, c .before .plan-slots .ensures .1, byte (c .before)) in
+    mul-le-mul count size
 
 returns : tie.Need-returns
 returns c = sym (damaged-short (now (c .before .before .args .list)) (c .if1 .taken))
@@ -40,8 +38,14 @@ shared-slice-read-t c = search needs
 shared-slice-read-p : tie.Need-shared-slice-read-p
 shared-slice-read-p c = search needs
 
+plan-slots-requires : tie.Need-plan-slots-requires
+plan-slots-requires c κs = search needs
+
+cast-plan-size : tie.Need-cast-plan-size
+cast-plan-size c = omega (arith, byte c)
+
 plan-size-requires : tie.Need-plan-size-requires
-plan-size-requires c κs = search needs
+plan-size-requires c κs = (c .plan-slots .ensures .1, byte c)
 
 mul-need : tie.Need-mul-need
 mul-need c = omega (arith, plans-size c)
@@ -60,9 +64,11 @@ cast-result-2 c = search needs
 
 returns-2 : tie.Need-returns-2
 returns-2 c =
-    let long = c .before .before .before .before .before in
-    let count = c .before .before .before .before .read-u16 in
-    damaged-by (now (long .before .before .args .list)) (long .if1 .left) (c .mark-at .ensures) (count .ensures) (c .before .plan-size .ensures)
+    let long = c .before .before .before .before .before .before in
+    let list = now (long .before .before .args .list) in
+    let count = c .before .before .before .before .before .read-u16 in
+    let size = c .before .plan-size .ensures ∙ ap (λ (k : ℕ). planSize k (headTreeSize list)) (c .before .before .plan-slots .ensures .0) in
+    damaged-by list (long .if1 .left) (c .mark-at .ensures) (count .ensures) size
 
 pub is-damaged-spec : {M : Type 1} → statement M
 is-damaged-spec =
@@ -73,6 +79,8 @@ is-damaged-spec =
     cast-count
     shared-slice-read-t
     shared-slice-read-p
+    plan-slots-requires
+    cast-plan-size
     plan-size-requires
     mul-need
     add-need

@@ -24,7 +24,7 @@ part-insert-end c = search needs
 insert-requires : tie.Need-insert-requires
 insert-requires c κs =
     let s = c .before .before .before in
-    subst⁻¹ (Insertable (s .args .v) (length (now (s .args .links))) (s .args .count)) (tail-lent headSize (now (s .args .out))) (s .pre .1)
+    subst⁻¹ (Insertable (s .args .slots) (s .args .v) (length (now (s .args .links))) (s .args .count)) (tail-lent headSize (now (s .args .out))) (s .pre .1)
 
 same-length : tie.Need-same-length
 same-length c = search needs
@@ -37,8 +37,8 @@ returns c =
     let done = c .before .before .insert in
     let last = done .last .0 in
     let behind = ap (drop headSize) (tail-back headSize d last) ∙ drop-at (take headSize d) last headSize (length-take-le headSize d (s .pre .0)) in
-    subst⁻¹ (Inserted (s .args .v) links (s .args .count) (drop headSize d) (done .result)) behind
-    (subst (λ (l : List ℕ). Inserted (s .args .v) links (s .args .count) l (done .result) last) (tail-lent headSize d) (done .ensures))
+    subst⁻¹ (Inserted (s .args .slots) (s .args .v) links (s .args .count) (drop headSize d) (done .result)) behind
+    (subst (λ (l : List ℕ). Inserted (s .args .slots) (s .args .v) links (s .args .count) l (done .result) last) (tail-lent headSize d) (done .ensures))
 
 pub insert-plan-spec : {M : Type 1} → statement M
 insert-plan-spec =

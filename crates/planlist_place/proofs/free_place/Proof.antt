@@ -10,9 +10,10 @@ use lib.Signed.{leZ}
 use mir.Syntax.{w32}
 use mir.ValLaws.{toZ-ofZ}
 use denote.Ref.{now}
-use Rattle.network.specs.PlanList.{costsAt, planSize, planSlots}
+use Rattle.network.specs.PlanList.{costsAt, planSize}
 use Rattle.network.specs.declared.Costs.{Costs}
 use Rattle.encoding_blocks.specs.Blocks.{blocks, blocks-none, length-blocks, mul-step}
+use Rattle.planlist_costs.specs.Held.{costs-held}
 use Rattle.planlist_costs.specs.Orders.{atMost, inOrder}
 use Rattle.encoding_compare.specs.Compared.{tested}
 use Rattle.planlist_place.specs.Lower.{lower-few, lowerSums, records-split}
@@ -22,12 +23,12 @@ use Rattle.planlist_place.proofs.free_place.Statement.{statement}
 use Rattle.planlist_place.proofs.free_place.Tie as tie
 
 abbrev Inv-loop : tie.InvT-loop
-Inv-loop plans count size v low at₀ left₀ at left =
-    (freePlace v (blocks size count plans) + left ≡ count + freePlace v (blocks size left (drop at plans))) × (at + left * size ≤ length plans)
-    × (planSize planSlots 0 ≤ size) × (left ≤ count)
+Inv-loop plans count size slots v low at₀ left₀ at left =
+    (freePlace slots v (blocks size count plans) + left ≡ count + freePlace slots v (blocks size left (drop at plans))) × (at + left * size ≤ length plans)
+    × (planSize slots 0 ≤ size) × (left ≤ count)
 
 abbrev μ-loop : tie.MeasureT-loop
-μ-loop plans count size v low at₀ left₀ at left = left
+μ-loop plans count size slots v low at₀ left₀ at left = left
 
 -- the start, from a turn of the loop
 abbrev entry : tie.In-loop Inv-loop μ-loop → tie.Start Inv-loop μ-loop
@@ -42,13 +43,21 @@ abbrev new : tie.In-loop Inv-loop μ-loop → Costs
 new k = entry k .args .v
 
 abbrev held : tie.In-loop Inv-loop μ-loop → Costs
-held k = costsAt (now (entry k .args .plans)) (k .before .loop .at)
+held k = costsAt (entry k .args .slots) (now (entry k .args .plans)) (k .before .loop .at)
 
 -- the records that are left are the one at `at` and the others
 step : (k : tie.In-loop Inv-loop μ-loop)
     → let size = entry k .args .size in
     k .before .loop .left * size ≡ size + (k .before .loop .left - 1) * size
 step k = mul-step (k .before .loop .left) (entry k .args .size) (k .loop-test .taken)
+
+-- they have as many entries
+as-long : (c : tie.After-costs-at Inv-loop μ-loop) → length (c .costs-at .result .y) ≡ length (new (c .before) .y)
+as-long c =
+    let s = entry (c .before) in
+    ap (λ (w : Costs). length (w .y)) (c .costs-at .ensures)
+    ∙ costs-held (s .args .slots) (now (s .args .plans)) (c .before .before .loop .at)
+    ∙ sym (s .pre .2)
 
 -- what the tests of a turn say of the two: the sums, whether the record's costs are at most v, and whether v stands before them
 no-lower : (c : tie.After-le32 Inv-loop μ-loop) → {b : Bool} → c .le32 .result ≡ b → leZ (new (turn c) .sum) (held (turn c) .sum) ≡ b
@@ -94,7 +103,7 @@ below-requires : tie.Need-below-requires Inv-loop μ-loop
 below-requires c κs = search needs
 
 mul-at : tie.Need-mul-at Inv-loop μ-loop
-mul-at c = let s = c .before .before .before in omega (arith, in-two c, s .pre .room, s .good)
+mul-at c = let s = c .before .before .before in omega (arith, in-two c, s .pre .0 .room, s .good)
 
 sub-left : tie.Need-sub-left Inv-loop μ-loop
 sub-left c = omega (arith, few c)
@@ -103,9 +112,9 @@ loop-holds : tie.Need-loop-holds Inv-loop μ-loop
 loop-holds c =
     let s = c .before .before .before in
     let two = in-two c in (
-      free-start (s .args .v) (s .args .size) (s .args .count) (now (s .args .plans)) (lower c) (few c),
-      omega (arith, s .pre .room),
-      s .pre .wide,
+      free-start (s .args .slots) (s .args .v) (s .args .size) (s .args .count) (now (s .args .plans)) (lower c) (few c),
+      omega (arith, s .pre .0 .room),
+      s .pre .1,
       omega arith,
     )
 
@@ -116,13 +125,13 @@ le32-requires : tie.Need-le32-requires Inv-loop μ-loop
 le32-requires c κs = tt
 
 at-most-requires : tie.Need-at-most-requires Inv-loop μ-loop
-at-most-requires c κs = tt
+at-most-requires c κs = as-long (c .before .before .before .before)
 
 add-result : tie.Need-add-result Inv-loop μ-loop
 add-result c =
     let s = entry (turn (c .before .before .before)) in
-    let wide : 1 ≤ s .args .size = omega (arith, s .pre .wide) in
-    omega (arith, mul-one (s .args .count), mul-le-mul-left (s .args .count) wide, s .pre .room, s .good)
+    let wide : 1 ≤ s .args .size = omega (arith, s .pre .1) in
+    omega (arith, mul-one (s .args .count), mul-le-mul-left (s .args .count) wide, s .pre .0 .room, s .good)
 
 returns : tie.Need-returns Inv-loop μ-loop
 returns c =
@@ -131,11 +140,11 @@ returns c =
     let a = entry k .args in
     let high = no-lower (c .before .before .before) (c .before .before .if1 .taken) in
     let below = compared (c .before) (c .if2 .taken) in
-    let e = free-turn (a .v) (now (a .plans)) (l .at) (l .left) (a .size) (k .loop-test .taken) (l .inv .2) high below refl in
+    let e = free-turn (a .slots) (a .v) (now (a .plans)) (l .at) (l .left) (a .size) (k .loop-test .taken) (l .inv .2) high below refl in
     omega arith
 
 in-order-requires : tie.Need-in-order-requires Inv-loop μ-loop
-in-order-requires c κs = tt
+in-order-requires c κs = sym (as-long (c .before .before .before .before .before .before))
 
 sub-result : tie.Need-sub-result Inv-loop μ-loop
 sub-result c = omega arith
@@ -145,14 +154,14 @@ passed : (c : tie.After-in-order Inv-loop μ-loop) → {b : Bool} → c .in-orde
     → let k = turn (c .before .before .before .before) in
     let l = k .before .loop in
     let a = entry k .args in
-    freePlace (a .v) (blocks (a .size) (l .left) (drop (l .at) (now (a .plans))))
-    ≡ cond b 0 (suc (freePlace (a .v) (blocks (a .size) (l .left - 1) (drop (l .at + a .size) (now (a .plans))))))
+    freePlace (a .slots) (a .v) (blocks (a .size) (l .left) (drop (l .at) (now (a .plans))))
+    ≡ cond b 0 (suc (freePlace (a .slots) (a .v) (blocks (a .size) (l .left - 1) (drop (l .at + a .size) (now (a .plans))))))
 passed c e =
     let then = c .before .before .before in
     let k = turn (then .before) in
     let l = k .before .loop in
     let a = entry k .args in
-    free-turn (a .v) (now (a .plans)) (l .at) (l .left) (a .size) (k .loop-test .taken) (l .inv .2) (no-lower (then .before) (then .if1 .taken))
+    free-turn (a .slots) (a .v) (now (a .plans)) (l .at) (l .left) (a .size) (k .loop-test .taken) (l .inv .2) (no-lower (then .before) (then .if1 .taken))
     (compared (c .before .before) (c .before .if2 .left)) (ordered c e)
 
 returns-2 : tie.Need-returns-2 Inv-loop μ-loop
@@ -189,14 +198,14 @@ loop-again-2 c =
     let a = entry k .args in
     let less = step k in
     let low = no-lower (c .before) (c .if1 .left) in
-    let e = free-turn (a .v) (now (a .plans)) (l .at) (l .left) (a .size) (k .loop-test .taken) (l .inv .2) low refl refl in
+    let e = free-turn (a .slots) (a .v) (now (a .plans)) (l .at) (l .left) (a .size) (k .loop-test .taken) (l .inv .2) low refl refl in
     (omega arith, omega arith, omega arith, omega arith)
 
 returns-3 : tie.Need-returns-3 Inv-loop μ-loop
 returns-3 c =
     let l = c .before .loop in
     let a = c .before .before .before .before .before .args in
-    let e = ap (freePlace (a .v)) (blocks-none (a .size) (l .left) (drop (l .at) (now (a .plans))) (omega arith)) ∙ free-none (a .v) in
+    let e = ap (freePlace (a .slots) (a .v)) (blocks-none (a .size) (l .left) (drop (l .at) (now (a .plans))) (omega arith)) ∙ free-none (a .slots) (a .v) in
     omega arith
 
 pub free-place-spec : {M : Type 1} → statement M

@@ -12,9 +12,10 @@ use lib.Seq.{append-snoc}
 use lib.Signed.{leZ}
 use mir.Syntax.{w32}
 use denote.Ref.{now}
-use Rattle.network.specs.PlanList.{costsAt, planSize, planSlots}
+use Rattle.network.specs.PlanList.{costsAt, planSize}
 use Rattle.network.specs.declared.Costs.{Costs}
 use Rattle.encoding_blocks.specs.Blocks.{blocks, blocks-none, mul-step, blocks-joined, blocks-moved, behind-moved}
+use Rattle.planlist_costs.specs.Held.{costs-held}
 use Rattle.planlist_costs.specs.Orders.{atMost}
 use Rattle.encoding_compare.specs.Compared.{tested}
 use Rattle.planlist_pruning.specs.Pruned.{prunedLevel, pruned-turn, pruned-none}
@@ -23,13 +24,13 @@ use Rattle.planlist_pruning.proofs.prune.Statement.{statement}
 use Rattle.planlist_pruning.proofs.prune.Tie as tie
 
 abbrev Inv-loop : tie.InvT-loop
-Inv-loop plans₀ count size v from₀ to₀ kept₀ left₀ plans from to kept left =
-    (length plans ≡ length plans₀) × (planSize planSlots 0 ≤ size) × (to ≤ from) × (from + left * size ≤ length plans) × (to ≡ kept * size)
+Inv-loop plans₀ count size slots v from₀ to₀ kept₀ left₀ plans from to kept left =
+    (length plans ≡ length plans₀) × (planSize slots 0 ≤ size) × (to ≤ from) × (from + left * size ≤ length plans) × (to ≡ kept * size)
     × (kept + left ≤ count)
-    × (prunedLevel v (blocks size count plans₀) ≡ blocks size kept plans ++ prunedLevel v (blocks size left (drop from plans)))
+    × (prunedLevel slots v (blocks size count plans₀) ≡ blocks size kept plans ++ prunedLevel slots v (blocks size left (drop from plans)))
 
 abbrev μ-loop : tie.MeasureT-loop
-μ-loop plans₀ count size v from₀ to₀ kept₀ left₀ plans from to kept left = left
+μ-loop plans₀ count size slots v from₀ to₀ kept₀ left₀ plans from to kept left = left
 
 -- the turn of the loop in which the sums are compared, in which the sum in the record is no higher than that of v, and in which the record is kept
 abbrev turn : tie.After-le32 Inv-loop μ-loop → tie.In-loop Inv-loop μ-loop
@@ -46,7 +47,7 @@ abbrev new : tie.In-loop Inv-loop μ-loop → Costs
 new k = k .before .before .before .args .v
 
 abbrev held : tie.In-loop Inv-loop μ-loop → Costs
-held k = costsAt (k .before .loop .plans) (k .before .loop .from)
+held k = costsAt (k .before .before .before .args .slots) (k .before .loop .plans) (k .before .loop .from)
 
 -- the records that are left are the one at `from` and the others
 step : (k : tie.In-loop Inv-loop μ-loop)
@@ -68,8 +69,8 @@ compared c e = sym (c .at-most .ensures ∙ ap (atMost (new (turn-low c))) (c .b
 passed : (c : tie.After-at-most Inv-loop μ-loop) → {b : Bool} → c .at-most .result ≡ b
     → let l = turn-low c .before .loop in
     let a = turn-low c .before .before .before .args in
-    let rest = prunedLevel (a .v) (blocks (a .size) (l .left - 1) (drop (l .from + a .size) (l .plans))) in
-    prunedLevel (a .v) (blocks (a .size) (a .count) (now (a .plans)))
+    let rest = prunedLevel (a .slots) (a .v) (blocks (a .size) (l .left - 1) (drop (l .from + a .size) (l .plans))) in
+    prunedLevel (a .slots) (a .v) (blocks (a .size) (a .count) (now (a .plans)))
     ≡ blocks (a .size) (l .kept) (l .plans) ++ cond b rest (take (a .size) (drop (l .from) (l .plans)) ∷ rest)
 passed c e =
     let k = turn-low c in
@@ -77,13 +78,13 @@ passed c e =
     let a = k .before .before .before .args in
     l .inv .6
     ∙ ap (λ (r : List (List ℕ)). blocks (a .size) (l .kept) (l .plans) ++ r)
-    (pruned-turn (a .v) (l .plans) (l .from) (l .left) (a .size) (k .loop-test .taken) (l .inv .1)
+    (pruned-turn (a .slots) (a .v) (l .plans) (l .from) (l .left) (a .size) (k .loop-test .taken) (l .inv .1)
     (no-higher (c .before .before) (c .before .if1 .taken)) (compared c e))
 
 loop-holds : tie.Need-loop-holds Inv-loop μ-loop
 loop-holds c =
     let a = c .before .args in
-    let all = prunedLevel (a .v) (blocks (a .size) (a .count) (now (a .plans))) in
+    let all = prunedLevel (a .slots) (a .v) (blocks (a .size) (a .count) (now (a .plans))) in
     let none = ap (λ (l : List (List ℕ)). l ++ all) (sym (blocks-none (a .size) 0 (now (a .plans)) refl)) in
     (refl, omega arith, omega arith, omega arith, omega (arith, zero-mul (a .size)), omega arith, none)
 
@@ -94,7 +95,11 @@ le32-requires : tie.Need-le32-requires Inv-loop μ-loop
 le32-requires c κs = tt
 
 at-most-requires : tie.Need-at-most-requires Inv-loop μ-loop
-at-most-requires c κs = tt
+at-most-requires c κs =
+    let read = c .before .before .before .before .costs-at in
+    let k = turn (c .before) in
+    let s = k .before .before .before in
+    s .pre .2 ∙ sym (ap (λ (w : Costs). length (w .y)) (read .ensures) ∙ costs-held (s .args .slots) (k .before .loop .plans) (k .before .loop .from))
 
 add-from : tie.Need-add-from Inv-loop μ-loop
 add-from c = omega (arith, step (turn-low (c .before)))
@@ -137,7 +142,7 @@ loop-again-2 c =
     let size = a .size in
     let old = l .plans in
     let part = take size (drop (l .from) old) in
-    let others : List ℕ → List (List ℕ) = λ t. prunedLevel (a .v) (blocks size (l .left - 1) t) in
+    let others : List ℕ → List (List ℕ) = λ t. prunedLevel (a .slots) (a .v) (blocks size (l .left - 1) t) in
     let moved = c .before .before .move-down in
     let same = moved .kept .0 in
     let fits : l .from + size ≤ length old = omega arith in
@@ -187,7 +192,7 @@ returns c =
       ap (blocks size (l .kept + l .left)) (c .before .before .move-down2 .ensures)
           ∙ blocks-joined size (l .plans) (l .from) (l .to) (l .kept) (l .left) (l .inv .4) down fits
           ∙ sym (l .inv .6 ∙ ap (λ (r : List (List ℕ)). blocks size (l .kept) (l .plans) ++ r)
-          (pruned-turn (a .v) (l .plans) (l .from) (l .left) size (k .loop-test .taken) (l .inv .1) higher refl)),
+          (pruned-turn (a .slots) (a .v) (l .plans) (l .from) (l .left) size (k .loop-test .taken) (l .inv .1) higher refl)),
     )
 
 same-length-2 : tie.Need-same-length-2 Inv-loop μ-loop
@@ -198,7 +203,7 @@ returns-2 c =
     let l = c .before .loop in
     let a = c .before .before .before .args in
     let front = blocks (a .size) (l .kept) (l .plans) in
-    let none = ap (prunedLevel (a .v)) (blocks-none (a .size) (l .left) (drop (l .from) (l .plans)) (omega arith)) ∙ pruned-none (a .v) in
+    let none = ap (prunedLevel (a .slots) (a .v)) (blocks-none (a .size) (l .left) (drop (l .from) (l .plans)) (omega arith)) ∙ pruned-none (a .slots) (a .v) in
     (omega arith, sym (l .inv .6 ∙ ap (λ (r : List (List ℕ)). front ++ r) none ∙ append-nil front))
 
 pub prune-spec : {M : Type 1} → statement M

@@ -1,10 +1,12 @@
 -- The survey's check, the size of the tree buffer, then the question on its network.
 use mathlib.Core.Path.{_≡_, sym, _∙_}
+use Prim.Native.Nat.{_≤_}
 use native.Mathlib.Omega.{arith}
 use borrow.Author.Needs.{needs}
 use denote.Ref.{now}
+use lib.ListN.{length}
 use lib.Seq.{length-take-le}
-use mir.Facts.{toZ-ofZ}
+use Rattle.network.specs.Capacities.{ceilingsHeld}
 use Rattle.network.specs.Cut.{cut-asked}
 use Rattle.network.specs.Refusals.{checkedOf}
 use Rattle.network.specs.Survey.{networkOf}
@@ -31,6 +33,13 @@ network : (c : tie.After-enum-told)
     → let read = reading c .read-survey in
     Read (networkOf (now (start c .args .survey))) (read .result .shape) (read .last .1 .0) (read .last .1 .1 .0) (read .last .1 .1 .1 .0)
 network c = reading c .read-survey .ensures .accepted (c .enum-told .given .1)
+
+-- there is a number for each present ceiling
+numbered : (c : tie.After-enum-told) → reading c .read-survey .result .shape .p ≤ length (start c .args .t2)
+numbered c =
+    let s = start c in
+    let all : length (s .args .t2) ≡ ceilingsHeld = search needs in
+    omega (arith, network c .plannable .fine .few-ceilings)
 
 -- the same where its usable links are in order
 abbrev told : tie.After-order-usable → tie.After-enum-told
@@ -63,8 +72,8 @@ returns c =
     let tree = now (start told .args .tree) in
     let read = network told in
     let t = read .plannable .tree in
-    let e = asked-short _ _ _ tree (accepted told) _ (read .network) (omega arith) in
-    (e, (short-after _ _ _ tree (accepted told) _ (read .network) (omega arith), cut-asked _ _ _ _ e))
+    let e = asked-short _ _ tree (accepted told) _ (read .network) (omega arith) in
+    (e, (short-after _ _ tree (accepted told) _ (read .network) (omega arith), cut-asked _ _ _ e))
 
 cast-p : tie.Need-cast-p
 cast-p c = search needs
@@ -120,25 +129,25 @@ array-share-prefix-order c = c .before .before .before .before .order-usable .en
 slice-aggregate-solve-4 : tie.Need-slice-aggregate-solve-4
 slice-aggregate-solve-4 c = sym (length-take-le _ _ (c .before .before .before .before .before .order-usable .ensures .few))
 
-array-share-prefix-bounds : tie.Need-array-share-prefix-bounds
-array-share-prefix-bounds c = network (told (c .before .before .before .before .before)) .plannable .fine .few-ceilings
+array-share-prefix-given : tie.Need-array-share-prefix-given
+array-share-prefix-given c = omega (arith, numbered (told (c .before .before .before .before .before)))
 
 slice-aggregate-solve-5 : tie.Need-slice-aggregate-solve-5
-slice-aggregate-solve-5 c = sym (length-take-le _ _ (network (told (c .before .before .before .before .before .before)) .plannable .fine .few-ceilings))
+slice-aggregate-solve-5 c = sym (length-take-le _ _ (array-share-prefix-given (c .before)))
 
 solve-requires : tie.Need-solve-requires
 solve-requires c κs =
     let order = c .before .before .before .before .before .before .before in
     let read = network (told order) in
     let t = read .plannable .tree in
-    (read .plannable, order .order-usable .ensures .links, length-take-le _ _ (read .plannable .fine .few-ceilings), omega arith)
+    (read .plannable, order .order-usable .ensures .links, length-take-le _ _ (numbered (told order)), omega arith)
 
 returns-2 : tie.Need-returns-2
 returns-2 c =
     let refused = sym (c .before .before .before .before .before .before .before .read-survey .ensures .checked) ∙ c .before .checked .given .1 in
     let tree = now (c .before .before .before .before .before .before .before .before .before .before .before .before .before .args .tree) in
-    let e = asked-refused _ _ _ tree _ refused in
-    (e, (refused-after _ _ _ tree _ refused, cut-asked _ _ _ _ e))
+    let e = asked-refused _ _ tree _ refused in
+    (e, (refused-after _ _ tree _ refused, cut-asked _ _ _ e))
 
 same-length : tie.Need-same-length
 same-length c = search needs
@@ -151,9 +160,9 @@ returns-3 c =
     let t = read .plannable .tree in
     let tree = now (i .args .tree) in
     let room = ordered .before .before .before .before .if1 .left in
-    let solved = rw (toZ-ofZ (i .fits .b1), toZ-ofZ (i .fits .b2)) at (c .before .before .solve .ensures) in
-    let e = asked-answer _ _ _ tree (accepted (told ordered)) _ (read .network) _ (omega arith) (solved .0) in
-    (e, (answer-after _ _ _ tree (accepted (told ordered)) _ (read .network) _ (omega arith) (solved .1), cut-asked _ _ _ _ e))
+    let solved = c .before .before .solve .ensures in
+    let e = asked-answer _ _ tree (accepted (told ordered)) _ (read .network) _ (omega arith) (solved .0) in
+    (e, (answer-after _ _ tree (accepted (told ordered)) _ (read .network) _ (omega arith) (solved .1), cut-asked _ _ _ e))
 
 pub best-spec : {M : Type 1} → statement M
 best-spec =
@@ -184,7 +193,7 @@ best-spec =
     slice-aggregate-solve-3
     array-share-prefix-order
     slice-aggregate-solve-4
-    array-share-prefix-bounds
+    array-share-prefix-given
     slice-aggregate-solve-5
     solve-requires
     returns-2

@@ -1,10 +1,11 @@
 -- The survey is read, then the tree is tested, then its costs are taken.
 use Rattle.trees_costs.specs.TreeCosts.{costs-net, priceable, tree-links}
-use mathlib.Core.Path.{_≡_, sym, _∙_}
+use mathlib.Core.Path.{_≡_, sym, ap, _∙_}
 use mathlib.Core.List.{List}
 use Prim.Native.Nat.{ℕ}
 use denote.Ref.{now}
 use native.Mathlib.Omega.{arith}
+use Rattle.network.specs.Calls.{apart}
 use Rattle.network.specs.Cut.{cut-judged}
 use Rattle.network.specs.Refusals.{checkedOf}
 use Rattle.network.specs.Survey.{networkOf}
@@ -98,7 +99,7 @@ returns-2 c =
     let told = tested .before .before .before .before in
     let read = network told in
     let tree = sym (tested .before .is-tree .ensures) ∙ tested .if1 .taken in
-    let costs = c .tree-costs .ensures ∙ costs-net _ _ _ _ (read .plannable) _ in
+    let costs = c .tree-costs .ensures ∙ ap apart (costs-net _ _ _ _ (read .plannable) _) in
     let e = judged-tree _ _ (accepted told) _ (read .network) _ tree costs in
     (e, cut-judged _ _ e)
 

@@ -10,10 +10,10 @@ use Rattle.survey_links.proofs.check_links.Statement.{statement}
 use Rattle.survey_links.proofs.check_links.Tie as tie
 
 abbrev Inv-loop : tie.InvT-loop
-Inv-loop s l m mark n p i₀ i = (i ≤ m) × (linksChecked s l i ≡ Fine)
+Inv-loop s l m mark slots n p i₀ i = (i ≤ m) × (linksChecked s l i ≡ Fine)
 
 abbrev μ-loop : tie.MeasureT-loop
-μ-loop s l m mark n p i₀ i = m - i
+μ-loop s l m mark slots n p i₀ i = m - i
 
 shared-slice-read-n : tie.Need-shared-slice-read-n Inv-loop μ-loop
 shared-slice-read-n c = search needs

@@ -6,7 +6,8 @@ use Prim.Native.Nat.{_+_}
 use native.Mathlib.Omega.{arith}
 use borrow.Author.Tests.{lt-ltb}
 use denote.Ref.{now}
-use Rattle.network.specs.Survey.{hasCount, yardSize}
+use Rattle.network.specs.Survey.{hasCount}
+use Rattle.survey_written.specs.Layouts.{writtenYard}
 use Rattle.survey_written.specs.Written.{yard-counted, yard-uncounted}
 use Rattle.survey_records.proofs.write_yard.Statement.{statement}
 use Rattle.survey_records.proofs.write_yard.Tie as tie
@@ -25,8 +26,8 @@ write-u8-requires c κs =
     let start = c .before .before .before .before .before .before .before .before .before in
     let l = start .args .l in
     let has : hasCount l ≡ true = lt-ltb 0 (l .count) (c .before .if1 .taken) in
-    let at : l .count ≡ yardSize = start .pre .0 .counted ∙ ap (λ (b : Bool). cond b yardSize 0) has in
-    let size : l .yard .size ≡ yardSize + 1 = start .pre .0 .size ∙ ap (λ (b : Bool). yardSize + cond b 1 0) has in
+    let at : l .count ≡ writtenYard = start .pre .0 .counted ∙ ap (λ (b : Bool). cond b writtenYard 0) has in
+    let size : l .yard .size ≡ writtenYard + 1 = start .pre .0 .size ∙ ap (λ (b : Bool). writtenYard + cond b 1 0) has in
     let same = c .before .before .before .before .write-fields .kept .0 in
     omega (arith, start .pre .1)
 

@@ -6,16 +6,15 @@ use native.Mathlib.Omega.{arith}
 use denote.Ref.{now}
 use lib.ListN.{length}
 use Rattle.network.specs.Limits.{maxLinks}
-use Rattle.network.specs.Survey.{linkSize, yardSize}
-use Rattle.survey_written.specs.Layouts.{yard-small}
+use Rattle.survey_written.specs.Layouts.{writtenLink, writtenYard, yard-small}
 use Rattle.survey_writing.specs.Filled.{full-fine, full-refused, full-short}
 use Rattle.survey_writing.proofs.write_full.Statement.{statement}
 use Rattle.survey_writing.proofs.write_full.Tie as tie
 
 -- the bytes of a yard record, and of all link records
-sizes : (s : tie.Start) → (s .args .l .yard .size ≤ yardSize + 1) × (length (now (s .args .sums)) * s .args .l .link .size ≤ maxLinks * linkSize)
+sizes : (s : tie.Start) → (s .args .l .yard .size ≤ writtenYard + 1) × (length (now (s .args .sums)) * s .args .l .link .size ≤ maxLinks * writtenLink)
 sizes s =
-    let each : length (now (s .args .sums)) * s .args .l .link .size ≡ length (now (s .args .sums)) * linkSize =
+    let each : length (now (s .args .sums)) * s .args .l .link .size ≡ length (now (s .args .sums)) * writtenLink =
     ap (λ (k : ℕ). length (now (s .args .sums)) * k) (s .pre .0 .link-size) in
     (yard-small (s .pre .0), omega (arith, s .pre .1 .few))
 
@@ -44,7 +43,7 @@ returns c =
 write-records-requires : tie.Need-write-records-requires
 write-records-requires c κs =
     let start = c .before .before .before .before .before .before .before in
-    let each : length (now (start .args .sums)) * start .args .l .link .size ≡ length (now (start .args .sums)) * linkSize =
+    let each : length (now (start .args .sums)) * start .args .l .link .size ≡ length (now (start .args .sums)) * writtenLink =
     ap (λ (k : ℕ). length (now (start .args .sums)) * k) (start .pre .0 .link-size) in
     (start .pre .0, start .pre .1, omega (arith, c .before .if1 .left))
 

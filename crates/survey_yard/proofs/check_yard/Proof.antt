@@ -1,14 +1,24 @@
 -- `survey_yard::check_yard` meets its contract. The rules are tried in the order of the definition.
-use Prim.Native.Nat.{_≤_}
-use mathlib.Core.Path.{ap, _∙_}
+use Prim.Native.Nat.{ℕ, _+_, _-_}
+use mathlib.Core.List.{List}
+use mathlib.Core.Path.{_≡_, ap, _∙_}
 use native.Mathlib.Omega.{arith}
-use borrow.Author.Needs.{needs}
-use lib.ListN.{length}
-use Rattle.network.specs.Survey.{yardSize}
+use lib.ListN.{drop, length-take, take}
+use Rattle.network.specs.Survey.{ranksAt, ranksIn}
 use Rattle.network.specs.Refusals.{badRanks, badRest, yardChecked}
-use Rattle.survey_yard.specs.Ranks.{ranks-part}
+use borrow.Author.Needs.{needs}
+use Rattle.network.specs.declared.Layout.{Layout}
 use Rattle.survey_yard.proofs.check_yard.Statement.{statement}
 use Rattle.survey_yard.proofs.check_yard.Tie as tie
+
+-- the bytes from the first rank on, one for each ceiling that there is room for, are the ranks
+part : (l : Layout) (s : List ℕ) → take (ranksAt + l .slots - ranksAt) (drop ranksAt s) ≡ ranksIn l s
+unfolding ranksIn
+part l s = let size : ranksAt + l .slots - ranksAt ≡ l .slots = omega arith in rw size
+
+-- where the function was called
+abbrev start : tie.After-or-refuse-if5 → tie.Start
+start c = c .before .before .before .before .before .before .before .before .before .before .before .before .before .before .before .before
 
 shared-slice-read-n : tie.Need-shared-slice-read-n
 shared-slice-read-n c = search needs
@@ -19,8 +29,8 @@ shared-slice-read-p c = search needs
 bad-count-requires : tie.Need-bad-count-requires
 bad-count-requires c κs = search needs
 
-cast-too-many-ceilings : tie.Need-cast-too-many-ceilings
-cast-too-many-ceilings c = search needs
+is-outside-requires : tie.Need-is-outside-requires
+is-outside-requires c κs = search needs
 
 mark-at-requires : tie.Need-mark-at-requires
 mark-at-requires c κs = search needs
@@ -31,8 +41,8 @@ refuse-if-requires c κs = search needs
 cast-is-outside : tie.Need-cast-is-outside
 cast-is-outside c = search needs
 
-is-outside-requires : tie.Need-is-outside-requires
-is-outside-requires c κs = search needs
+is-outside-requires-2 : tie.Need-is-outside-requires-2
+is-outside-requires-2 c κs = search needs
 
 or-refuse-if-requires : tie.Need-or-refuse-if-requires
 or-refuse-if-requires c κs = search needs
@@ -55,8 +65,11 @@ or-refuse-if-requires-4 c κs = search needs
 or-refuse-if-requires-5 : tie.Need-or-refuse-if-requires-5
 or-refuse-if-requires-5 c κs = search needs
 
+cast-bad-ranks : tie.Need-cast-bad-ranks
+cast-bad-ranks c = omega (arith, start c .pre .0 .ceilings)
+
 add-bad-ranks : tie.Need-add-bad-ranks
-add-bad-ranks c = search needs
+add-bad-ranks c = omega (arith, start c .pre .0 .ceilings)
 
 sub-bad-ranks : tie.Need-sub-bad-ranks
 sub-bad-ranks c = search needs
@@ -65,13 +78,12 @@ part-bad-ranks-start : tie.Need-part-bad-ranks-start
 part-bad-ranks-start c = search needs
 
 part-bad-ranks-end : tie.Need-part-bad-ranks-end
-part-bad-ranks-end c =
-    let c4 = c .before .before .before .before .before in
-    let start = c4 .before .before .before .before .before .before .before .before .before .before in
-    omega (arith, start .pre .0 .yard, start .pre .1)
+part-bad-ranks-end c = omega (arith, start c .pre .0 .yard, start c .pre .1)
 
 bad-ranks-requires : tie.Need-bad-ranks-requires
-bad-ranks-requires c κs = search needs
+bad-ranks-requires c κs =
+    let s = start (c .before) in
+    omega (arith, s .pre .0 .ceilings, length-take (s .args .l .slots) (drop ranksAt (s .args .s .now)))
 
 or-refuse-if-requires-6 : tie.Need-or-refuse-if-requires-6
 or-refuse-if-requires-6 c κs = search needs
@@ -87,13 +99,13 @@ returns c =
     let c4 = c15 .before in
     let c3 = c4 .before in
     let c2 = c3 .before .before in
-    let count = c2 .before .before in
-    let start = count .before .before .before .before .before in
-    let room : yardSize ≤ length (start .args .s .now) = omega (arith, start .pre .0 .yard) in
-    let ranks = c .before .bad-ranks .ensures ∙ ap (badRanks _ _) (ranks-part (start .args .s .now) room) in
-    rw (c .or-refuse-if6 .ensures, ranks, c5 .or-refuse-if5 .ensures, c18 .or-refuse-if4 .ensures, c15 .or-refuse-if3 .ensures, count .bad-count .ensures)
-    (rw (c4 .or-refuse-if2 .ensures, c3 .or-refuse-if .ensures, c3 .before .is-outside .ensures, c2 .refuse-if .ensures, c2 .before .mark-at .ensures)
-    (rw (working .count-working .ensures .0, working .count-working .ensures .1, rest .rest-in .ensures)))
+    let ceilings = c2 .before .before in
+    let count = ceilings .before in
+    let a = count .before .before .before .before .before .args in
+    let ranks = c .before .bad-ranks .ensures ∙ ap (badRanks _ _) (part (a .l) (a .s .now)) in
+    rw (c .or-refuse-if6 .ensures, ranks, c5 .or-refuse-if5 .ensures, c18 .or-refuse-if4 .ensures, c15 .or-refuse-if3 .ensures, c4 .or-refuse-if2 .ensures)
+    (rw (c3 .or-refuse-if .ensures, c2 .refuse-if .ensures, ceilings .is-outside .ensures, count .bad-count .ensures, c3 .before .is-outside2 .ensures)
+    (rw (c2 .before .mark-at .ensures, working .count-working .ensures .0, working .count-working .ensures .1, rest .rest-in .ensures)))
 
 pub check-yard-spec : {M : Type 1} → statement M
 check-yard-spec =
@@ -102,11 +114,11 @@ check-yard-spec =
     shared-slice-read-n
     shared-slice-read-p
     bad-count-requires
-    cast-too-many-ceilings
+    is-outside-requires
     mark-at-requires
     refuse-if-requires
     cast-is-outside
-    is-outside-requires
+    is-outside-requires-2
     or-refuse-if-requires
     or-refuse-if-requires-2
     or-refuse-if-requires-3
@@ -114,6 +126,7 @@ check-yard-spec =
     count-working-requires
     or-refuse-if-requires-4
     or-refuse-if-requires-5
+    cast-bad-ranks
     add-bad-ranks
     sub-bad-ranks
     part-bad-ranks-start

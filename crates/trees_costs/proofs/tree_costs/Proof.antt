@@ -2,6 +2,7 @@
 use mathlib.Core.Path.{ap, _∙_}
 use Prim.Native.Nat.{ℕ}
 use native.Mathlib.Omega.{arith}
+use Rattle.network.specs.Calls.{apart}
 use Rattle.trees_costs.specs.TreeCosts.{costsBy}
 use Rattle.trees_costs.proofs.tree_costs.Statement.{statement}
 use Rattle.trees_costs.proofs.tree_costs.Tie as tie
@@ -18,7 +19,7 @@ returns : tie.Need-returns
 returns c =
     let start = c .before .before .before .before in
     c .costs-with .ensures
-    ∙ ap (λ (raised : ℕ). costsBy (start .args .shape) (start .args .costs .now) (start .args .links .now) raised) (c .before .sum-of .ensures)
+    ∙ ap (λ (raised : ℕ). apart (costsBy (start .args .shape) (start .args .costs .now) (start .args .links .now) raised)) (c .before .sum-of .ensures)
 
 pub tree-costs-spec : {M : Type 1} → statement M
 tree-costs-spec = tie.close (tie.spec sum-of-requires costs-with-requires returns)

@@ -4,10 +4,10 @@ use Rattle.alltrees.proofs.listing.least.Statement.{statement}
 use Rattle.alltrees.proofs.listing.least.Tie as tie
 
 abbrev Inv-loop : tie.InvT-loop
-Inv-loop trees from c1 c2 bits best₀ i₀ i-end best i = i ≤ i-end
+Inv-loop trees from codes bits best₀ i₀ i-end best i = i ≤ i-end
 
 abbrev μ-loop : tie.MeasureT-loop
-μ-loop trees from c1 c2 bits best₀ i₀ i-end best i = i-end - i
+μ-loop trees from codes bits best₀ i₀ i-end best i = i-end - i
 
 loop-holds : tie.Need-loop-holds Inv-loop μ-loop
 loop-holds c = search needs

@@ -4,10 +4,10 @@ use Rattle.alltrees.proofs.small.survey_of.Statement.{statement}
 use Rattle.alltrees.proofs.small.survey_of.Tie as tie
 
 abbrev Inv-loop : tie.InvT-loop
-Inv-loop yard survey₀ i₀ survey i = i ≤ 94
+Inv-loop yard survey₀ i₀ survey i = i ≤ 109
 
 abbrev μ-loop : tie.MeasureT-loop
-μ-loop yard survey₀ i₀ survey i = 94 - i
+μ-loop yard survey₀ i₀ survey i = 109 - i
 
 loop-holds : tie.Need-loop-holds Inv-loop μ-loop
 loop-holds c = search needs

@@ -4,13 +4,16 @@ use Rattle.alltrees.proofs.visits.need.Statement.{statement}
 use Rattle.alltrees.proofs.visits.need.Tie as tie
 
 abbrev Inv-loop : tie.InvT-loop
-Inv-loop yard bytes₀ q₀ bytes q = q ≤ 64
+Inv-loop yard bytes₀ q₀ bytes q = q ≤ 512
 
 abbrev μ-loop : tie.MeasureT-loop
-μ-loop yard bytes₀ q₀ bytes q = 64 - q
+μ-loop yard bytes₀ q₀ bytes q = 512 - q
 
 loop-holds : tie.Need-loop-holds Inv-loop μ-loop
 loop-holds c = search needs
+
+position-requires : tie.Need-position-requires Inv-loop μ-loop
+position-requires c κs = search needs
 
 share-requires : tie.Need-share-requires Inv-loop μ-loop
 share-requires c κs = search needs
@@ -37,6 +40,7 @@ need-spec =
     Inv-loop
     μ-loop
     loop-holds
+    position-requires
     share-requires
     wrapping-add-usize-requires
     add-q

@@ -1,28 +1,48 @@
+use mathlib.Core.Path.{_≡_}
 use Prim.Native.Nat.{_≤_, _-_}
+use lib.ListN.{length}
 use borrow.Author.Needs.{needs}
 use Rattle.alltrees.proofs.visits.solved.Statement.{statement}
 use Rattle.alltrees.proofs.visits.solved.Tie as tie
 
 abbrev Inv-loop : tie.InvT-loop
-Inv-loop yard trees marks₀ solved₀ i₀ marks solved i = i ≤ 64
+Inv-loop yard trees boxes₀ count₀ i₀ boxes count i = (i ≤ 512) × (length boxes ≡ 344)
 
 abbrev μ-loop : tie.MeasureT-loop
-μ-loop yard trees marks₀ solved₀ i₀ marks solved i = 64 - i
+μ-loop yard trees boxes₀ count₀ i₀ boxes count i = 512 - i
 
 loop-holds : tie.Need-loop-holds Inv-loop μ-loop
 loop-holds c = search needs
 
-sub-visit : tie.Need-sub-visit Inv-loop μ-loop
-sub-visit c = search needs
+slice-aggregate-first : tie.Need-slice-aggregate-first Inv-loop μ-loop
+slice-aggregate-first c = search needs
+
+first-requires : tie.Need-first-requires Inv-loop μ-loop
+first-requires c κs = search needs
+
+sub-position : tie.Need-sub-position Inv-loop μ-loop
+sub-position c = search needs
+
+sub-position-2 : tie.Need-sub-position-2 Inv-loop μ-loop
+sub-position-2 c = search needs
+
+position-requires : tie.Need-position-requires Inv-loop μ-loop
+position-requires c κs = search needs
 
 visit-requires : tie.Need-visit-requires Inv-loop μ-loop
 visit-requires c κs = search needs
 
-cast-wrapping-add-u32 : tie.Need-cast-wrapping-add-u32 Inv-loop μ-loop
-cast-wrapping-add-u32 c = search needs
+mul-boxes : tie.Need-mul-boxes Inv-loop μ-loop
+mul-boxes c = search needs
 
-wrapping-add-u32-requires : tie.Need-wrapping-add-u32-requires Inv-loop μ-loop
-wrapping-add-u32-requires c κs = search needs
+array-write-boxes : tie.Need-array-write-boxes Inv-loop μ-loop
+array-write-boxes c = search needs
+
+cast-wrapping-add-usize : tie.Need-cast-wrapping-add-usize Inv-loop μ-loop
+cast-wrapping-add-usize c = search needs
+
+wrapping-add-usize-requires : tie.Need-wrapping-add-usize-requires Inv-loop μ-loop
+wrapping-add-usize-requires c κs = search needs
 
 add-i : tie.Need-add-i Inv-loop μ-loop
 add-i c = search needs
@@ -32,6 +52,9 @@ loop-less c = search needs
 
 loop-again : tie.Need-loop-again Inv-loop μ-loop
 loop-again c = search needs
+
+cast-result : tie.Need-cast-result Inv-loop μ-loop
+cast-result c = search needs
 
 returns : tie.Need-returns Inv-loop μ-loop
 returns c = search needs
@@ -43,11 +66,18 @@ solved-spec =
     Inv-loop
     μ-loop
     loop-holds
-    sub-visit
+    slice-aggregate-first
+    first-requires
+    sub-position
+    sub-position-2
+    position-requires
     visit-requires
-    cast-wrapping-add-u32
-    wrapping-add-u32-requires
+    mul-boxes
+    array-write-boxes
+    cast-wrapping-add-usize
+    wrapping-add-usize-requires
     add-i
     loop-less
     loop-again
+    cast-result
     returns)

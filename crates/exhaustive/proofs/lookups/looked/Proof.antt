@@ -18,6 +18,15 @@ bound-requires c κs = search needs
 index-lookup-requires : tie.Need-index-lookup-requires Inv-loop μ-loop
 index-lookup-requires c κs = search needs
 
+cast-wanted : tie.Need-cast-wanted Inv-loop μ-loop
+cast-wanted c = search needs
+
+mul-wanted : tie.Need-mul-wanted Inv-loop μ-loop
+mul-wanted c = search needs
+
+add-wanted : tie.Need-add-wanted Inv-loop μ-loop
+add-wanted c = search needs
+
 wanted-requires : tie.Need-wanted-requires Inv-loop μ-loop
 wanted-requires c κs = search needs
 
@@ -51,6 +60,9 @@ looked-spec =
     loop-holds
     bound-requires
     index-lookup-requires
+    cast-wanted
+    mul-wanted
+    add-wanted
     wanted-requires
     agrees-requires
     cast-wrapping-add-u64

@@ -12,11 +12,14 @@ abbrev μ-loop : tie.MeasureT-loop
 loop-holds : tie.Need-loop-holds Inv-loop μ-loop
 loop-holds c = search needs
 
-cast-b1 : tie.Need-cast-b1 Inv-loop μ-loop
-cast-b1 c = search needs
+mul-bounds : tie.Need-mul-bounds Inv-loop μ-loop
+mul-bounds c = search needs
 
-cast-b2 : tie.Need-cast-b2 Inv-loop μ-loop
-cast-b2 c = search needs
+add-bounds : tie.Need-add-bounds Inv-loop μ-loop
+add-bounds c = search needs
+
+add-bounds-2 : tie.Need-add-bounds-2 Inv-loop μ-loop
+add-bounds-2 c = search needs
 
 wanted-requires : tie.Need-wanted-requires Inv-loop μ-loop
 wanted-requires c κs = search needs
@@ -46,8 +49,9 @@ differences-spec =
     Inv-loop
     μ-loop
     loop-holds
-    cast-b1
-    cast-b2
+    mul-bounds
+    add-bounds
+    add-bounds-2
     wanted-requires
     differs-requires
     wrapping-add-u64-requires

@@ -21,8 +21,11 @@ short-requires c κs = search needs
 loop-holds : tie.Need-loop-holds Inv-loop μ-loop
 loop-holds c = search needs
 
-add-b2 : tie.Need-add-b2 Inv-loop μ-loop
-add-b2 c = search needs
+cast-bounds-from : tie.Need-cast-bounds-from Inv-loop μ-loop
+cast-bounds-from c = search needs
+
+bounds-from-requires : tie.Need-bounds-from-requires Inv-loop μ-loop
+bounds-from-requires c κs = search needs
 
 wanted-requires : tie.Need-wanted-requires Inv-loop μ-loop
 wanted-requires c κs = search needs
@@ -55,7 +58,8 @@ asked-spec =
     cast-t
     short-requires
     loop-holds
-    add-b2
+    cast-bounds-from
+    bounds-from-requires
     wanted-requires
     differs-requires
     wrapping-add-u64-requires

@@ -62,8 +62,8 @@ need-known : (c : tie.After-need) → c .need .result ≡ bufferNeed (network (s
 need-known c =
     let s = start (grown c) in
     c .need .ensures
-    ∙ ap (λ (k : ℕ). headSize + k * planSize planSlots (s .args .shape .t)) (ready (grown c) .gridded .total)
-    ∙ ap (λ (t : ℕ). headSize + positionCount (network s) * planSize planSlots t) (s .pre .tree)
+    ∙ ap (λ (k : ℕ). headSize + k * planSize (planSlots (s .args .shape .p)) (s .args .shape .t)) (ready (grown c) .gridded .total)
+    ∙ ap (λ (t : ℕ). headSize + positionCount (network s) * planSize (planSlots (s .args .shape .p)) t) (s .pre .tree)
 
 array-borrow-prefix-values : tie.Need-array-borrow-prefix-values
 array-borrow-prefix-values c = few (c .before .before .before)

@@ -1,7 +1,7 @@
 -- `walk_positions::positions::visit_all` meets its contract. The invariant: position n is not marked, or there is none; marks, records and counts are those
 -- of the entries that the walk has solved among the positions before it, and no more are solved than allowed.
 use mathlib.Core.List.{List, [], _++_}
-use mathlib.Core.Path.{_≡_, refl, sym, ap, _∙_, subst, subst⁻¹}
+use mathlib.Core.Path.{_≡_, refl, sym, ap, _∙_, subst, subst⁻¹, subst₂}
 use Prim.Native.Nat.{ℕ, _+_, _*_, _-_, _≤_, _<_}
 use native.Mathlib.Nat.{mul-le-mul-right}
 use native.Mathlib.Omega.{arith}
@@ -12,7 +12,7 @@ use lib.Seq.{length-take-le}
 use Rattle.network.specs.Calls.{treeWith}
 use Rattle.network.specs.Capacities.{ceilingsHeld, plansHeld, treeHeld}
 use Rattle.network.specs.Network.{Network}
-use Rattle.network.specs.PlanList.{headSize, planSize, planSlots}
+use Rattle.network.specs.PlanList.{headSize, planSize}
 use Rattle.network.specs.Resting.{working-few}
 use Rattle.network.specs.Shaped.{netOf}
 use Rattle.network.specs.Walk.{positionCount, positions}
@@ -23,7 +23,7 @@ use Rattle.marking_marks.specs.Settle.{Settled}
 use Rattle.marking_marks.specs.Unmarked.{unmarked-is}
 use Rattle.walk_visit.specs.Answered.{Taken, Takes, settledBy}
 use Rattle.walk_visit.specs.Visit.{asked, bestAt, locatable, reaches, settles}
-use Rattle.walk_visit.specs.Visited.{takes, visited}
+use Rattle.walk_visit.specs.Visited.{slotsOf, takes, visited}
 use Rattle.walk_positions.specs.Lent.{lent-back}
 use Rattle.walk_positions.specs.Progress.{Progress, finish, prepared, skip-all, spent, start, step}
 use Rattle.walk_positions.specs.Walked.{ended-outcome, spent-outcome}
@@ -31,13 +31,13 @@ use Rattle.walk_positions.proofs.positions.visit_all.Statement.{stateme
 use Rattle.walk_positions.proofs.positions.visit_all.Tie as tie
 
 abbrev Inv-loop : tie.InvT-loop
-Inv-loop shape ends sums costs _ _ allowance out₀ _ _ total _ _ _ _ _ _ _ _ _ out places bounds tree marks n plans solved =
+Inv-loop shape ends sums costs _ _ allowance out₀ _ _ _ total _ _ _ _ _ _ _ _ _ out places bounds tree marks n plans solved =
     (length places ≡ ceilingsHeld) × (length bounds ≡ ceilingsHeld) × (length tree ≡ treeHeld) × (length marks ≡ plansHeld)
     × (length out ≡ length out₀) × (n ≤ total) × (plans ≤ n) × (solved ≤ n) × (solved ≤ allowance)
     × (n < total → getD marks n 0 ≡ 0) × Progress (netOf shape ends sums costs) n marks out plans solved
 
 abbrev μ-loop : tie.MeasureT-loop
-μ-loop _ _ _ _ _ _ _ _ _ _ total _ _ _ _ _ _ _ _ _ _ _ _ _ _ n _ _ = total - n
+μ-loop _ _ _ _ _ _ _ _ _ _ _ total _ _ _ _ _ _ _ _ _ _ _ _ _ _ n _ _ = total - n
 
 -- the network of a call
 abbrev network : tie.Start Inv-loop μ-loop → Network
@@ -56,7 +56,11 @@ tree-room s =
 -- ---- a turn
 
 abbrev entry : tie.In-loop Inv-loop μ-loop → tie.Start Inv-loop μ-loop
-entry c = c .before .before .before .before .before .before .before .before .before
+entry c = c .before .before .before .before .before .before .before .before .before .before
+
+-- its records have room for so many ceiling costs
+slots-are : (c : tie.In-loop Inv-loop μ-loop) → c .before .before .before .before .plan-slots .result ≡ slotsOf (network (entry c))
+slots-are c = c .before .before .before .before .plan-slots .ensures .0
 
 -- its position is one of them
 inside : (c : tie.In-loop Inv-loop μ-loop) → c .before .loop .n < positionCount (network (entry c))
@@ -64,11 +68,11 @@ inside c = omega (arith, c .loop-test .taken, counted (entry c) .0)
 
 -- the list buffer has room for one more plan
 room : (c : tie.In-loop Inv-loop μ-loop)
-    → headSize + (c .before .loop .plans + 1) * planSize planSlots (treeSize (network (entry c))) ≤ length (c .before .loop .out)
+    → headSize + (c .before .loop .plans + 1) * planSize (slotsOf (network (entry c))) (treeSize (network (entry c))) ≤ length (c .before .loop .out)
 room c =
     let l = c .before .loop in
     let fewer : l .plans + 1 ≤ positionCount (network (entry c)) = omega (arith, inside c, l .inv .6) in
-    omega (arith, mul-le-mul-right (planSize planSlots (treeSize (network (entry c)))) fewer, entry c .pre .1, l .inv .4)
+    omega (arith, mul-le-mul-right (planSize (slotsOf (network (entry c))) (treeSize (network (entry c)))) fewer, entry c .pre .1, l .inv .4)
 
 -- a place and a bound for each ceiling
 ceilings : (c : tie.In-loop Inv-loop μ-loop) → (length (take (entry c .args .shape .p) (c .before .loop .places)) ≡ entry c .args .shape .p)
@@ -176,8 +180,8 @@ gone c =
     let l = turn .before .loop in
     let net = network (entry turn) in
     let can = entry turn .pre .0 .plannable in
-    let taken = subst (λ (t : ℕ). Taken (asking .solve .result) (take t (asking .solve .last .1 .1 .1 .1 .1 .1 .0)) (l .plans) (c .take-in .result) (l .out)
-    (c .take-in .last .0)) (can .tree) (c .take-in .ensures) in
+    let taken = subst₂ (λ (slots t : ℕ). Taken slots (asking .solve .result) (take t (asking .solve .last .1 .1 .1 .1 .1 .1 .0)) (l .plans)
+    (c .take-in .result) (l .out) (c .take-in .last .0)) (slots-are turn) (can .tree) (c .take-in .ensures) in
     step net (l .n) (inside turn) (l .inv .10) (l .inv .9 (turn .loop-test .taken)) (can .fine)
     (visited net (l .n) (answered asking .0) (l .tree) (answered asking .1) (links-room asking) (marked marking) taken)
 
@@ -187,15 +191,18 @@ cast-p c = search needs
 cast-t : tie.Need-cast-t Inv-loop μ-loop
 cast-t c = search needs
 
+plan-slots-requires : tie.Need-plan-slots-requires Inv-loop μ-loop
+plan-slots-requires c κs = search needs
+
 order-usable-requires : tie.Need-order-usable-requires Inv-loop μ-loop
 order-usable-requires c κs =
-    let can = c .before .before .before .before .before .pre .0 .plannable in
+    let can = c .before .before .before .before .before .before .pre .0 .plannable in
     let fine = can .fine in
     (plannable-stations can, omega (arith, fine .sum-count, fine .few-links), λ e h. fine .cheap e (omega (arith, fine .sum-count)))
 
 loop-holds : tie.Need-loop-holds Inv-loop μ-loop
 loop-holds c =
-    let s = c .before .before .before .before .before .before .before in
+    let s = c .before .before .before .before .before .before .before .before in
     let begun = start (network s) plansHeld (s .args .out .now) (counted s .1) in
     (refl, refl, refl, refl, refl, omega arith, omega arith, omega arith, omega arith, λ h. refl, begun)
 
@@ -275,8 +282,7 @@ array-share-prefix-tree : tie.Need-array-share-prefix-tree Inv-loop μ-loop
 array-share-prefix-tree c = tree-front (c .before .before .before .before .before .before)
 
 slice-aggregate-take-in : tie.Need-slice-aggregate-take-in Inv-loop μ-loop
-slice-aggregate-take-in c =
-    sym (length-take-le _ _ (tree-front (c .before .before .before .before .before .before .before)))
+slice-aggregate-take-in c = sym (length-take-le _ _ (tree-front (c .before .before .before .before .before .before .before)))
 
 take-in-requires : tie.Need-take-in-requires Inv-loop μ-loop
 take-in-requires c κs =
@@ -285,7 +291,8 @@ take-in-requires c κs =
     let l = turn .before .loop in
     let net = network (entry turn) in
     let can = entry turn .pre .0 .plannable in
-    subst⁻¹ (λ (t : ℕ). Takes (asking .solve .result) (take t (asking .solve .last .1 .1 .1 .1 .1 .1 .0)) (l .plans) (l .out)) (can .tree)
+    subst₂ (λ (slots t : ℕ). Takes slots (asking .solve .result) (take t (asking .solve .last .1 .1 .1 .1 .1 .1 .0)) (l .plans) (l .out))
+    (sym (slots-are turn)) (sym (can .tree))
     (takes net (l .n) (answered asking .0) (l .tree) (answered asking .1) (links-room asking)
     (prepared net (l .n) (inside turn) (l .inv .10) (can .fine) (room turn)))
 
@@ -320,7 +327,6 @@ loop-again c =
     let s = entry turn in
     let total = s .args .grid .total in
     let next = c .next-unmarked .ensures in
-    let below = turn .loop-test .taken in
     let few = taking .take-in .ensures .bounded in
     let marks = marking .settle .last .0 in (
       places-front found .3,
@@ -346,7 +352,7 @@ same-length-2 c = omega arith
 returns-2 : tie.Need-returns-2 Inv-loop μ-loop
 returns-2 c =
     let l = c .before .before .loop in
-    let s = c .before .before .before .before .before .before .before .before .before .before in
+    let s = c .before .before .before .before .before .before .before .before .before .before .before in
     rw (c .outcome2 .ensures) (ended-outcome (network s) (omega (arith, counted s .0, l .inv .5, l .inv .6)) (l .inv .8)
     (finish (network s) (s .pre .0 .plannable .fine) (l .n) (omega (arith, counted s .0, c .before .loop-test .left)) (l .inv .10)))
 
@@ -358,6 +364,7 @@ visit-all-spec =
     μ-loop
     cast-p
     cast-t
+    plan-slots-requires
     order-usable-requires
     loop-holds
     outcome-requires

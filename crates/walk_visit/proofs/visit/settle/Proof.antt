@@ -1,14 +1,13 @@
 -- `walk_visit::visit::settle` meets its contract: the box with the sides of the answer is marked.
-use mathlib.Core.List.{List, [], _∷_, _++_}
-use mathlib.Core.Path.{_≡_, refl, sym, ap, ap₂, _∙_}
+use mathlib.Core.List.{List, _++_}
+use mathlib.Core.Path.{_≡_, refl, sym, ap, _∙_}
 use Prim.Native.Nat.{ℕ, _≤_}
 use native.Mathlib.Omega.{arith}
 use borrow.Author.Needs.{needs}
-use mir.Facts.{toZ-ofZ}
-use lib.IntN.{ℤ}
 use lib.ListN.{drop, length, replicate, take}
 use lib.Seq.{length-front, length-take-le, take-at}
 use Rattle.network.specs.Capacities.{ceilingsHeld}
+use Rattle.network.specs.declared.Costs.{Costs}
 use Rattle.marking_marks.specs.Paint.{paint}
 use Rattle.marking_marks.specs.Sides.{runs}
 use Rattle.walk_visit.specs.Found.{ownSides}
@@ -77,7 +76,7 @@ none-sides c =
 -- ---- with a plan: they are those through the places of its costs
 
 abbrev start-plan : tie.After-put-own-sides → tie.Start
-start-plan c = c .before .before .before .before .before .before .before .before .before .before .before .before .before
+start-plan c = c .before .before .before .before .before .before .before .before .before .before .before .before .before .before
 
 abbrev plan-new : tie.After-put-own-sides → List ℕ
 plan-new c = c .put-own-sides .last .1 .1 .1 .1 .1 .0
@@ -85,16 +84,29 @@ plan-new c = c .put-own-sides .last .1 .1 .1 .1 .1 .0
 plan-length : (c : tie.After-put-own-sides) → length (written (start-plan c) (plan-new c)) ≡ ceilingsHeld
 plan-length c = written-length (start-plan c) (plan-new c) (c .put-own-sides .kept .1 .1 .1 .1 .1 .0)
 
+-- its costs are an array of all ceilings
+abbrev start-held : tie.After-costs-of → tie.Start
+start-held c = c .before .before .before .before .before .before .before .before .before
+
+plan-held : (c : tie.After-costs-of) → length (c .costs-of .result .y) ≡ ceilingsHeld
+plan-held c = ap (λ (v : Costs). length (v .y)) (c .costs-of .ensures)
+
+plan-front : (c : tie.After-costs-of)
+    → let p = start-held c .args .shape .p in
+    (p ≤ length (c .costs-of .result .y)) × (p ≡ length (take p (c .costs-of .result .y)))
+plan-front c = (room (start-held c) (c .costs-of .result .y) (plan-held c), front (start-held c) (c .costs-of .result .y) (plan-held c))
+
 plan-sides : (c : tie.After-put-own-sides)
     → let a = start-plan c .args in
     take (a .shape .p) (written (start-plan c) (plan-new c)) ≡ sidesBy (a .shape) (a .values .now) (a .grid) (a .places .now) (a .answer)
 plan-sides c =
     let a = start-plan c .args in
-    let fits = c .before .before .before .before .struct-told .given .1 in
-    let own : List ℤ → List ℕ = λ y. ownSides (a .shape .m) (a .values .now) (take (a .shape .p) (a .grid .counts)) (a .places .now) (take (a .shape .p) y) in
+    let held = c .before .before .before .before .before in
+    let own : Costs → List ℕ = λ v.
+    ownSides (a .shape .m) (a .values .now) (take (a .shape .p) (a .grid .counts)) (a .places .now) (take (a .shape .p) (v .y)) in
     written-front (start-plan c) (plan-new c) (c .put-own-sides .kept .1 .1 .1 .1 .1 .0) ∙ c .put-own-sides .ensures
-    ∙ ap₂ (λ (y1 y2 : ℤ). own (y1 ∷ y2 ∷ [])) (toZ-ofZ (record { sfits = fits .0 .1 })) (toZ-ofZ (record { sfits = fits .1 .0 .1 }))
-    ∙ sides-plan (a .shape) (a .values .now) (a .grid) (a .places .now) (c .before .before .before .before .before .before .answer .given .1)
+    ∙ ap own (held .costs-of .ensures)
+    ∙ sides-plan (a .shape) (a .values .now) (a .grid) (a .places .now) (held .before .before .answer .given .1)
 
 -- ---- the needs
 
@@ -155,30 +167,33 @@ returns c =
     let found = c .before .before .before .before .before .before .before in
     c .before .before .mark-box .ensures ∙ marked (start found) (none-sides found)
 
+costs-of-requires : tie.Need-costs-of-requires
+costs-of-requires c κs = search needs
+
 array-share-prefix-counts-2 : tie.Need-array-share-prefix-counts-2
 array-share-prefix-counts-2 c =
-    let s = c .before .before .before .before .before .before .before .before .before in
+    let s = c .before .before .before .before .before .before .before .before .before .before in
     room s (s .args .grid .counts) (s .pre .held .0)
 
 slice-aggregate-put-own-sides : tie.Need-slice-aggregate-put-own-sides
-slice-aggregate-put-own-sides c = counts-front (c .before .before .before .before .before .before .before .before .before .before)
+slice-aggregate-put-own-sides c = counts-front (c .before .before .before .before .before .before .before .before .before .before .before)
 
 array-share-prefix-y : tie.Need-array-share-prefix-y
-array-share-prefix-y c = c .before .before .before .before .before .before .before .before .before .before .pre .ceilings
+array-share-prefix-y c = plan-front (c .before .before) .0
 
 slice-aggregate-put-own-sides-2 : tie.Need-slice-aggregate-put-own-sides-2
-slice-aggregate-put-own-sides-2 c = front (c .before .before .before .before .before .before .before .before .before .before .before) _ refl
+slice-aggregate-put-own-sides-2 c = plan-front (c .before .before .before) .1
 
 array-borrow-prefix-sides-2 : tie.Need-array-borrow-prefix-sides-2
-array-borrow-prefix-sides-2 c = c .before .before .before .before .before .before .before .before .before .before .before .pre .ceilings
+array-borrow-prefix-sides-2 c = c .before .before .before .before .before .before .before .before .before .before .before .before .pre .ceilings
 
 slice-aggregate-put-own-sides-3 : tie.Need-slice-aggregate-put-own-sides-3
-slice-aggregate-put-own-sides-3 c = front (c .before .before .before .before .before .before .before .before .before .before .before .before) zeros refl
+slice-aggregate-put-own-sides-3 c = front (c .before .before .before .before .before .before .before .before .before .before .before .before .before) zeros refl
 
 put-own-sides-requires : tie.Need-put-own-sides-requires
 put-own-sides-requires c κs =
-    let s = c .before .before .before .before .before .before .before .before .before .before .before .before in
-    (s .pre .parted, s .pre .placed, sym (front s _ refl) ∙ counts-front s, sym (front s zeros refl) ∙ counts-front s)
+    let s = c .before .before .before .before .before .before .before .before .before .before .before .before .before in
+    (s .pre .parted, s .pre .placed, sym (plan-front (c .before .before .before .before) .1) ∙ counts-front s, sym (front s zeros refl) ∙ counts-front s)
 
 array-share-prefix-strides-2 : tie.Need-array-share-prefix-strides-2
 array-share-prefix-strides-2 c =
@@ -228,6 +243,7 @@ settle-spec =
     mark-box-requires
     same-length
     returns
+    costs-of-requires
     array-share-prefix-counts-2
     slice-aggregate-put-own-sides
     array-share-prefix-y

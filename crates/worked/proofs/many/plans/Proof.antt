@@ -6,16 +6,19 @@ use Rattle.worked.proofs.many.plans.Statement.{statement}
 use Rattle.worked.proofs.many.plans.Tie as tie
 
 abbrev Inv-loop : tie.InvT-loop
-Inv-loop list₀ r₀ list r = (r ≤ 1601) × (length list ≡ length list₀)
+Inv-loop list₀ mark size at₀ r₀ list at r = (r ≤ 1601) × (length list ≡ length list₀)
 
 abbrev μ-loop : tie.MeasureT-loop
-μ-loop list₀ r₀ list r = 1601 - r
+μ-loop list₀ mark size at₀ r₀ list at r = 1601 - r
 
 loop-holds : tie.Need-loop-holds Inv-loop μ-loop
 loop-holds c = search needs
 
 plan-requires : tie.Need-plan-requires Inv-loop μ-loop
 plan-requires c κs = search needs
+
+wrapping-add-usize-requires : tie.Need-wrapping-add-usize-requires Inv-loop μ-loop
+wrapping-add-usize-requires c κs = search needs
 
 add-r : tie.Need-add-r Inv-loop μ-loop
 add-r c = search needs
@@ -40,6 +43,7 @@ plans-spec =
     μ-loop
     loop-holds
     plan-requires
+    wrapping-add-usize-requires
     add-r
     loop-less
     loop-again

@@ -4,22 +4,16 @@ use Rattle.worked.proofs.writing.columns_of.Statement.{statement}
 use Rattle.worked.proofs.writing.columns_of.Tie as tie
 
 abbrev Inv-loop : tie.InvT-loop
-Inv-loop records columns₀ e₀ columns e = e ≤ 41
+Inv-loop records size columns₀ at₀ e₀ columns at e = e ≤ 41
 
 abbrev μ-loop : tie.MeasureT-loop
-μ-loop records columns₀ e₀ columns e = 41 - e
+μ-loop records size columns₀ at₀ e₀ columns at e = 41 - e
 
 loop-holds : tie.Need-loop-holds Inv-loop μ-loop
 loop-holds c = search needs
 
-mul-part : tie.Need-mul-part Inv-loop μ-loop
-mul-part c = search needs
-
-add-part : tie.Need-add-part Inv-loop μ-loop
-add-part c = search needs
-
-mul-part-2 : tie.Need-mul-part-2 Inv-loop μ-loop
-mul-part-2 c = search needs
+wrapping-add-usize-requires : tie.Need-wrapping-add-usize-requires Inv-loop μ-loop
+wrapping-add-usize-requires c κs = search needs
 
 part-requires : tie.Need-part-requires Inv-loop μ-loop
 part-requires c κs = search needs
@@ -46,9 +40,7 @@ columns-of-spec =
     Inv-loop
     μ-loop
     loop-holds
-    mul-part
-    add-part
-    mul-part-2
+    wrapping-add-usize-requires
     part-requires
     link-requires
     add-e

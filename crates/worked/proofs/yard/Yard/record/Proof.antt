@@ -4,10 +4,10 @@ use Rattle.worked.proofs.yard.Yard.record.Statement.{statement}
 use Rattle.worked.proofs.yard.Yard.record.Tie as tie
 
 abbrev Inv-loop : tie.InvT-loop
-Inv-loop mark sizes numbers yard₀ i₀ yard i = i ≤ 6
+Inv-loop mark sizes numbers yard₀ i₀ yard i = i ≤ 7
 
 abbrev μ-loop : tie.MeasureT-loop
-μ-loop mark sizes numbers yard₀ i₀ yard i = 6 - i
+μ-loop mark sizes numbers yard₀ i₀ yard i = 7 - i
 
 number-requires : tie.Need-number-requires Inv-loop μ-loop
 number-requires c κs = search needs

@@ -1,0 +1,2 @@
+-- what counting positions asks, and that they are those of a network
+pub mod Positions

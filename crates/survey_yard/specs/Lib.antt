@@ -1,2 +1,0 @@
--- the ranks of the yard record
-pub mod Ranks

@@ -7,7 +7,8 @@
 #include <stdio.h>
 #include <string.h>
 
-/* Survey A of document 01, the yard of one station, whose tree has no links, and one of two stations and a link, of which station 1 rests. */
+/* Survey A of document 01, the yard of one station, whose tree has no links, one of two stations and a link, of which station 1 rests, and one of two
+   stations, a link and three ceilings. */
 static const uint8_t survey_a[] = {
     0x59, 0x44, 3, 1, 1, 0,
     0x4C, 0x4B, 0, 1, 4, 0, 0, 0, 7, 0, 0, 0,
@@ -16,6 +17,7 @@ static const uint8_t survey_a[] = {
 };
 static const uint8_t single[] = {0x59, 0x44, 1, 0, 0, 0};
 static const uint8_t resting[] = {0x59, 0x46, 2, 0, 0, 0, 1, 2, 0, 0, 0x4C, 0x4B, 0, 1, 5, 0, 0, 0, 0, 0, 0, 0};
+static const uint8_t triple[] = {0x59, 0x47, 2, 3, 1, 1, 1, 1, 0, 0, 0, 0x4C, 0x4D, 0, 1, 5, 0, 0, 0, 3, 0, 4, 0, 6, 0};
 
 /* The figures of one link between two stations under a ceiling, and its survey where the costs are not handed in. */
 static const ranqustei_yard yard = {2, 1, 1, 0}, single_yard = {1, 0, 0, 0};
@@ -24,8 +26,9 @@ static const int32_t sums[] = {5};
 static const int16_t costs[] = {3, 0};
 static const uint8_t without_costs[] = {0x59, 0x44, 2, 1, 1, 0, 0x4C, 0x4B, 0, 1, 5, 0, 0, 0, 0, 0, 0, 0};
 
-/* A plan list of one plan, and one of none. */
+/* A plan list of one plan, one of one plan with three ceilings, and one of none. */
 static const uint8_t one_plan[] = {0x50, 0x48, 1, 0, 1, 0, 0, 0, 1, 1, 0x50, 0x4C, 5, 0, 0, 0, 3, 0, 0, 0, 0};
+static const uint8_t triple_plan[] = {0x50, 0x48, 1, 0, 1, 0, 0, 0, 1, 3, 0x50, 0x4D, 5, 0, 0, 0, 3, 0, 4, 0, 6, 0, 0};
 static const uint8_t no_plan[] = {0x50, 0x48, 0, 0, 0, 0, 0, 0, 1, 1};
 
 enum { LENT = 50, FILLER = 0xAA };
@@ -44,7 +47,7 @@ static void check(const char *what, int holds)
 /* The number, and nothing in the rest of the reply: a refusal at place 0, or the costs of the tree without links. */
 static int bare_reply(ranqustei_reply reply, int number)
 {
-    return reply.number == number && reply.place == 0 && reply.sum == 0 && reply.y1 == 0 && reply.y2 == 0;
+    return reply.number == number && reply.place == 0 && reply.sum == 0 && reply.y1 == 0 && reply.y2 == 0 && reply.y3 == 0;
 }
 
 static int bare_status(ranqustei_status status, int number)
@@ -75,17 +78,19 @@ static void judge(void)
     check("judge, no survey", bare_reply(ranqustei_judge(NULL, 0, lent, 2), RANQUSTEI_BAD_LENGTH));
     check("judge, neither", bare_reply(ranqustei_judge(NULL, 0, NULL, 0), RANQUSTEI_BAD_LENGTH));
     check("judge, no links", bare_reply(ranqustei_judge(survey_a, sizeof survey_a, NULL, 0), RANQUSTEI_NOT_A_TREE));
+    check("judge, no links for three ceilings", bare_reply(ranqustei_judge(triple, sizeof triple, NULL, 0), RANQUSTEI_NOT_A_TREE));
     check("judge, no links for one station", bare_reply(ranqustei_judge(single, sizeof single, NULL, 0), RANQUSTEI_OK));
     check("judge, no links for one at work", bare_reply(ranqustei_judge(resting, sizeof resting, NULL, 0), RANQUSTEI_OK));
 }
 
 static void best(void)
 {
-    check("best, no survey", bare_reply(ranqustei_best(NULL, 0, 8, 0, lent, LENT), RANQUSTEI_BAD_LENGTH));
-    check("best, neither", bare_reply(ranqustei_best(NULL, 0, 8, 0, NULL, 0), RANQUSTEI_BAD_LENGTH));
-    check("best, no buffer", bare_reply(ranqustei_best(survey_a, sizeof survey_a, 8, 0, NULL, 0), RANQUSTEI_SHORT_BUFFER));
-    check("best, no buffer for one station", bare_reply(ranqustei_best(single, sizeof single, 8, 0, NULL, 0), RANQUSTEI_OK));
-    check("best, no buffer for one at work", bare_reply(ranqustei_best(resting, sizeof resting, 8, 0, NULL, 0), RANQUSTEI_OK));
+    check("best, no survey", bare_reply(ranqustei_best(NULL, 0, 8, 0, 0, lent, LENT), RANQUSTEI_BAD_LENGTH));
+    check("best, neither", bare_reply(ranqustei_best(NULL, 0, 8, 0, 0, NULL, 0), RANQUSTEI_BAD_LENGTH));
+    check("best, no buffer", bare_reply(ranqustei_best(survey_a, sizeof survey_a, 8, 0, 0, NULL, 0), RANQUSTEI_SHORT_BUFFER));
+    check("best, no buffer for three ceilings", bare_reply(ranqustei_best(triple, sizeof triple, 8, 8, 8, NULL, 0), RANQUSTEI_SHORT_BUFFER));
+    check("best, no buffer for one station", bare_reply(ranqustei_best(single, sizeof single, 8, 0, 0, NULL, 0), RANQUSTEI_OK));
+    check("best, no buffer for one at work", bare_reply(ranqustei_best(resting, sizeof resting, 8, 0, 0, NULL, 0), RANQUSTEI_OK));
 }
 
 static void list(void)
@@ -93,6 +98,7 @@ static void list(void)
     check("list, no survey", bare_status(ranqustei_list(NULL, 0, RANQUSTEI_POSITIONS, lent, LENT), RANQUSTEI_BAD_LENGTH));
     check("list, neither", bare_status(ranqustei_list(NULL, 0, RANQUSTEI_POSITIONS, NULL, 0), RANQUSTEI_BAD_LENGTH));
     check("list, no buffer", bare_status(ranqustei_list(survey_a, sizeof survey_a, RANQUSTEI_POSITIONS, NULL, 0), RANQUSTEI_SHORT_BUFFER));
+    check("list, no buffer for three ceilings", bare_status(ranqustei_list(triple, sizeof triple, 0, NULL, 0), RANQUSTEI_SHORT_BUFFER));
     check("list, no buffer for one station", bare_status(ranqustei_list(single, sizeof single, 0, NULL, 0), RANQUSTEI_SHORT_BUFFER));
     check("list, no buffer for one at work", bare_status(ranqustei_list(resting, sizeof resting, 0, NULL, 0), RANQUSTEI_SHORT_BUFFER));
 }
@@ -108,6 +114,7 @@ static void build_index(void)
     check("index, no list", bare_status(ranqustei_index(NULL, 0, lent, LENT), RANQUSTEI_DAMAGED_LIST));
     check("index, neither", bare_status(ranqustei_index(NULL, 0, NULL, 0), RANQUSTEI_DAMAGED_LIST));
     check("index, no buffer", bare_status(ranqustei_index(one_plan, sizeof one_plan, NULL, 0), RANQUSTEI_SHORT_INDEX));
+    check("index, no buffer for three ceilings", bare_status(ranqustei_index(triple_plan, sizeof triple_plan, NULL, 0), RANQUSTEI_SHORT_INDEX));
     check("index, no buffer for no plan", bare_status(ranqustei_index(no_plan, sizeof no_plan, NULL, 0), RANQUSTEI_OK));
     check("index, a buffer for no plan", bare_status(ranqustei_index(no_plan, sizeof no_plan, lent, LENT), RANQUSTEI_OK));
 }
@@ -117,6 +124,8 @@ static void look_up(void)
     check("lookup, no list", bare_found(ranqustei_index_lookup(NULL, 0, lent, LENT, 8), RANQUSTEI_DAMAGED_LIST));
     check("lookup, neither", bare_found(ranqustei_index_lookup(NULL, 0, NULL, 0, 8), RANQUSTEI_DAMAGED_LIST));
     check("lookup, no index", bare_found(ranqustei_index_lookup(one_plan, sizeof one_plan, NULL, 0, 8), RANQUSTEI_SHORT_INDEX));
+    check("lookup, no index for three ceilings",
+        bare_found(ranqustei_index_lookup(triple_plan, sizeof triple_plan, NULL, 0, 8), RANQUSTEI_SHORT_INDEX));
     check("lookup, no index of no plan", bare_found(ranqustei_index_lookup(no_plan, sizeof no_plan, NULL, 0, 8), RANQUSTEI_NO_SUCH_PLAN));
 }
 

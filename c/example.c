@@ -19,6 +19,14 @@ enum { CUT_OFF = sizeof counted - 12 };
 static const uint8_t resting[] = {0x59, 0x46, 3, 1, 1, 0, 3, 2, 0, 0, LINKS};
 static const uint8_t all_resting[] = {0x59, 0x46, 3, 1, 1, 0, 3, 7, 0, 0, LINKS};
 
+/* The same with two ceilings more, of k = 1 too, and the triple yard record. */
+static const uint8_t triple[] = {
+    0x59, 0x47, 3, 3, 1, 1, 1, 3, 0, 0, 0,
+    0x4C, 0x4D, 0, 1, 4, 0, 0, 0, 7, 0, 1, 0, 5, 0,
+    0x4C, 0x4D, 1, 2, 3, 0, 0, 0, 2, 0, 6, 0, 8, 0,
+    0x4C, 0x4D, 0, 2, 1, 0, 0, 0, 9, 0, 3, 0, 4, 0,
+};
+
 static void print_links(const uint8_t *links, size_t count)
 {
     for (size_t i = 0; i < count; i++)
@@ -37,6 +45,15 @@ static void print_reply(const char *what, ranqustei_reply reply)
         printf("%s: sum %d, ceiling cost %d\n", what, (int)reply.sum, reply.y1);
     else
         printf("%s: refused %d at %d\n", what, reply.number, reply.place);
+}
+
+/* With the costs of three ceilings. */
+static void print_triple(const char *what, ranqustei_reply reply)
+{
+    if (reply.number == RANQUSTEI_OK)
+        printf("%s: sum %d, ceiling costs %d %d %d\n", what, (int)reply.sum, reply.y1, reply.y2, reply.y3);
+    else
+        print_reply(what, reply);
 }
 
 static void print_found(const char *what, ranqustei_found found)
@@ -96,7 +113,8 @@ static void write_surveys(void)
     printf("the bytes of the survey: %s\n", memcmp(written, survey, sizeof survey) == 0 ? "yes" : "no");
     print_status("write, counted", write_a(RANQUSTEI_YARD_COUNTED, ends, sizeof written));
     printf("the bytes of the counted survey: %s\n", memcmp(written, counted, sizeof counted) == 0 ? "yes" : "no");
-    print_status("write, another kind", write_a(0x5946, ends, sizeof written));
+    print_status("write, stations at rest", write_a(0x5946, ends, sizeof written));
+    print_status("write, three ceilings", write_a(0x5947, ends, sizeof written));
     print_status("write, link 2 to station 3", write_a(RANQUSTEI_YARD_PLAIN, to_station_3, sizeof written));
     print_status("write, a byte too few", write_a(RANQUSTEI_YARD_PLAIN, ends, sizeof survey - 1));
 }
@@ -111,6 +129,32 @@ static void rest(void)
     print_reply("all at rest", ranqustei_judge(all_resting, sizeof all_resting, usable, sizeof usable));
 }
 
+/* Twelve links between two stations, each with costs of its own for every ceiling: 12 * 12 * 12 positions. */
+static ranqustei_reply judge_many_values(const uint8_t *drawn, size_t length)
+{
+    uint8_t many[11 + 12 * 14] = {0x59, 0x47, 2, 3, 1, 1, 1, 12};
+
+    for (uint8_t i = 0; i < 12; i++) {
+        const uint8_t link[14] = {0x4C, 0x4D, 0, 1, 1, 0, 0, 0, i, 0, i, 0, i, 0};
+        memcpy(many + 11 + 14 * i, link, sizeof link);
+    }
+    return ranqustei_judge(many, sizeof many, drawn, length);
+}
+
+static void third_ceiling(void)
+{
+    static const uint8_t drawn[] = {0, 2};
+    uint8_t tree[RANQUSTEI_TREE_BYTES];
+
+    list_and_fetch("list, three ceilings", triple, sizeof triple);
+    print_triple("best under 9, 6 and 7", ranqustei_best(triple, sizeof triple, 9, 6, 7, tree, sizeof tree));
+    printf("its links");
+    print_links(tree, 2);
+    print_triple("best under 8, 6 and 7", ranqustei_best(triple, sizeof triple, 8, 6, 7, tree, sizeof tree));
+    print_triple("drawn 0 2", ranqustei_judge(triple, sizeof triple, drawn, sizeof drawn));
+    print_triple("1,728 positions", judge_many_values(drawn, 1));
+}
+
 int main(void)
 {
     static const uint8_t drawn[] = {0, 2}, ring[] = {0, 1, 2};
@@ -122,16 +166,17 @@ int main(void)
     }
     list_and_fetch("list", survey, sizeof survey);
     index_and_look_up();
-    print_reply("best under 8", ranqustei_best(survey, sizeof survey, 8, 0, tree, sizeof tree));
+    print_reply("best under 8", ranqustei_best(survey, sizeof survey, 8, 0, 0, tree, sizeof tree));
     printf("its links");
     print_links(tree, 2);
-    print_reply("best under 6", ranqustei_best(survey, sizeof survey, 6, 0, tree, sizeof tree));
+    print_reply("best under 6", ranqustei_best(survey, sizeof survey, 6, 0, 0, tree, sizeof tree));
     print_reply("drawn 0 2", ranqustei_judge(survey, sizeof survey, drawn, sizeof drawn));
     print_reply("drawn 0 1 2", ranqustei_judge(survey, sizeof survey, ring, sizeof ring));
     print_reply("a survey cut short", ranqustei_judge(survey, sizeof survey - 1, drawn, sizeof drawn));
-    print_reply("counted, best under 8", ranqustei_best(counted, sizeof counted, 8, 0, tree, sizeof tree));
-    print_reply("counted, its last link cut off", ranqustei_best(counted, CUT_OFF, 8, 0, tree, sizeof tree));
+    print_reply("counted, best under 8", ranqustei_best(counted, sizeof counted, 8, 0, 0, tree, sizeof tree));
+    print_reply("counted, its last link cut off", ranqustei_best(counted, CUT_OFF, 8, 0, 0, tree, sizeof tree));
     write_surveys();
     rest();
+    third_ceiling();
     return 0;
 }

@@ -15,15 +15,16 @@
  * Letters. n is the number of stations, m the number of links and p the number of ceilings. A station works or rests; it works unless its yard record
  * says that it rests. A link is usable if both its ends work. A tree joins the working stations by usable links, and t is the number of its links, the
  * working stations less 1. M is the number of positions: for each ceiling count the different costs that the usable links have for it, and multiply;
- * without ceilings M is 1. Links have their numbers whether they are usable or not.
+ * without ceilings M is 1. In an accepted survey M is at most 1,600. Links have their numbers whether they are usable or not.
  *
  * Bytes. A number of several bytes has its low byte first. Sums and ceiling costs are two's complement; all other numbers have no sign. Marks are
  * hexadecimal, everything else is decimal.
  *
  * A survey is a yard record and then m link records. Its first two bytes say which yard record it has: the plain one, of 6 bytes; the counted one, of
- * 7, which also holds m, so that an accepted survey is declined once it is cut off, wherever that is; or the resting one, of 10, which also says which
- * stations rest. With the plain one a survey has 6 + 12 * m bytes in all, and link i, counted from 0, begins at byte 6 + 12 * i; with the counted one
- * put 7 for 6, with the resting one 10. Bytes that begin with none of these marks are measured as the plain one is.
+ * 7, which also holds m, so that an accepted survey is declined once it is cut off, wherever that is; the resting one, of 10, which also says which
+ * stations rest; or the triple one, of 11, which has all that for three ceilings, and whose links have 14 bytes for 12. With the plain one a survey has
+ * 6 + 12 * m bytes in all, and link i, counted from 0, begins at byte 6 + 12 * i; with the counted one put 7 for 6, with the resting one 10, and with
+ * the triple one 11 for 6 and 14 for 12. Bytes that begin with none of these marks are measured as the plain one is.
  *
  *     plain yard record, 6 bytes
  *     offset  size  field                      range
@@ -45,6 +46,15 @@
  *     2       5     n, p, k1, k2, m            as in the counted one
  *     7       3     the stations at rest       below n, and fewer than n: bit j % 8 of byte 7 + j / 8, the low bit first, is 1 if station j rests
  *
+ *     triple yard record, 11 bytes
+ *     offset  size  field                      range
+ *     0       2     mark                       59 47
+ *     2       1     n, the stations            1 to 24
+ *     3       1     p, the ceilings            3
+ *     4       3     k1, k2, k3, a byte each    1 to 3 and at most t; k1 + k2 + k3 is at most 5
+ *     7       1     m, the links               as in the counted one
+ *     8       3     the stations at rest       as in the resting one, from byte 8 on
+ *
  *     link record, 12 bytes
  *     offset  size  field                      range
  *     0       2     mark                       4C 4B
@@ -54,8 +64,15 @@
  *     8       2     cost of ceiling 1          -32,768 to 32,767; 0 if p = 0
  *     10      2     cost of ceiling 2          -32,768 to 32,767; 0 if p is below 2
  *
+ *     link record after the triple yard record, 14 bytes
+ *     offset  size  field                      range
+ *     0       2     mark                       4C 4D
+ *     2       10    the fields of the other    as there
+ *     12      2     cost of ceiling 3          -32,768 to 32,767
+ *
  * A plan list is a list head and then the plan records, 10 + count * (10 + t) bytes in all. Plan r, counted from 0, begins at byte
- * 10 + r * (10 + t). Plans rise by sum, then by ceiling cost 1, then by ceiling cost 2.
+ * 10 + r * (10 + t). If the head's p is 3, put 12 + t for 10 + t. Plans rise by sum, then by ceiling cost 1, then by ceiling cost 2, then by ceiling
+ * cost 3.
  *
  *     list head, 10 bytes
  *     offset  size  field                      range
@@ -63,7 +80,7 @@
  *     2       2     count, the plans           0 to M
  *     4       4     positions solved           0 to M
  *     8       1     t, the links of a tree     0 to 23
- *     9       1     p, the ceilings            0 to 2
+ *     9       1     p, the ceilings            0 to 3
  *
  *     plan record, 10 + t bytes
  *     offset  size  field                      range
@@ -73,8 +90,16 @@
  *     8       2     ceiling cost 2             -32,768 to 32,767; 0 if p is below 2
  *     10      t     link numbers, a byte each  0 to m - 1, each larger than the one before
  *
+ *     plan record in a list whose p is 3, 12 + t bytes
+ *     offset  size  field                      range
+ *     0       2     mark                       50 4D
+ *     2       8     sum, ceiling costs 1, 2    as in the other
+ *     10      2     ceiling cost 3             -32,768 to 32,767
+ *     12      t     link numbers, a byte each  as in the other
+ *
  * An index of a plan list has 2 bytes for each plan: the numbers of all plans, each once. They rise by ceiling cost 1 of the plan, then by sum, then
- * by ceiling cost 2, then by plan number; if the head's p is 0, by sum and then by plan number. Costs count as they stand in the plan records.
+ * by ceiling cost 2, then by plan number, and not by ceiling cost 3; if the head's p is 0, by sum and then by plan number. Costs count as they stand in
+ * the plan records.
  */
 #ifndef RANQUSTEI_H
 #define RANQUSTEI_H
@@ -89,8 +114,8 @@ extern "C" {
 /* The most bytes of a tree, of a survey that is accepted, of a plan list and of an index; and the most positions that a list call solves. */
 enum {
     RANQUSTEI_TREE_BYTES = 23,
-    RANQUSTEI_SURVEY_BYTES = 490,
-    RANQUSTEI_LIST_BYTES = 52810,
+    RANQUSTEI_SURVEY_BYTES = 571,
+    RANQUSTEI_LIST_BYTES = 56010,
     RANQUSTEI_INDEX_BYTES = 3200,
     RANQUSTEI_POSITIONS = 1600
 };
@@ -98,9 +123,9 @@ enum {
 /*
  * The number in every reply: RANQUSTEI_OK, or why the call declined. A call gives the first number of its row whose cause holds:
  *
- *     judge   1, 2 for the yard record, 3, 4, 15, 18, 5, 6; then 2, 7, 8 for link 0, then for link 1, and so on; then 11
- *     best    as judge up to the last link; then 9, 14
- *     list    as judge up to the last link; then 9, 10
+ *     judge   1, 2 for the yard record, 3, 4, 15, 18, 5, 6; then 2, 7, 8 for link 0, then for link 1, and so on; then 19; then 11
+ *     best    as judge up to 19; then 9, 14
+ *     list    as judge up to 19; then 9, 10
  *     fetch   12 for head or length; then 13; then 12 for the mark of plan r
  *     index   12 for head or length, or for the mark of any plan; then 16
  *     lookup  as index; then 12 for the index; then 13
@@ -112,24 +137,24 @@ enum {
     /* The call succeeded. */
     RANQUSTEI_OK = 0,
     /* The survey has fewer than 6 bytes, or its length less 6 is no multiple of 12; with the mark of the counted yard record put 7 for 6, of the
-       resting one 10. */
+       resting one 10, of the triple one 11 for 6 and 14 for 12. */
     RANQUSTEI_BAD_LENGTH = 1,
-    /* The yard record begins with none of its marks, the kind to be written is not one of those below, or a link record (place) does not begin with its
-       mark. */
+    /* The yard record begins with none of its marks, the kind to be written is not one of those below, or a link record (place) does not begin with the
+       mark that goes with the yard record. */
     RANQUSTEI_BAD_MARK = 2,
     /* There are no stations, or more than 24. */
     RANQUSTEI_BAD_STATIONS = 3,
     /* There are more than 40 links. */
     RANQUSTEI_TOO_MANY_LINKS = 4,
-    /* There are more than 2 ceilings. */
+    /* There are more than 2 ceilings; with the triple yard record, there are not 3. */
     RANQUSTEI_TOO_MANY_CEILINGS = 5,
-    /* A rank is not 1 to 3 or is above t, one rank is 3 and the other above 1, or the rank of an absent ceiling is not 0. */
+    /* A rank is not 1 to 3 or is above t, what the ranks have above 1 adds up to more than 2, or the rank of an absent ceiling is not 0. */
     RANQUSTEI_BAD_RANK = 6,
     /* An end of a link (place) is no station, or both its ends are the same. */
     RANQUSTEI_BAD_ENDS = 7,
     /* The sum cost of a link (place) is outside -1,000,000 to 1,000,000, or its cost of an absent ceiling is not 0. */
     RANQUSTEI_BAD_COSTS = 8,
-    /* The tree buffer has fewer than t bytes, or the list buffer fewer than 10 + M * (10 + t). */
+    /* The tree buffer has fewer than t bytes, or the list buffer fewer than 10 + M * (10 + t); with three ceilings put 12 + t for 10 + t. */
     RANQUSTEI_SHORT_BUFFER = 9,
     /* More positions would have to be solved than the allowance says. */
     RANQUSTEI_PAST_ALLOWANCE = 10,
@@ -141,26 +166,28 @@ enum {
     RANQUSTEI_NO_SUCH_PLAN = 13,
     /* No tree fits the ceilings. */
     RANQUSTEI_NO_TREE_FITS = 14,
-    /* The counted yard record holds another number than the links that follow: the survey may be cut off. */
+    /* The yard record holds another number than the links that follow: the survey may be cut off. */
     RANQUSTEI_WRONG_COUNT = 15,
     /* The index buffer has fewer than 2 bytes for each plan. */
     RANQUSTEI_SHORT_INDEX = 16,
     /* The output has fewer bytes than the survey that is to be written. */
     RANQUSTEI_SHORT_OUTPUT = 17,
-    /* The resting yard record says that a station rests which the yard does not have, or that all rest. */
-    RANQUSTEI_BAD_REST = 18
+    /* The yard record says that a station rests which the yard does not have, or that all rest. */
+    RANQUSTEI_BAD_REST = 18,
+    /* M is above 1,600, which it can be with three ceilings alone. */
+    RANQUSTEI_TOO_MANY_POSITIONS = 19
 };
 
-/* The kinds of yard record that a survey is written with: the mark as a number, its first byte high. The resting one is only read. */
+/* The kinds of yard record that a survey is written with: the mark as a number, its first byte high. The others are only read. */
 enum {
     RANQUSTEI_YARD_PLAIN = 0x5944,
     RANQUSTEI_YARD_COUNTED = 0x5945
 };
 
 /* The version of what this header declares: it changes whenever a struct, a call or the meaning of a reply changes. */
-enum { RANQUSTEI_VERSION = 6 };
+enum { RANQUSTEI_VERSION = 7 };
 
-/* The figures of a yard record: the stations, the ceilings and their ranks. */
+/* The figures of a yard record that is written: the stations, the ceilings and their ranks. */
 typedef struct {
     uint8_t n;
     uint8_t p;
@@ -184,6 +211,7 @@ typedef struct {
     int32_t sum;
     int16_t y1;
     int16_t y2;
+    int16_t y3;
 } ranqustei_reply;
 
 /* The reply of fetching. With RANQUSTEI_OK, the plan's links are `count` bytes of the list, from byte `start` on; with another number both are 0. */
@@ -212,12 +240,13 @@ uint32_t ranqustei_version(void);
 ranqustei_reply ranqustei_judge(const uint8_t *survey, size_t survey_length, const uint8_t *drawn, size_t drawn_length);
 
 /*
- * The best tree under the numbers b1 and b2: each of its present ceiling costs is at most that ceiling's number, its sum is the least, and of
+ * The best tree under the numbers b1, b2 and b3: each of its present ceiling costs is at most that ceiling's number, its sum is the least, and of
  * several such trees it is the first by link numbers. The number of an absent ceiling is ignored. RANQUSTEI_TREE_BYTES are always enough for `tree`.
  * On success the link numbers of the tree stand, rising, in the first t bytes of `tree`, and the bytes after them are as they were. On a refusal all
  * of `tree` is as it was.
  */
-ranqustei_reply ranqustei_best(const uint8_t *survey, size_t survey_length, int16_t b1, int16_t b2, uint8_t *tree, size_t tree_length);
+ranqustei_reply ranqustei_best(
+    const uint8_t *survey, size_t survey_length, int16_t b1, int16_t b2, int16_t b3, uint8_t *tree, size_t tree_length);
 
 /*
  * Every plan that no other plan beats, as a plan list, each with the first tree that has its costs. At most `allowance` positions are solved; M are
@@ -229,7 +258,7 @@ ranqustei_status ranqustei_list(const uint8_t *survey, size_t survey_length, uin
 
 /*
  * Where the links of plan r, counted from 0, stand in a plan list; bytes after the list do not matter. Nothing is written. The list is damaged if it
- * is shorter than its head or than its count and t say, its count is above 1,600, its t above 23 or its p above 2, or if the mark of its head or of
+ * is shorter than its head or than its count, t and p say, its count is above 1,600, its t above 23 or its p above 3, or if the mark of its head or of
  * plan r is wrong; nothing else in it is looked at.
  */
 ranqustei_part ranqustei_fetch(const uint8_t *list, size_t list_length, uint32_t r);

@@ -1,9 +1,10 @@
 /*
  * The stack that each call takes, for every survey that is named and its list, and that each call on a list takes for one of the most plans. The call
  * runs in a thread whose stack was filled with a pattern; counted are the bytes from the caller's stack pointer down to the lowest byte that lost the
- * pattern.
+ * pattern. Writing declines a survey whose yard record is only read.
  *
- *     cc -std=c11 -O2 -pthread c/stack.c target/staticlib/libcapi.a -o target/c-stack && target/c-stack examples/large.survey
+ *     cc -std=c11 -O2 -pthread c/stack.c target/staticlib/libcapi.a -o target/c-stack
+ *     target/c-stack examples/large.survey examples/large-triple.survey
  */
 #define _POSIX_C_SOURCE 200809L
 #include "ranqustei.h"
@@ -13,8 +14,8 @@
 #include <string.h>
 
 enum { STACK = 1 << 18, PATTERN = 0xA5 };
-enum { LINKS = 40, LINK_BYTES = 12 };
-enum { PLANS = RANQUSTEI_POSITIONS, HEAD_BYTES = 10, TREE_LINKS = 8, PLAN_BYTES = 10 + RANQUSTEI_TREE_BYTES };
+enum { LINKS = 40 };
+enum { PLANS = RANQUSTEI_POSITIONS, HEAD_BYTES = 10, TREE_LINKS = 8 };
 
 static _Alignas(4096) uint8_t stack[STACK];
 static uint8_t survey[4096], list[RANQUSTEI_LIST_BYTES], tree[RANQUSTEI_TREE_BYTES], built[RANQUSTEI_INDEX_BYTES];
@@ -40,7 +41,7 @@ static void *plans(void *unused)
 static void *best(void *unused)
 {
     NOTE_CALLER();
-    ranqustei_best(survey, survey_length, INT16_MAX, INT16_MAX, tree, sizeof tree);
+    ranqustei_best(survey, survey_length, INT16_MAX, INT16_MAX, INT16_MAX, tree, sizeof tree);
     return unused;
 }
 
@@ -108,18 +109,21 @@ static void measure_list(void)
     printf(" %zu |\n", taken(look_up));
 }
 
-/* The bytes of the yard record that the survey's mark names. */
-static size_t yard_bytes(void)
-{
-    return survey[1] == 0x46 ? 10 : survey[1] == 0x45 ? 7 : 6;
-}
+/* The yard records by the second byte of their marks, each with its bytes and those of a link record after it. */
+static const struct {
+    uint8_t mark, yard_bytes, link_bytes;
+} layouts[] = {{0x44, 6, 12}, {0x45, 7, 12}, {0x46, 10, 12}, {0x47, 11, 14}};
 
-/* Takes the figures of the links from the survey; the machine has its low bytes first, as the records have. */
+/* Takes the figures of the links that writing knows from the survey; the machine has its low bytes first, as the records have. */
 static void take_links(void)
 {
-    const uint8_t *record = survey + yard_bytes(), *end = survey + survey_length;
+    const uint8_t *record, *end = survey + survey_length;
+    size_t row = sizeof layouts / sizeof layouts[0] - 1;
 
-    for (links = 0; links < LINKS && record + LINK_BYTES <= end; links++, record += LINK_BYTES) {
+    while (row > 0 && layouts[row].mark != survey[1])
+        row--;
+    record = survey + layouts[row].yard_bytes;
+    for (links = 0; links < LINKS && record + layouts[row].link_bytes <= end; links++, record += layouts[row].link_bytes) {
         memcpy(ends + 2 * links, record + 2, 2);
         memcpy(sums + links, record + 4, 4);
         memcpy(costs + 2 * links, record + 8, 4);
@@ -147,25 +151,26 @@ static int measure(const char *name)
     return 0;
 }
 
-/* A list of the most plans there can be, in no order by ceiling cost 1. */
-static void fill_list(void)
+/* A list of the most plans there can be with 2 or 3 ceilings, in no order by ceiling cost 1. */
+static void fill_list(uint8_t ceilings)
 {
-    static const uint8_t head[HEAD_BYTES] = {0x50, 0x48, PLANS % 256, PLANS / 256, 0, 0, 0, 0, RANQUSTEI_TREE_BYTES, 2};
+    const uint8_t head[HEAD_BYTES] = {0x50, 0x48, PLANS % 256, PLANS / 256, 0, 0, 0, 0, RANQUSTEI_TREE_BYTES, ceilings};
+    const size_t plan_bytes = 6 + 2 * ceilings + RANQUSTEI_TREE_BYTES;
 
     memset(list, 0, sizeof list);
     memcpy(list, head, sizeof head);
     for (unsigned i = 0; i < PLANS; i++) {
         unsigned y1 = i * 997 % PLANS;
-        uint8_t record[] = {0x50, 0x4C, 0, 0, 0, 0, (uint8_t)(y1 % 256), (uint8_t)(y1 / 256)};
-        memcpy(list + HEAD_BYTES + i * PLAN_BYTES, record, sizeof record);
+        uint8_t record[] = {0x50, ceilings == 3 ? 0x4D : 0x4C, 0, 0, 0, 0, (uint8_t)(y1 % 256), (uint8_t)(y1 / 256)};
+        memcpy(list + HEAD_BYTES + i * plan_bytes, record, sizeof record);
     }
 }
 
-static int measure_longest_list(void)
+static int measure_longest_list(uint8_t ceilings)
 {
-    fill_list();
+    fill_list(ceilings);
     build_index(NULL); /* for the dynamic linker, as for a survey */
-    printf("| a list of %d plans | | | | |", PLANS);
+    printf("| a list of %d plans, %d ceilings | | | | |", PLANS, ceilings);
     measure_list();
     return ranqustei_index_lookup(list, sizeof list, built, sizeof built, INT16_MAX).number != RANQUSTEI_OK;
 }
@@ -177,6 +182,6 @@ int main(int count, char **names)
     printf("| survey | list | best | judge | write | fetch | index | lookup |\n|---|---|---|---|---|---|---|---|\n");
     for (int i = 1; i < count; i++)
         failures += measure(names[i]);
-    failures += measure_longest_list();
+    failures += measure_longest_list(2) + measure_longest_list(3);
     return failures != 0;
 }

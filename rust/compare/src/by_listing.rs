@@ -4,6 +4,7 @@ use crate::planner::Planner;
 use peer::listing::Listing;
 use peer::plan::Plan;
 use peer::plan_list;
+use peer::records::MAX_CEILINGS;
 use peer::survey::Yard;
 use peer::{Costs, Refusal};
 
@@ -12,6 +13,7 @@ pub struct ByListing<'a> {
     yard: &'a Yard,
     listing: Listing<'a>,
     plans: Vec<Plan>,
+    positions: usize,
     solved: u32,
 }
 
@@ -22,6 +24,7 @@ impl<'a> ByListing<'a> {
         ByListing {
             yard,
             plans: listing.plans(),
+            positions: listing.positions().len(),
             solved: listing.solved_count(),
             listing,
         }
@@ -49,7 +52,12 @@ impl Planner for ByListing<'_> {
         tree.map(|plan| plan.costs).ok_or(Refusal::whole(11))
     }
 
-    fn best(&self, _: &[u8], ceilings: [i16; 2], tree: &mut [u8]) -> Result<Costs, Refusal> {
+    fn best(
+        &self,
+        _: &[u8],
+        ceilings: [i16; MAX_CEILINGS],
+        tree: &mut [u8],
+    ) -> Result<Costs, Refusal> {
         if tree.len() < self.yard.tree_len() {
             return Err(Refusal::whole(9));
         }
@@ -59,8 +67,7 @@ impl Planner for ByListing<'_> {
     }
 
     fn list(&self, _: &[u8], allowance: u32, buffer: &mut [u8]) -> Result<(), Refusal> {
-        let [firsts, seconds] = [0, 1].map(|ceiling| self.listing.values(ceiling).len());
-        if buffer.len() < plan_list::need(firsts * seconds, self.yard.tree_len()) {
+        if buffer.len() < plan_list::need(self.yard, self.positions) {
             return Err(Refusal::whole(9));
         }
         if self.solved > allowance {

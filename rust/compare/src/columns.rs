@@ -1,6 +1,7 @@
 //! The figures of a survey in columns of their own.
 
 use crate::draft::Draft;
+use peer::records::MAX_CEILINGS;
 use peer::survey::Yard;
 use peer::Figures;
 
@@ -34,7 +35,7 @@ impl Columns {
         }
     }
 
-    /// The figures of a draft.
+    /// The figures of a draft, without those of a third ceiling.
     pub fn of_draft(draft: &Draft) -> Columns {
         let mut columns = Columns::without_links(draft.stations, draft.ceilings, draft.ranks);
         for link in &draft.links {
@@ -43,7 +44,7 @@ impl Columns {
         columns
     }
 
-    /// The figures of a survey that was read.
+    /// The figures of a survey that was read, without those of a third ceiling.
     pub fn of_yard(yard: &Yard) -> Columns {
         let [stations, ceilings] = [yard.stations, yard.ceilings].map(|count| count as u8);
         let ranks = yard.ranks.map(|rank| rank as u8);
@@ -54,21 +55,21 @@ impl Columns {
         columns
     }
 
-    fn without_links(stations: u8, ceilings: u8, ranks: [u8; 2]) -> Columns {
+    fn without_links(stations: u8, ceilings: u8, [k1, k2, _]: [u8; MAX_CEILINGS]) -> Columns {
         Columns {
             stations,
             ceilings,
-            ranks,
+            ranks: [k1, k2],
             ends: Vec::new(),
             sums: Vec::new(),
             costs: Vec::new(),
         }
     }
 
-    fn push(&mut self, ends: [u8; 2], sum: i32, costs: [i16; 2]) {
+    fn push(&mut self, ends: [u8; 2], sum: i32, [c1, c2, _]: [i16; MAX_CEILINGS]) {
         self.ends.extend(ends);
         self.sums.push(sum);
-        self.costs.extend(costs);
+        self.costs.extend([c1, c2]);
     }
 
     /// The figures, as they are lent.

@@ -1,11 +1,13 @@
 //! One call on two planners, and what differs.
 
 use crate::columns::Columns;
+use crate::fetch_rules::fetch_fault;
 use crate::index_rules::{build_fault, lookup_fault};
 use crate::list_bytes::Plans;
 use crate::planner::Planner;
 use crate::tally::{Call, Tally};
 use crate::write_rules::{write_fault, Request};
+use peer::records::MAX_CEILINGS;
 use peer::{Costs, Refusal};
 use std::fmt::{self, Debug, Display, Formatter};
 
@@ -66,7 +68,7 @@ impl<'a> Comparison<'a> {
     pub fn best(
         &mut self,
         survey: &[u8],
-        bounds: [i16; 2],
+        bounds: [i16; MAX_CEILINGS],
         lent: &[u8],
     ) -> Result<Outcome<Costs>, Difference> {
         let outcomes = self.planners.map(|planner| {
@@ -110,10 +112,10 @@ impl<'a> Comparison<'a> {
                 bytes: reply.unwrap_or_default().to_vec(),
             }
         });
-        self.settle(Call::Fetch, outcomes, || {
-            format!("fetch plan {plan} of {list:?}")
-        })
-        .map(|_| ())
+        let describe = || format!("fetch plan {plan} of {list:?}");
+        let outcome = self.settle(Call::Fetch, outcomes, describe)?;
+        let fault = fetch_fault(list, plan, &outcome);
+        hold(outcome, fault, describe).map(|_| ())
     }
 
     /// Builds the index of a list, with a buffer that holds the bytes of `lent`.

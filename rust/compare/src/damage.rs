@@ -4,7 +4,7 @@ use crate::draft::{Draft, LinkDraft};
 use crate::rng::Rng;
 use crate::site::set_bit;
 use crate::sums::LIMITS_AND_OUTSIDE;
-use peer::records::YARD_RECORDS;
+use peer::records::{MAX_CEILINGS, THREE_COSTS, TWO_COSTS, YARD_RECORDS};
 use peer::rest::REST_BYTES;
 use peer::survey::MAX_STATIONS;
 
@@ -12,22 +12,27 @@ use peer::survey::MAX_STATIONS;
 pub const COSTS_NOT_0: [i16; 4] = [1, -1, 256, i16::MIN];
 
 /// A yard mark that no kind of yard record has.
-const UNKNOWN_MARK: [u8; 2] = [0x59, 0x47];
+const UNKNOWN_MARK: [u8; 2] = [0x59, 0x48];
+
+/// The sum of how many ceilings the records of either size have room for.
+const TWO_AND_THREE: usize = 5;
 
 /// Something done to the fields of a survey.
 type FieldDamage = fn(&mut Draft, &mut Rng);
 
 /// The kinds of damage to the fields of any survey.
-const FIELD_DAMAGES: [FieldDamage; 17] = [
+const FIELD_DAMAGES: [FieldDamage; 19] = [
     yard_mark,
     other_mark,
     unknown_mark,
     stations,
     ceilings,
     any_ranks,
-    both_ranks_above_1,
-    absent_rank,
+    ranks_above_1,
+    other_rank,
     link_mark,
+    link_mark_of_other_size,
+    link_marks_of_other_size,
     end_out_of_range,
     equal_ends,
     sum,
@@ -145,21 +150,53 @@ fn ceilings(draft: &mut Draft, rng: &mut Rng) {
 
 fn any_ranks(draft: &mut Draft, rng: &mut Rng) {
     let past_tree = draft.stations;
-    draft.ranks = [0, 1].map(|_| rng.pick(&[0, 1, 2, 3, 4, past_tree, 255]));
+    draft.ranks = [(); MAX_CEILINGS].map(|()| rng.pick(&[0, 1, 2, 3, 4, past_tree, 255]));
 }
 
-fn both_ranks_above_1(draft: &mut Draft, rng: &mut Rng) {
-    draft.ranks = rng.pick(&[[2, 2], [2, 3], [3, 2], [3, 3]]);
+/// At least two of the ranks are above 1.
+fn ranks_above_1(draft: &mut Draft, rng: &mut Rng) {
+    let (room, spared) = (draft.room, rng.below(2 * draft.room));
+    for (i, rank) in draft.ranks[..room].iter_mut().enumerate() {
+        if room < 3 || i != spared {
+            *rank = rng.pick(&[2, 2, 3]);
+        }
+    }
 }
 
-fn absent_rank(draft: &mut Draft, rng: &mut Rng) {
-    draft.ranks[1] = rng.pick(&[1, 2, 255]);
+/// The last rank that there is room for, which can be that of an absent ceiling.
+fn other_rank(draft: &mut Draft, rng: &mut Rng) {
+    draft.ranks[draft.room - 1] = rng.pick(&[0, 1, 2, 255]);
 }
 
 fn link_mark(draft: &mut Draft, rng: &mut Rng) {
     let byte = rng.below(2);
     if let Some(link) = any_link(draft, rng) {
         wrong_byte(&mut link.mark[byte], rng);
+    }
+}
+
+/// The other mark that links can have.
+fn other_link_mark(mark: [u8; 2]) -> [u8; 2] {
+    if mark == TWO_COSTS.mark {
+        THREE_COSTS.mark
+    } else {
+        TWO_COSTS.mark
+    }
+}
+
+fn link_mark_of_other_size(draft: &mut Draft, rng: &mut Rng) {
+    if let Some(link) = any_link(draft, rng) {
+        link.mark = other_link_mark(link.mark);
+    }
+}
+
+/// Each link has the other mark, the length of the records is as it was or of the other size too.
+fn link_marks_of_other_size(draft: &mut Draft, rng: &mut Rng) {
+    for link in &mut draft.links {
+        link.mark = other_link_mark(link.mark);
+    }
+    if rng.once_in(2) {
+        draft.room = TWO_AND_THREE - draft.room;
     }
 }
 
@@ -185,7 +222,7 @@ fn sum(draft: &mut Draft, rng: &mut Rng) {
 }
 
 fn cost_of_any_ceiling(draft: &mut Draft, rng: &mut Rng) {
-    let (ceiling, cost) = (rng.below(2), rng.pick(&COSTS_NOT_0));
+    let (ceiling, cost) = (rng.below(draft.room), rng.pick(&COSTS_NOT_0));
     if let Some(link) = any_link(draft, rng) {
         link.costs[ceiling] = cost;
     }

@@ -1,13 +1,14 @@
 //! A survey in the making: any field can hold any value, legal or not.
 
-use peer::records::{YardRecord, LINK_BYTES, LINK_MARK};
+use peer::records::{YardRecord, MAX_CEILINGS};
 use peer::rest::REST_BYTES;
 use peer::Figures;
 use std::ops::Range;
 
 /// Where in a survey the sum cost of a link stands.
 pub fn sum_bytes(survey: &[u8], link: usize) -> Range<usize> {
-    let start = YardRecord::of(survey).bytes + LINK_BYTES * link + 4;
+    let record = YardRecord::of(survey);
+    let start = record.bytes + record.link.bytes * link + 4;
     start..start + 4
 }
 
@@ -21,7 +22,7 @@ pub struct LinkDraft {
     /// The sum cost.
     pub sum: i32,
     /// The ceiling costs.
-    pub costs: [i16; 2],
+    pub costs: [i16; MAX_CEILINGS],
 }
 
 /// The fields of a survey.
@@ -33,8 +34,10 @@ pub struct Draft {
     pub stations: u8,
     /// The number of ceilings.
     pub ceilings: u8,
+    /// How many ceilings the records have room for: the ranks and costs after them are not written.
+    pub room: usize,
     /// The ranks.
-    pub ranks: [u8; 2],
+    pub ranks: [u8; MAX_CEILINGS],
     /// The link count, if the yard record has one.
     pub count: Option<u8>,
     /// The rest bytes, if the yard record has them.
@@ -48,16 +51,17 @@ impl Draft {
     /// station, a cost is 0.
     pub fn of(figures: &Figures, record: YardRecord) -> Draft {
         let link = |(number, &sum): (usize, &i32)| LinkDraft {
-            mark: LINK_MARK,
+            mark: record.link.mark,
             ends: pair_at(number, figures.ends, u8::MAX),
             sum,
-            costs: pair_at(number, figures.costs, 0),
+            costs: with_third(pair_at(number, figures.costs, 0)),
         };
         Draft {
             mark: record.mark,
             stations: figures.stations,
             ceilings: figures.ceilings,
-            ranks: figures.ranks,
+            room: record.most_ceilings,
+            ranks: with_third(figures.ranks),
             count: record.count_at.map(|_| figures.sums.len() as u8),
             rest: record.rest_at.map(|_| [0; REST_BYTES]),
             links: figures.sums.iter().enumerate().map(link).collect(),
@@ -68,14 +72,14 @@ impl Draft {
     pub fn bytes(&self) -> Vec<u8> {
         let mut bytes = self.mark.to_vec();
         bytes.extend([self.stations, self.ceilings]);
-        bytes.extend(self.ranks);
+        bytes.extend(&self.ranks[..self.room]);
         bytes.extend(self.count);
         bytes.extend(self.rest.iter().flatten());
         for link in &self.links {
             bytes.extend(link.mark);
             bytes.extend(link.ends);
             bytes.extend(link.sum.to_le_bytes());
-            bytes.extend(link.costs.map(i16::to_le_bytes).as_flattened());
+            bytes.extend(link.costs.map(i16::to_le_bytes)[..self.room].as_flattened());
         }
         bytes
     }
@@ -86,6 +90,11 @@ impl Draft {
         let present = self.links.len() as u8;
         self.count = self.count.map(|_| present);
     }
+}
+
+/// Ranks or costs of two ceilings, with that of a third that is absent.
+fn with_third<T: Default>([first, second]: [T; 2]) -> [T; MAX_CEILINGS] {
+    [first, second, T::default()]
 }
 
 /// The two entries of a link in a column, or what stands for one that is not there.

@@ -33,7 +33,7 @@ pub fn each_head(draft: &Draft) -> Vec<Draft> {
     let mut drafts = Vec::new();
     for stations in STATIONS {
         for ceilings in CEILINGS {
-            for ranks in RANKS.iter().flat_map(|&k1| RANKS.map(|k2| [k1, k2])) {
+            for ranks in RANKS.iter().flat_map(|&k1| RANKS.map(|k2| [k1, k2, 0])) {
                 drafts.push(Draft {
                     stations,
                     ceilings,

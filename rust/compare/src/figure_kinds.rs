@@ -7,10 +7,10 @@ use crate::draft::Draft;
 use crate::figure_damage::{each_head, each_link, each_link_count};
 use crate::kinds::{hard, small};
 use crate::rng::Rng;
+use crate::values::Values::{self, Different, Extreme, Free};
 use crate::writing::{cut_calls, few_write_calls, write_calls};
 use crate::yards::Layout::{Any, Connected};
 use crate::yards::Recipe;
-use crate::yards::Values::{self, Different, Extreme, Free};
 use Damage::{EachCut, EachHead, EachLink, EachLinkCount, EachPair, EachSum, Whole};
 
 /// A kind of figures.

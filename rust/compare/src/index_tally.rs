@@ -13,10 +13,17 @@ use peer::Refusal;
 type Sort = (&'static str, fn(&Plans) -> bool);
 
 /// The sorts of lists that the hand-made ones have.
-pub const LIST_SORTS: [Sort; 18] = [
+pub const LIST_SORTS: [Sort; 21] = [
     ("p = 0", |plans| plans.ceilings == 0),
     ("p = 1", |plans| plans.ceilings == 1),
     ("p = 2", |plans| plans.ceilings == 2),
+    ("p = 3", |plans| plans.ceilings == 3),
+    ("p = 3, a y1, a sum and a y2 twice, y3 falling", |plans| {
+        plans.ceilings == 3 && has_third_falling(plans)
+    }),
+    ("p = 3, 1,600 plans", |plans| {
+        plans.ceilings == 3 && is_longest(plans)
+    }),
     ("no plan", |plans| plans.costs.is_empty()),
     ("1 plan", |plans| plans.costs.len() == 1),
     ("2 plans", |plans| plans.costs.len() == 2),
@@ -66,6 +73,17 @@ impl Plans {
         parts.sort();
         !parts.is_sorted_by(|a, b| a < b)
     }
+}
+
+/// Whether two plans are alike but for a third cost, which is lower in the later one.
+fn has_third_falling(plans: &Plans) -> bool {
+    let mut numbers: Vec<usize> = (0..plans.costs.len()).collect();
+    numbers.sort_by_key(|&plan| (plans.key(plan), plan));
+    numbers.windows(2).any(|pair| {
+        let [first, later] = [pair[0], pair[1]];
+        let third = |plan: usize| plans.costs[plan].ceilings[2];
+        plans.key(first) == plans.key(later) && third(first) > third(later)
+    })
 }
 
 fn is_longest(plans: &Plans) -> bool {

@@ -3,13 +3,17 @@
 use crate::comparison::{Comparison, Difference};
 use crate::damage::{cuts, cuts_and_flips, damaged, damaged_in_pairs, sums_at_limits};
 use crate::draft::Draft;
+use crate::position_calls::calls_on_too_many;
+use crate::positions::Counted;
 use crate::rng::Rng;
 use crate::round::{all_calls, few_calls};
+use crate::value_counts::{each_value_count, with_last_link_wrong};
+use crate::values::Values::{self, Different, Extreme, Free, Opposed, Tied};
 use crate::yards::Layout::{self, Any, Connected, Disconnected};
 use crate::yards::Recipe;
-use crate::yards::Values::{self, Different, Extreme, Free, Opposed, Tied};
-use peer::records::{YardRecord, COUNTED, RESTING};
-use Damage::{Each, EachCut, EachPair, EachSum, Random, Whole};
+use peer::records::{YardRecord, COUNTED, RESTING, TRIPLE};
+use peer::survey::MAX_POSITIONS;
+use Damage::{Each, EachCut, EachPair, EachPositions, EachSum, LastLink, Random, Whole};
 
 /// A kind of surveys.
 pub struct Kind {
@@ -37,10 +41,14 @@ enum Damage {
     EachPair,
     /// Each cut in turn.
     EachCut,
+    /// Each of some numbers of values of the ceilings in turn.
+    EachPositions,
+    /// Each field of the last link in turn.
+    LastLink,
 }
 
 /// All kinds, legal surveys first.
-pub const KINDS: [Kind; 25] = [
+pub const KINDS: [Kind; 35] = [
     legal(1, "small", 3000, small(Any, Free)),
     legal(2, "small, connected", 3000, small(Connected, Free)),
     legal(3, "small, opposed", 3000, small(Connected, Opposed)),
@@ -81,6 +89,46 @@ pub const KINDS: [Kind; 25] = [
             EachPair,
         ),
     ),
+    triple(legal(26, "triple, few links", 3000, few_links(Free))),
+    triple(legal(27, "triple, few links, tied", 5000, few_links(Tied))),
+    triple(legal(28, "triple, 40 links", 60, hard(40, Opposed))),
+    triple(kind(29, "triple, damaged", 50_000, few_links(Free), Random)),
+    triple(kind(30, "triple, cut", 3, hard(40, Free), EachCut)),
+    triple(kind(
+        71,
+        "triple, damaged in pairs",
+        40,
+        large(Any, Tied),
+        EachPair,
+    )),
+    triple(kind(
+        72,
+        "positions at the limit",
+        5,
+        hard(40, Free).with_rest(u8::MAX),
+        EachPositions,
+    )),
+    triple(kind(
+        73,
+        "positions of usable links",
+        10,
+        hard(30, Free).with_rest(u8::MAX),
+        EachPositions,
+    )),
+    triple(kind(
+        74,
+        "too many positions, last link",
+        50,
+        hard(40, Different).with_any_values(),
+        LastLink,
+    )),
+    triple(kind(
+        75,
+        "too many positions, damaged in pairs",
+        10,
+        hard(40, Different).with_any_values(),
+        EachPair,
+    )),
 ];
 
 const fn legal(number: u64, name: &'static str, seeds: u64, recipe: Recipe) -> Kind {
@@ -103,7 +151,17 @@ const fn with(record: YardRecord, kind: Kind) -> Kind {
     Kind { recipe, ..kind }
 }
 
+/// The kind with three ceilings in each survey.
+const fn triple(kind: Kind) -> Kind {
+    with(TRIPLE, kind)
+}
+
 impl Kind {
+    /// The yard records that its surveys have as they are made.
+    pub fn records(&self) -> Vec<YardRecord> {
+        self.recipe.records()
+    }
+
     /// Whether its surveys are legal as they are made.
     pub fn is_legal(&self) -> bool {
         matches!(self.damage, Whole)
@@ -119,6 +177,8 @@ impl Kind {
             EachSum => bytes_of(&sums_at_limits(&draft)),
             EachPair => bytes_of(&damaged_in_pairs(&draft, rng)),
             EachCut => cuts(&draft.bytes()),
+            EachPositions => bytes_of(&each_value_count(&draft, rng)),
+            LastLink => bytes_of(&with_last_link_wrong(&draft)),
         }
     }
 
@@ -131,11 +191,19 @@ impl Kind {
     ) -> Result<Option<Vec<u8>>, Difference> {
         match self.damage {
             Whole => all_calls(c, survey, rng).map(Some),
-            Random | Each | EachSum | EachPair | EachCut => {
+            EachPositions if has_too_many_positions(survey) => {
+                calls_on_too_many(c, survey, rng).map(|()| None)
+            }
+            EachPositions => all_calls(c, survey, rng).map(Some),
+            Random | Each | EachSum | EachPair | EachCut | LastLink => {
                 few_calls(c, survey, rng).map(|()| None)
             }
         }
     }
+}
+
+fn has_too_many_positions(survey: &[u8]) -> bool {
+    Counted::of(survey).is_some_and(|counted| counted.usable > MAX_POSITIONS)
 }
 
 fn bytes_of(drafts: &[Draft]) -> Vec<Vec<u8>> {
@@ -145,6 +213,11 @@ fn bytes_of(drafts: &[Draft]) -> Vec<Vec<u8>> {
 /// Yards small enough to list all trees.
 pub const fn small(layout: Layout, values: Values) -> Recipe {
     Recipe::new(1..=6, 0..=9, layout, values)
+}
+
+/// Yards of at least two stations, small enough to list all trees.
+const fn few_links(values: Values) -> Recipe {
+    Recipe::new(2..=6, 0..=9, Any, values)
 }
 
 /// Yards of any legal size.

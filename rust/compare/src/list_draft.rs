@@ -1,7 +1,8 @@
 //! A hand-made plan list: any number of plans with any costs in any order.
 
+use crate::list_bytes::plan_record;
 use crate::rng::Rng;
-use peer::plan_list::{HEAD_MARK, PLAN_MARK};
+use peer::plan_list::HEAD_MARK;
 use peer::Costs;
 
 /// The fields of a plan list. The solved count and the link numbers are random.
@@ -21,10 +22,12 @@ impl ListDraft {
         bytes.extend((self.plans.len() as u16).to_le_bytes());
         bytes.extend(rng.bytes(4));
         bytes.extend([self.tree_len, self.ceilings]);
+        let record = plan_record(self.ceilings);
         for plan in &self.plans {
-            bytes.extend(PLAN_MARK);
+            bytes.extend(record.mark);
             bytes.extend(plan.sum.to_le_bytes());
-            bytes.extend(plan.ceilings.map(i16::to_le_bytes).as_flattened());
+            let costs = plan.ceilings.map(i16::to_le_bytes);
+            bytes.extend(costs[..record.most_ceilings].as_flattened());
             bytes.extend(rng.bytes(self.tree_len.into()));
         }
         bytes

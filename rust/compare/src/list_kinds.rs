@@ -1,10 +1,13 @@
 //! The kinds of hand-made plan lists compared, each with its own seeds.
 
 use crate::comparison::{Comparison, Difference};
+use crate::fetching::fetch_calls;
 use crate::indexing::{index_calls, index_calls_on_each};
+use crate::list_bytes::plan_count;
 use crate::list_draft::ListDraft;
 use crate::rng::Rng;
 use peer::plan_list::MAX_PLANS;
+use peer::records::MAX_CEILINGS;
 use peer::Costs;
 use std::ops::RangeInclusive;
 use Figures::{Extreme, Free, Tied};
@@ -38,8 +41,11 @@ enum Figures {
 /// The most plans of a list.
 const MOST: i64 = MAX_PLANS as i64;
 
+/// The most plans of a list that are fetched; longer ones come of surveys.
+const FETCHED: usize = 8;
+
 /// All kinds.
-pub const LIST_KINDS: [ListKind; 13] = [
+pub const LIST_KINDS: [ListKind; 18] = [
     kind(31, "few plans", 2000, 0..=8, Free),
     kind(32, "few plans, tied", 4000, 0..=8, Tied),
     kind(33, "few plans, extreme", 2000, 0..=8, Extreme),
@@ -59,9 +65,17 @@ pub const LIST_KINDS: [ListKind; 13] = [
         ..kind(42, "24 links a plan", 100, 0..=4, Free)
     },
     ListKind {
-        ceilings: 3..=3,
-        ..kind(43, "3 ceilings", 100, 0..=4, Free)
+        ceilings: 4..=4,
+        ..kind(43, "4 ceilings", 100, 0..=4, Free)
     },
+    triple(kind(44, "few plans, triple", 1000, 0..=8, Free)),
+    triple(kind(45, "few plans, triple, tied", 2000, 0..=8, Tied)),
+    triple(kind(46, "few plans, triple, extreme", 1000, 0..=8, Extreme)),
+    triple(kind(47, "1,600 plans, triple", 9, MOST..=MOST, Tied)),
+    triple(ListKind {
+        is_damaged: true,
+        ..kind(48, "triple, cut or flipped", 150, 0..=4, Tied)
+    }),
 ];
 
 const fn kind(
@@ -77,10 +91,16 @@ const fn kind(
         first_seed: number * 1_000_000,
         plans,
         tree_len: 0..=23,
-        ceilings: 0..=2,
+        ceilings: 0..=3,
         figures,
         is_damaged: false,
     }
+}
+
+/// The kind with three ceilings in each list.
+const fn triple(kind: ListKind) -> ListKind {
+    let ceilings = 3..=3;
+    ListKind { ceilings, ..kind }
 }
 
 impl ListKind {
@@ -105,6 +125,9 @@ impl ListKind {
 
     /// Makes the calls on one of its lists.
     pub fn calls(&self, c: &mut Comparison, list: &[u8], rng: &mut Rng) -> Result<(), Difference> {
+        if plan_count(list) <= FETCHED {
+            fetch_calls(c, list, rng)?;
+        }
         index_calls(c, list, rng)?;
         if self.is_damaged {
             index_calls_on_each(c, list, rng)?;
@@ -116,18 +139,23 @@ impl ListKind {
 impl Figures {
     fn costs(&self, rng: &mut Rng) -> Costs {
         let (sum, ceilings) = match self {
-            Free => (rng.bits() as i32, [rng.bits() as i16, rng.bits() as i16]),
-            Tied => {
-                let [sum, y1, y2] = [(); 3].map(|()| rng.within(-1..=1));
-                (sum as i32, [y1 as i16, y2 as i16])
-            }
+            Free => (rng.bits() as i32, ceilings(|| rng.bits() as i16)),
+            Tied => (
+                rng.within(-1..=1) as i32,
+                ceilings(|| rng.within(-1..=1) as i16),
+            ),
             Extreme => (
                 rng.pick(&[i32::MIN, -1, 0, 1, i32::MAX]),
-                [(); 2].map(|()| rng.pick(&[i16::MIN, -1, 0, 1, i16::MAX])),
+                ceilings(|| rng.pick(&[i16::MIN, -1, 0, 1, i16::MAX])),
             ),
         };
         Costs { sum, ceilings }
     }
+}
+
+/// A cost of each ceiling.
+fn ceilings(mut cost: impl FnMut() -> i16) -> [i16; MAX_CEILINGS] {
+    [(); MAX_CEILINGS].map(|()| cost())
 }
 
 fn as_drawn(_: &mut [Costs]) {}

@@ -2,6 +2,7 @@
 
 use crate::by_listing::ByListing;
 use peer::listing::sets;
+use peer::records::MAX_CEILINGS;
 use peer::survey::Yard;
 
 /// Yards with more sets of a tree's size are not listed. 3 stations with 40 links have 780 sets,
@@ -21,11 +22,11 @@ pub struct Listed {
     /// Their trees.
     pub trees: u64,
     /// Yards by their number of ceilings.
-    pub ceilings: [u64; 3],
+    pub ceilings: [u64; MAX_CEILINGS + 1],
     /// Yards with a rank above 1.
     pub ranked: u64,
-    /// Yards with both ranks above 1.
-    pub both_ranked: u64,
+    /// Yards with two ranks above 1.
+    pub two_ranked: u64,
     /// Yards with a plan whose costs several trees have.
     pub tied: u64,
 }
@@ -36,8 +37,9 @@ impl Listed {
         self.yards += 1;
         self.trees += by_listing.tree_count() as u64;
         self.ceilings[yard.ceilings] += 1;
-        self.ranked += u64::from(yard.ranks.iter().any(|&rank| rank > 1));
-        self.both_ranked += u64::from(yard.ranks.iter().all(|&rank| rank > 1));
+        let above_1 = yard.ranks.iter().filter(|&&rank| rank > 1).count();
+        self.ranked += u64::from(above_1 > 0);
+        self.two_ranked += u64::from(above_1 == 2);
         self.tied += u64::from(by_listing.has_ties());
     }
 
@@ -46,7 +48,7 @@ impl Listed {
         self.yards += other.yards;
         self.trees += other.trees;
         self.ranked += other.ranked;
-        self.both_ranked += other.both_ranked;
+        self.two_ranked += other.two_ranked;
         self.tied += other.tied;
         for (count, more) in self.ceilings.iter_mut().zip(other.ceilings) {
             *count += more;
@@ -59,7 +61,7 @@ mod tests {
     use super::*;
     use crate::kinds::exact;
     use crate::rng::Rng;
-    use crate::yards::Values;
+    use crate::values::Values;
 
     #[test]
     fn yards_at_the_limits_are_listed() {

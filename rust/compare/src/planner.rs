@@ -1,5 +1,6 @@
 //! The planners behind one interface.
 
+use peer::records::MAX_CEILINGS;
 use peer::{Costs, Figures, Refusal};
 
 /// The calls. Where a planner does not say otherwise, they are the independent planner's.
@@ -10,7 +11,12 @@ pub trait Planner {
     }
 
     /// The best tree under ceilings.
-    fn best(&self, survey: &[u8], ceilings: [i16; 2], tree: &mut [u8]) -> Result<Costs, Refusal> {
+    fn best(
+        &self,
+        survey: &[u8],
+        ceilings: [i16; MAX_CEILINGS],
+        tree: &mut [u8],
+    ) -> Result<Costs, Refusal> {
         peer::best(survey, ceilings, tree)
     }
 
@@ -53,7 +59,12 @@ impl Planner for Archive {
         ranqustei::judge(survey, drawn).map(costs).map_err(refusal)
     }
 
-    fn best(&self, survey: &[u8], ceilings: [i16; 2], tree: &mut [u8]) -> Result<Costs, Refusal> {
+    fn best(
+        &self,
+        survey: &[u8],
+        ceilings: [i16; MAX_CEILINGS],
+        tree: &mut [u8],
+    ) -> Result<Costs, Refusal> {
         let reply = ranqustei::best(survey, ceilings, tree);
         reply.map(costs).map_err(refusal)
     }
@@ -105,6 +116,6 @@ fn refusal(refusal: ranqustei::Refusal) -> Refusal {
 fn costs(costs: ranqustei::Costs) -> Costs {
     Costs {
         sum: costs.sum,
-        ceilings: [costs.y1, costs.y2],
+        ceilings: costs.ceilings,
     }
 }

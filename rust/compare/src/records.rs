@@ -1,9 +1,12 @@
 //! Which yard records the surveys have, and where a cut was noticed by the link count.
 
 use peer::link_set::LinkSet;
-use peer::records::{YardRecord, LINK_BYTES, YARD_RECORDS};
+use peer::records::{YardRecord, COUNTED, RESTING, TRIPLE, YARD_RECORDS};
 use peer::survey::MAX_LINKS;
 use peer::Refusal;
+
+/// The yard records that have a link count.
+pub const COUNTING_RECORDS: [YardRecord; 3] = [COUNTED, RESTING, TRIPLE];
 
 /// The marks of yard records, for reports.
 pub fn marks<const N: usize>(records: [YardRecord; N]) -> [String; N] {
@@ -38,7 +41,7 @@ impl RecordTally {
     pub fn count_refused(&mut self, survey: &[u8], refusal: Refusal) {
         let kind = YardRecord::of(survey);
         if refusal.number == 15 && kind.written_count(survey) == Some(MAX_LINKS) {
-            let left = (survey.len() - kind.bytes) / LINK_BYTES;
+            let left = (survey.len() - kind.bytes) / kind.link.bytes;
             let cuts = &mut self.left[index_of(kind)];
             *cuts = cuts.with(left as u8);
         }

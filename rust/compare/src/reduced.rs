@@ -1,9 +1,10 @@
 //! A yard with stations at rest as the yard that is left without them.
 
-use crate::list_bytes::{plan_bytes, used_bytes};
+use crate::list_bytes::{plan_bytes, plan_record, used_bytes};
 use crate::planner::Planner;
-use peer::plan_list::{HEAD_BYTES, PLAN_COSTS_BYTES};
-use peer::records::{YardRecord, LINK_BYTES, RESTING};
+use peer::plan_list::HEAD_BYTES;
+use peer::records::{YardRecord, MAX_CEILINGS};
+use peer::rest::REST_BYTES;
 use peer::{Costs, Refusal};
 
 /// Stands for a link that there is not.
@@ -12,21 +13,23 @@ const NO_LINK: u8 = u8::MAX;
 /// What is left of a legal survey with rest bytes: the stations that work and the links between
 /// them, both numbered anew in their former order.
 pub struct Reduced {
-    /// A survey of what is left, without rest bytes.
+    /// A survey of what is left, without stations at rest.
     pub survey: Vec<u8>,
     /// The former number of each link.
     links: Vec<u8>,
 }
 
 impl Reduced {
-    /// Leaves out what rests, and writes a yard record without rest bytes.
+    /// Leaves out what rests, and writes a yard record with room for as many ceilings.
     pub fn of(survey: &[u8], record: YardRecord) -> Reduced {
-        let (front, links) = survey.split_at(RESTING.bytes);
-        let rests = |station: u8| front[usize::from(7 + station / 8)] >> (station % 8) & 1 == 1;
+        let own = YardRecord::of(survey);
+        let (front, links) = survey.split_at(own.bytes);
+        let rest = &front[own.bytes - REST_BYTES..];
+        let rests = |station: u8| rest[usize::from(station / 8)] >> (station % 8) & 1 == 1;
         let working: Vec<u8> = (0..front[2]).filter(|&station| !rests(station)).collect();
         let anew = |station| index_of(&working, station);
         let (mut records, mut numbers) = (Vec::new(), Vec::new());
-        for (link, number) in links.chunks_exact(LINK_BYTES).zip(0..) {
+        for (link, number) in links.chunks_exact(own.link.bytes).zip(0..) {
             if let Some((a, b)) = anew(link[2]).zip(anew(link[3])) {
                 records.extend([link[0], link[1], a, b]);
                 records.extend(&link[4..]);
@@ -35,8 +38,9 @@ impl Reduced {
         }
         let mut left = record.mark.to_vec();
         left.push(working.len() as u8);
-        left.extend(&front[3..6]);
+        left.extend(&front[3..4 + own.most_ceilings]);
         left.extend(record.count_at.map(|_| numbers.len() as u8));
+        left.extend(record.rest_at.iter().flat_map(|_| [0; REST_BYTES]));
         left.extend(records);
         Reduced {
             survey: left,
@@ -83,7 +87,12 @@ impl Planner for ByReduction<'_> {
         self.planner.judge(&reduced.survey, &reduced.anew(drawn))
     }
 
-    fn best(&self, survey: &[u8], ceilings: [i16; 2], tree: &mut [u8]) -> Result<Costs, Refusal> {
+    fn best(
+        &self,
+        survey: &[u8],
+        ceilings: [i16; MAX_CEILINGS],
+        tree: &mut [u8],
+    ) -> Result<Costs, Refusal> {
         let reduced = Reduced::of(survey, self.record);
         let costs = self.planner.best(&reduced.survey, ceilings, tree)?;
         reduced.restore(&mut tree[..reduced.tree_len()]);
@@ -94,8 +103,9 @@ impl Planner for ByReduction<'_> {
         let reduced = Reduced::of(survey, self.record);
         self.planner.list(&reduced.survey, allowance, buffer)?;
         let (used, len) = (used_bytes(buffer), plan_bytes(buffer));
+        let costs_bytes = plan_record(buffer[9]).costs_bytes;
         for plan in buffer[HEAD_BYTES..used].chunks_exact_mut(len) {
-            reduced.restore(&mut plan[PLAN_COSTS_BYTES..]);
+            reduced.restore(&mut plan[costs_bytes..]);
         }
         Ok(())
     }

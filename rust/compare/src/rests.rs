@@ -2,9 +2,13 @@
 
 use crate::sums::{HIGHEST, LOWEST};
 use peer::link_set::LinkSet;
-use peer::records::{YardRecord, LINK_BYTES, LINK_MARK, RESTING};
+use peer::records::{YardRecord, RESTING, TRIPLE};
+use peer::rest::REST_BYTES;
 use peer::survey::Yard;
 use peer::Refusal;
+
+/// The yard records that have rest bytes.
+pub const REST_RECORDS: [YardRecord; 2] = [RESTING, TRIPLE];
 
 /// A sort of yards: its name, and whether a yard whose record has rest bytes is of it.
 type Sort = (&'static str, fn(&Yard) -> bool);
@@ -17,7 +21,7 @@ pub const REST_SORTS: [Sort; 13] = [
     ("no station at rest", |yard| yard.rest.count() == 0),
     ("one station at rest", |yard| yard.rest.count() == 1),
     ("several at rest", |yard| yard.rest.count() > 1),
-    ("one working beside others", |yard| has_working(yard, 1)),
+    (ONE_WORKING, |yard| has_working(yard, 1)),
     ("two working beside others", |yard| has_working(yard, 2)),
     ("three working beside others", |yard| has_working(yard, 3)),
     ("station 0 at rest", |yard| yard.rest.has(0)),
@@ -40,6 +44,9 @@ pub const REST_SORTS: [Sort; 13] = [
         yard.ceilings > 0 && !yard.links().is_empty() && yard.usable_links().count() == 0
     }),
 ];
+
+/// The sort of yards that three ceilings cannot have: there is no link in a tree.
+pub const ONE_WORKING: &str = "one working beside others";
 
 /// Whether that many stations of several work.
 fn has_working(yard: &Yard, count: usize) -> bool {
@@ -77,7 +84,7 @@ pub const REST_ORDER: [[u8; 2]; 9] = [
     [18, 8],
 ];
 
-/// How much was compared, by stations at rest.
+/// How much was compared, by stations at rest, of surveys with one of `REST_RECORDS`.
 #[derive(Clone, Copy, Default)]
 pub struct RestTally {
     /// Legal surveys of each of `REST_SORTS`.
@@ -93,21 +100,21 @@ pub struct RestTally {
 }
 
 impl RestTally {
-    /// Counts a legal survey, if its record has rest bytes.
-    pub fn count_legal(&mut self, survey: &[u8], yard: &Yard) {
-        if YardRecord::of(survey) == RESTING {
+    /// Counts a legal survey, if it has that yard record.
+    pub fn count_legal(&mut self, record: YardRecord, survey: &[u8], yard: &Yard) {
+        if YardRecord::of(survey) == record {
             for (count, (_, has)) in self.sorts.iter_mut().zip(REST_SORTS) {
                 *count += u64::from(has(yard));
             }
         }
     }
 
-    /// Counts a refused survey, if its record has rest bytes.
-    pub fn count_refused(&mut self, survey: &[u8], refusal: Refusal) {
-        if YardRecord::of(survey) != RESTING {
+    /// Counts a refused survey, if it has that yard record.
+    pub fn count_refused(&mut self, record: YardRecord, survey: &[u8], refusal: Refusal) {
+        if YardRecord::of(survey) != record {
             return;
         }
-        let Some((front, links)) = survey.split_first_chunk() else {
+        let Some((front, links)) = survey.split_at_checked(record.bytes) else {
             self.short = self.short.with(survey.len() as u8);
             return;
         };
@@ -118,7 +125,7 @@ impl RestTally {
             }
         }
         for (count, [first, other]) in self.order.iter_mut().zip(REST_ORDER) {
-            *count += u64::from(refusal.number == first && has_reason(front, links, other));
+            *count += u64::from(refusal.number == first && has_reason(record, front, links, other));
         }
     }
 
@@ -128,8 +135,8 @@ impl RestTally {
     }
 
     /// Whether these are all that hold the mark.
-    pub fn has_all_short_lengths(&self) -> bool {
-        self.short == (2..RESTING.bytes as u8).collect()
+    pub fn has_all_short_lengths(&self, record: YardRecord) -> bool {
+        self.short == (2..record.bytes as u8).collect()
     }
 
     /// Adds what another tally has.
@@ -145,25 +152,29 @@ impl RestTally {
 }
 
 /// The number of stations and the 24 bits of a yard record.
-fn rest_of(front: &[u8; RESTING.bytes]) -> (u8, u32) {
-    let [_, _, stations, .., low, middle, high] = *front;
-    (stations, u32::from_le_bytes([low, middle, high, 0]))
+fn rest_of(front: &[u8]) -> (u8, u32) {
+    let rest = front[front.len() - REST_BYTES..].iter();
+    let bits = rest
+        .rev()
+        .fold(0, |bits, &byte| bits << 8 | u32::from(byte));
+    (front[2], bits)
 }
 
 /// Whether a number has a reason: 18, or one of those after it.
-fn has_reason(front: &[u8; RESTING.bytes], links: &[u8], number: u8) -> bool {
-    let in_links = |has: fn(&[u8]) -> bool| links.chunks_exact(LINK_BYTES).any(has);
+fn has_reason(record: YardRecord, front: &[u8], links: &[u8], number: u8) -> bool {
+    let (room, link) = (record.most_ceilings, record.link);
+    let in_links = |has: &dyn Fn(&[u8]) -> bool| links.chunks_exact(link.bytes).any(has);
     match number {
         18 => {
             let (stations, bits) = rest_of(front);
             let stations = stations.min(24);
             bits >> stations > 0 || bits == (1 << stations) - 1
         }
-        5 => front[3] > 2,
-        6 => front[4].max(front[5]) > 3,
-        2 => in_links(|link| !link.starts_with(&LINK_MARK)),
-        7 => in_links(|link| link[2] == link[3] || link[2].max(link[3]) >= 24),
-        8 => in_links(|link| {
+        5 => usize::from(front[3]) > room || usize::from(front[3]) < record.least_ceilings,
+        6 => front[4..4 + room].iter().any(|&rank| rank > 3),
+        2 => in_links(&|bytes| !bytes.starts_with(&link.mark)),
+        7 => in_links(&|link| link[2] == link[3] || link[2].max(link[3]) >= 24),
+        8 => in_links(&|link| {
             let sum = i32::from_le_bytes([link[4], link[5], link[6], link[7]]);
             !(LOWEST..=HIGHEST).contains(&sum)
         }),

@@ -5,8 +5,9 @@ use crate::fetching::fetch_calls;
 use crate::list_bytes::solved_count;
 use crate::rng::Rng;
 use peer::plan_list;
+use peer::positions::Positions;
+use peer::records::MAX_CEILINGS;
 use peer::survey::{Yard, MAX_LINKS};
-use peer::walk::Positions;
 
 /// How many trees of a survey are drawn, each in several variants.
 const DRAWN_TREES: usize = 6;
@@ -39,7 +40,7 @@ pub fn few_calls(c: &mut Comparison, survey: &[u8], rng: &mut Rng) -> Result<(),
     let lent = rng.bytes(MAX_LINKS);
     let allowance = rng.pick(&[0, 1, 5, u32::MAX]);
     let buffer_len = rng.pick(&[0, 9, 10, 46, 2000]);
-    let bounds = [rng.bits() as i16, rng.bits() as i16];
+    let bounds = [(); MAX_CEILINGS].map(|()| rng.bits() as i16);
     c.judge(survey, &lent[..rng.below(5)])?;
     c.best(survey, bounds, &lent[rng.below(MAX_LINKS)..])?;
     c.list(survey, allowance, &rng.bytes(buffer_len))?;
@@ -54,7 +55,7 @@ fn list_calls(
     rng: &mut Rng,
 ) -> Result<Vec<u8>, Difference> {
     let positions = Positions::of(yard).count();
-    let need = plan_list::need(positions, yard.tree_len());
+    let need = plan_list::need(yard, positions);
     let list = c.list(survey, u32::MAX, &rng.bytes(need))?.bytes;
     let solved = solved_count(&list);
     for len in [0, need - 1, need + 1 + rng.below(60)] {
@@ -75,15 +76,9 @@ fn best_calls(
     yard: &Yard,
     rng: &mut Rng,
 ) -> Result<Vec<Vec<u8>>, Difference> {
-    let [firsts, seconds] = [0, 1].map(|ceiling| bounds_around(yard, ceiling, rng));
-    let mut questions: Vec<[i16; 2]> = Vec::new();
-    questions.extend(firsts.iter().map(|&first| [first, rng.pick(&seconds)]));
-    questions.extend(seconds.iter().map(|&second| [rng.pick(&firsts), second]));
-    questions.extend(firsts.iter().map(|&first| [first, i16::MAX]));
-    questions.extend(seconds.iter().map(|&second| [i16::MAX, second]));
     let tree_len = yard.tree_len();
     let mut trees = Vec::new();
-    for bounds in questions {
+    for bounds in questions(yard, rng) {
         let longer = tree_len + rng.below(5);
         let len = rng.pick(&[tree_len, longer, MAX_LINKS, tree_len.saturating_sub(1)]);
         let outcome = c.best(survey, bounds, &rng.bytes(len))?;
@@ -92,6 +87,24 @@ fn best_calls(
         }
     }
     Ok(trees)
+}
+
+/// Bounds at and around every value of each ceiling, with any bounds of the other ceilings and with
+/// none.
+fn questions(yard: &Yard, rng: &mut Rng) -> Vec<[i16; MAX_CEILINGS]> {
+    let around: [Vec<i16>; MAX_CEILINGS] =
+        std::array::from_fn(|ceiling| bounds_around(yard, ceiling, rng));
+    let mut questions = Vec::new();
+    for (ceiling, bounds) in around.iter().enumerate() {
+        for &bound in bounds {
+            let any = around.each_ref().map(|bounds| rng.pick(bounds));
+            for mut question in [any, [i16::MAX; MAX_CEILINGS]] {
+                question[ceiling] = bound;
+                questions.push(question);
+            }
+        }
+    }
+    questions
 }
 
 /// Each value of a ceiling with its neighbours, the extremes, and a random one.

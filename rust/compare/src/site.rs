@@ -20,11 +20,11 @@ impl Site {
         }
     }
 
-    /// Stations of which some rest, one in `one_in` or any number.
-    pub fn resting(stations: u8, one_in: Option<u8>, rng: &mut Rng) -> Site {
+    /// Stations of which some rest, one in `one_in` or any number, and so many work at least.
+    pub fn resting(stations: u8, one_in: Option<u8>, least_working: u8, rng: &mut Rng) -> Site {
         let count = match one_in {
             Some(one_in) => stations / one_in,
-            None => resting_count(stations, rng),
+            None => resting_count(stations, rng).min(stations.saturating_sub(least_working)),
         };
         let mut site = Site::working(stations);
         rng.shuffle(&mut site.working);

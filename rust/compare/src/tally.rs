@@ -2,9 +2,11 @@
 
 use crate::index_tally::IndexTally;
 use crate::listed::Listed;
+use crate::positions::PositionTally;
 use crate::records::RecordTally;
-use crate::rests::RestTally;
+use crate::rests::{RestTally, REST_RECORDS};
 use crate::sums::SumTally;
+use crate::triple_reasons::ReasonTally;
 use crate::write_tally::WriteTally;
 
 /// The calls.
@@ -27,13 +29,13 @@ pub enum Call {
 }
 
 /// The numbers that are replied end here; 0 is success.
-pub const NUMBERS: usize = 19;
+pub const NUMBERS: usize = 20;
 
 /// The name of each call in reports, and the numbers that it replies with, in the order of `Call`.
 pub const CALLS: [(&str, &[usize]); 7] = [
-    ("judge", &[0, 1, 2, 3, 4, 5, 6, 7, 8, 11, 15, 18]),
-    ("best", &[0, 1, 2, 3, 4, 5, 6, 7, 8, 9, 14, 15, 18]),
-    ("list", &[0, 1, 2, 3, 4, 5, 6, 7, 8, 9, 10, 15, 18]),
+    ("judge", &[0, 1, 2, 3, 4, 5, 6, 7, 8, 11, 15, 18, 19]),
+    ("best", &[0, 1, 2, 3, 4, 5, 6, 7, 8, 9, 14, 15, 18, 19]),
+    ("list", &[0, 1, 2, 3, 4, 5, 6, 7, 8, 9, 10, 15, 18, 19]),
     ("fetch", &[0, 12, 13]),
     ("index", &[0, 12, 16]),
     ("lookup", &[0, 12, 13, 16]),
@@ -57,8 +59,12 @@ pub struct Tally {
     pub sums: SumTally,
     /// Which yard records there were.
     pub records: RecordTally,
-    /// Which stations rested.
-    pub rests: RestTally,
+    /// Which stations rested, with each of `REST_RECORDS`.
+    pub rests: [RestTally; REST_RECORDS.len()],
+    /// Which positions there were in yards with three ceilings.
+    pub positions: PositionTally,
+    /// Why surveys were refused that have to do with three ceilings.
+    pub triple_reasons: ReasonTally,
     /// Which plan lists were indexed.
     pub indexes: IndexTally,
     /// Which figures were written.
@@ -86,7 +92,11 @@ impl Tally {
         self.listed.add(&other.listed);
         self.sums.add(&other.sums);
         self.records.add(&other.records);
-        self.rests.add(&other.rests);
+        for (rests, more) in self.rests.iter_mut().zip(&other.rests) {
+            rests.add(more);
+        }
+        self.positions.add(&other.positions);
+        self.triple_reasons.add(&other.triple_reasons);
         self.indexes.add(&other.indexes);
         self.writes.add(&other.writes);
         let replies = self.replies.as_flattened_mut().iter_mut();

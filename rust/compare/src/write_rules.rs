@@ -3,7 +3,7 @@
 use crate::comparison::Outcome;
 use crate::draft::Draft;
 use crate::records::kind_of;
-use peer::records::{YardRecord, LINK_BYTES, PLAIN, WRITTEN_RECORDS};
+use peer::records::{YardRecord, PLAIN, WRITTEN_RECORDS};
 use peer::survey::Yard;
 use peer::{Figures, Refusal};
 
@@ -26,7 +26,7 @@ impl Request<'_> {
     /// How many bytes the survey has; one of another kind is taken for a plain one.
     pub fn need(&self) -> usize {
         let record = self.record().unwrap_or(PLAIN);
-        record.bytes + LINK_BYTES * self.figures.sums.len()
+        record.bytes + record.link.bytes * self.figures.sums.len()
     }
 
     /// Whether a reader takes the figures.

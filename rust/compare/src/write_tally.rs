@@ -1,10 +1,10 @@
 //! Which figures were written, and why others were refused.
 
 use crate::figure_reasons::{LINK_REASONS, YARD_REASONS};
+use crate::ranks::RANKS;
 use crate::sums::Refused;
 use crate::tally::NUMBERS;
 use crate::write_rules::Request;
-use crate::yards::RANKS;
 use peer::link_set::LinkSet;
 use peer::records::WRITTEN_RECORDS;
 use peer::survey::{Yard, MAX_LINKS, MAX_STATIONS};
@@ -47,7 +47,7 @@ fn has_extremes(yard: &Yard, ceiling: usize) -> bool {
 }
 
 /// Numbers that ask for no yard record that is written.
-pub const UNKNOWN_KINDS: [u32; 15] = [
+pub const UNKNOWN_KINDS: [u32; 16] = [
     0,
     0x44,
     0x59,
@@ -56,6 +56,7 @@ pub const UNKNOWN_KINDS: [u32; 15] = [
     0x5943,
     0x5946,
     0x5947,
+    0x5948,
     0x0001_5944,
     0x0001_5945,
     0x8000_5944,
@@ -70,6 +71,8 @@ pub const UNKNOWN_KINDS: [u32; 15] = [
 pub struct WriteTally {
     /// Surveys that were written back from their figures.
     pub round_trips: u64,
+    /// Surveys with a third ceiling that were asked for and not written.
+    pub not_written: u64,
     /// Legal figures of each of `YARD_SORTS`.
     pub sorts: [u64; YARD_SORTS.len()],
     /// Legal figures with each of `RANKS`.
@@ -105,7 +108,7 @@ impl WriteTally {
             *count += u64::from(has(yard));
         }
         for (count, ranks) in self.ranks.iter_mut().zip(RANKS) {
-            *count += u64::from(ranks.map(usize::from) == yard.ranks);
+            *count += u64::from(yard.ranks[..2] == ranks.map(usize::from));
         }
     }
 
@@ -216,6 +219,7 @@ impl WriteTally {
     /// Adds what another tally has.
     pub fn add(&mut self, other: &WriteTally) {
         self.round_trips += other.round_trips;
+        self.not_written += other.not_written;
         self.stations = self.stations.or(other.stations);
         self.link_counts = self.link_counts.or(other.link_counts);
         for (refused, more) in self.links.iter_mut().zip(&other.links) {

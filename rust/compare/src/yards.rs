@@ -1,10 +1,12 @@
 //! The generator of legal yards.
 
 use crate::draft::{Draft, LinkDraft};
+use crate::ranks::{present, ranks_with};
 use crate::rng::Rng;
 use crate::site::Site;
-use crate::sums;
-use peer::records::{YardRecord, LINK_MARK, PLAIN, RESTING, YARD_RECORDS};
+use crate::value_counts::{legal_counts, thin};
+use crate::values::{put_limit, Signs, Values, SIGNS};
+use peer::records::{YardRecord, MAX_CEILINGS, PLAIN, RESTING, YARD_RECORDS};
 use std::ops::RangeInclusive;
 
 /// How a yard's links lie.
@@ -18,72 +20,31 @@ pub enum Layout {
     Disconnected,
 }
 
-/// Which sum and ceiling costs the links have.
+/// How many different values the ceilings of a yard have.
 #[derive(Clone, Copy)]
-pub enum Values {
-    /// Any that are legal.
-    Free,
-    /// Few different ones, so that trees tie; links are often parallel.
-    Tied,
-    /// The ends of the legal ranges and the values around 0.
-    Extreme,
-    /// No value twice.
-    Different,
-    /// The lower the sum cost, the higher the ceiling costs: many plans.
-    Opposed,
+enum ValueCounts {
+    /// So few that there are not too many positions.
+    Legal,
+    /// As many as come.
+    Any,
+    /// At most so many of each ceiling.
+    Most([usize; MAX_CEILINGS]),
 }
 
-/// Which signs the sum costs of a yard's links have.
-#[derive(Clone, Copy)]
-pub enum Signs {
-    /// None is below 0.
-    Plus,
-    /// All are below 0.
-    Minus,
-    /// Any.
-    Mixed,
-}
-
-impl Signs {
-    /// The sum costs of these signs that are at most `size` away from 0.
-    fn range(self, size: i64) -> RangeInclusive<i64> {
+impl ValueCounts {
+    /// Leaves that many different values in the costs of a yard with so many links and ceilings.
+    fn limit(self, costs: &mut [Vec<i64>], links: usize, ceilings: usize, rng: &mut Rng) {
         match self {
-            Signs::Plus => 0..=size,
-            Signs::Minus => -size..=-1,
-            Signs::Mixed => -size..=size,
+            ValueCounts::Any => {}
+            ValueCounts::Most(counts) => thin(costs, &counts, rng),
+            ValueCounts::Legal => {
+                if let Some(counts) = legal_counts(links, ceilings, rng) {
+                    thin(costs, &counts, rng);
+                }
+            }
         }
     }
-
-    /// Those of some sum costs that have these signs.
-    fn filter(self, sums: &[i64]) -> Vec<i64> {
-        let mut sums = sums.to_vec();
-        sums.retain(|sum| self.range(HIGHEST).contains(sum));
-        sums
-    }
 }
-
-/// The signs that yards of any signs draw from.
-const SIGNS: [Signs; 3] = [Signs::Plus, Signs::Minus, Signs::Mixed];
-
-/// The limits of sum costs.
-const LOWEST: i64 = sums::LOWEST as i64;
-const HIGHEST: i64 = sums::HIGHEST as i64;
-/// The ends of the legal sum costs and the values around 0.
-const EXTREMES: [i64; 7] = [LOWEST, LOWEST + 1, -1, 0, 1, HIGHEST - 1, HIGHEST];
-
-/// The ranks that a yard may have where they are not above t.
-pub const RANKS: [[u8; 2]; 10] = [
-    [0, 0],
-    [1, 0],
-    [2, 0],
-    [3, 0],
-    [1, 1],
-    [1, 2],
-    [1, 3],
-    [2, 1],
-    [2, 2],
-    [3, 1],
-];
 
 /// What a yard is to be like.
 pub struct Recipe {
@@ -98,6 +59,8 @@ pub struct Recipe {
     /// One in how many stations rests where the record has rest bytes; without it each yard draws
     /// its own number.
     one_in: Option<u8>,
+    /// How many different values the ceilings have.
+    counts: ValueCounts,
 }
 
 impl Recipe {
@@ -117,6 +80,7 @@ impl Recipe {
             signs: Some(Signs::Plus),
             record: Some(PLAIN),
             one_in: None,
+            counts: ValueCounts::Legal,
         }
     }
 
@@ -150,55 +114,87 @@ impl Recipe {
         Recipe { one_in, ..self }.with_record(RESTING)
     }
 
+    /// The recipe with values that can make too many positions of three ceilings.
+    pub const fn with_any_values(self) -> Recipe {
+        let counts = ValueCounts::Any;
+        Recipe { counts, ..self }
+    }
+
+    /// The recipe with at most so many values of each ceiling.
+    pub const fn with_value_counts(self, counts: [usize; MAX_CEILINGS]) -> Recipe {
+        let counts = ValueCounts::Most(counts);
+        Recipe { counts, ..self }
+    }
+
+    /// The yard records of its yards.
+    pub fn records(&self) -> Vec<YardRecord> {
+        self.record
+            .map_or(YARD_RECORDS.to_vec(), |record| vec![record])
+    }
+
     /// A yard with any legal number of ceilings and any legal ranks.
     pub fn draft(&self, rng: &mut Rng) -> Draft {
         let stations = rng.within(self.stations.clone()) as u8;
         let (record, site) = self.site(stations, rng);
         let is_legal = |&rank: &u8| usize::from(rank) < site.working.len();
-        let mut legal = RANKS.to_vec();
+        let mut legal = ranks_with(record);
         legal.retain(|ranks| ranks.iter().all(is_legal));
         self.draft_on(record, &site, rng.pick(&legal), rng)
     }
 
     /// A yard with these ranks; a ceiling is present if its rank is not 0.
-    pub fn draft_with(&self, stations: u8, ranks: [u8; 2], rng: &mut Rng) -> Draft {
+    pub fn draft_with(&self, stations: u8, ranks: [u8; MAX_CEILINGS], rng: &mut Rng) -> Draft {
         let (record, site) = self.site(stations, rng);
         self.draft_on(record, &site, ranks, rng)
     }
 
     /// The yard record of a yard, and its stations.
     fn site(&self, stations: u8, rng: &mut Rng) -> (YardRecord, Site) {
-        let record = self.record.unwrap_or_else(|| rng.pick(&YARD_RECORDS));
+        // A ceiling needs a tree with a link, and that two stations.
+        let least_working = |record: YardRecord| 1 + u8::from(record.least_ceilings > 0);
+        let mut records = self.records();
+        records.retain(|&record| stations >= least_working(record));
+        let record = match records[..] {
+            [record] => record,
+            _ => rng.pick(&records),
+        };
         let site = match record.rest_at {
             None => Site::working(stations),
-            Some(_) => Site::resting(stations, self.one_in, rng),
+            Some(_) => Site::resting(stations, self.one_in, least_working(record), rng),
         };
         (record, site)
     }
 
     /// A yard of these stations with these ranks.
-    fn draft_on(&self, record: YardRecord, site: &Site, ranks: [u8; 2], rng: &mut Rng) -> Draft {
-        let ceilings = ranks.iter().filter(|&&rank| rank > 0).count();
+    fn draft_on(
+        &self,
+        record: YardRecord,
+        site: &Site,
+        ranks: [u8; MAX_CEILINGS],
+        rng: &mut Rng,
+    ) -> Draft {
+        let (room, ceilings) = (record.most_ceilings, present(&ranks));
         let ends = self.ends(site, rng);
         let signs = self.signs.unwrap_or_else(|| rng.pick(&SIGNS));
-        let mut sums = self.sums(ends.len(), signs, rng);
+        let mut sums = self.values.sums(ends.len(), signs, rng);
         if self.signs.is_none() && rng.once_in(4) {
             put_limit(&mut sums, signs, rng);
         }
-        let mut costs = self.costs(&sums, signs, rng);
-        costs[ceilings..]
-            .iter_mut()
-            .for_each(|absent| absent.fill(0));
+        let mut costs = self.values.costs(&sums, signs, room, rng);
+        self.counts.limit(&mut costs, ends.len(), ceilings, rng);
+        costs.truncate(ceilings);
+        let cost = |i: usize, ceiling: usize| costs.get(ceiling).map_or(0, |costs| costs[i] as i16);
         let link = |i: usize| LinkDraft {
-            mark: LINK_MARK,
+            mark: record.link.mark,
             ends: ends[i],
             sum: sums[i] as i32,
-            costs: [costs[0][i] as i16, costs[1][i] as i16],
+            costs: std::array::from_fn(|ceiling| cost(i, ceiling)),
         };
         Draft {
             mark: record.mark,
             stations: site.stations,
             ceilings: ceilings as u8,
+            room,
             ranks,
             count: record.count_at.map(|_| ends.len() as u8),
             rest: record.rest_at.map(|_| site.rest_bytes()),
@@ -232,53 +228,6 @@ impl Recipe {
         rng.shuffle(&mut ends);
         ends
     }
-
-    fn sums(&self, count: usize, signs: Signs, rng: &mut Rng) -> Vec<i64> {
-        let scale = rng.pick(&[9, 1000, HIGHEST]);
-        match self.values {
-            Values::Different | Values::Opposed => different(count, signs.range(HIGHEST), rng),
-            Values::Free => numbers(count, || rng.within(signs.range(scale))),
-            Values::Tied => numbers(count, || rng.within(signs.range(2))),
-            Values::Extreme => {
-                let extremes = signs.filter(&EXTREMES);
-                numbers(count, || rng.pick(&extremes))
-            }
-        }
-    }
-
-    /// The costs of both ceilings, for links with these sums.
-    fn costs(&self, sums: &[i64], signs: Signs, rng: &mut Rng) -> [Vec<i64>; 2] {
-        if let Values::Opposed = self.values {
-            return opposed(sums, *signs.range(HIGHEST).start(), rng);
-        }
-        let legal = i64::from(i16::MIN)..=i64::from(i16::MAX);
-        [0, 1].map(|_| match self.values {
-            Values::Different => different(sums.len(), legal.clone(), rng),
-            Values::Tied => numbers(sums.len(), || rng.within(-1..=2)),
-            Values::Extreme => numbers(sums.len(), || rng.pick(&[-32_768, -1, 0, 32_767])),
-            _ => numbers(sums.len(), || rng.within(legal.clone())),
-        })
-    }
-}
-
-/// Puts a limit of these signs on some link, if there is one.
-fn put_limit(sums: &mut [i64], signs: Signs, rng: &mut Rng) {
-    let limit = rng.pick(&signs.filter(&[LOWEST, HIGHEST]));
-    let count = sums.len();
-    if let Some(sum) = sums.get_mut(rng.below(count.max(1))) {
-        *sum = limit;
-    }
-}
-
-/// Costs that share out between the ceilings how far a link's sum is below the highest: the lower
-/// the sum, the higher the costs. `least` is the lowest sum that may occur.
-fn opposed(sums: &[i64], least: i64, rng: &mut Rng) -> [Vec<i64>; 2] {
-    let shares = numbers(sums.len(), || rng.within(0..=1000));
-    let unit = (HIGHEST - least) * 31 / 1000;
-    let cost = |(sum, share): (&i64, i64)| (HIGHEST - sum) * share / unit - 16_000;
-    let firsts = sums.iter().zip(shares.iter().copied()).map(cost);
-    let seconds = sums.iter().zip(shares.iter().map(|share| 1000 - share));
-    [firsts.collect(), seconds.map(cost).collect()]
 }
 
 /// The range of stations on one side of the cut that has two stations, if any has.
@@ -305,39 +254,55 @@ fn pair([start, end]: [u8; 2], rng: &mut Rng) -> [u8; 2] {
     [a, b].map(|station| start + station as u8)
 }
 
-fn numbers(count: usize, next: impl FnMut() -> i64) -> Vec<i64> {
-    std::iter::repeat_with(next).take(count).collect()
-}
-
-/// That many different numbers of a range, in random order.
-fn different(count: usize, range: RangeInclusive<i64>, rng: &mut Rng) -> Vec<i64> {
-    let step = (range.end() - range.start()) / count.max(1) as i64;
-    let mut numbers: Vec<i64> = (0..count as i64)
-        .map(|i| range.start() + i * step + rng.within(0..=step - 1))
-        .collect();
-    rng.shuffle(&mut numbers);
-    numbers
-}
-
 #[cfg(test)]
 mod tests {
     use super::*;
     use crate::kinds::exact;
-    use peer::records::COUNTED;
+    use peer::positions::Positions;
+    use peer::records::{COUNTED, TRIPLE};
     use peer::survey::Yard;
+    use peer::Refusal;
 
     #[test]
     fn all_legal_ranks_are_drawn() {
         for stations in 1..=5 {
-            let recipe = exact(stations, 6, Values::Free);
-            let drafts = (0..500).map(|seed| recipe.draft(&mut Rng::new(seed)));
-            let drawn: Vec<[u8; 2]> = drafts.map(|draft| draft.ranks).collect();
-            for ranks in (0..=4).flat_map(|k1| (0..=4).map(move |k2| [k1, k2])) {
-                let draft = recipe.draft_with(stations as u8, ranks, &mut Rng::new(0));
+            assert_legal_ranks_are_drawn(stations, PLAIN);
+        }
+        for stations in 2..=5 {
+            assert_legal_ranks_are_drawn(stations, TRIPLE);
+        }
+    }
+
+    fn assert_legal_ranks_are_drawn(stations: u8, record: YardRecord) {
+        let recipe = exact(stations.into(), 6, Values::Free).with_record(record);
+        let recipe = Recipe {
+            one_in: Some(u8::MAX),
+            ..recipe
+        };
+        let drafts = (0..500).map(|seed| recipe.draft(&mut Rng::new(seed)));
+        let drawn: Vec<[u8; 3]> = drafts.map(|draft| draft.ranks).collect();
+        for ranks in (0..125).map(|i| [i / 25, i / 5 % 5, i % 5]) {
+            if ranks[record.most_ceilings..].iter().all(|&rank| rank == 0) {
+                let draft = recipe.draft_with(stations, ranks, &mut Rng::new(0));
                 let is_legal = Yard::read(&draft.bytes()).is_ok();
                 assert_eq!(drawn.contains(&ranks), is_legal, "{stations} {ranks:?}");
             }
         }
+    }
+
+    #[test]
+    fn three_ceilings_have_at_most_1600_positions() {
+        let mut most = 0;
+        for seed in 0..200 {
+            let recipe = exact(6, 40, Values::Different).with_record(TRIPLE);
+            let yard = Yard::read(&recipe.draft(&mut Rng::new(seed)).bytes());
+            most = most.max(yard.map_or(0, |yard| Positions::of(&yard).count()));
+            let recipe = recipe.with_any_values().with_rest(u8::MAX);
+            let recipe = recipe.with_record(TRIPLE);
+            let reply = Yard::read(&recipe.draft(&mut Rng::new(seed)).bytes());
+            assert_eq!(reply.err(), Some(Refusal::whole(19)));
+        }
+        assert!((1500..=1600).contains(&most));
     }
 
     #[test]

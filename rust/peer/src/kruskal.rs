@@ -6,6 +6,7 @@
 
 use crate::link_set::LinkSet;
 use crate::plan::Plan;
+use crate::records::MAX_CEILINGS;
 use crate::survey::{Link, Yard, MAX_EXCEPTIONS, MAX_LINKS, MAX_STATIONS};
 use std::ops::Range;
 
@@ -34,14 +35,14 @@ impl Groups {
 /// The set of bounds that a link is above: bit i stands for bound i.
 type Class = usize;
 
-const CLASSES: usize = 1 << 2;
+const CLASSES: usize = 1 << MAX_CEILINGS;
 /// The class of the links above no bound.
 const NORMAL: Class = 0;
 const EXCEPTIONAL: Range<Class> = NORMAL + 1..CLASSES;
 
 /// How many more links of a tree may be above each bound.
 #[derive(Clone, Copy)]
-struct Room([usize; 2]);
+struct Room([usize; MAX_CEILINGS]);
 
 impl Room {
     /// What is left beside a link of a class; none if there is no room for the link.
@@ -99,8 +100,10 @@ impl<'a> Solver<'a> {
     /// Sorts the yard's usable links by sum, then number.
     pub fn new(yard: &'a Yard) -> Solver<'a> {
         let mut sorted = [Link::default(); MAX_LINKS];
-        let count = copy_usable(yard, &mut sorted);
-        sorted[..count].sort_unstable_by_key(|link| (link.sum, link.number));
+        let (keys, count) = sorted_keys(yard);
+        for (link, key) in sorted.iter_mut().zip(&keys[..count]) {
+            *link = yard.links()[*key as u8 as usize];
+        }
         let room = Room(yard.ranks.map(|rank| rank.saturating_sub(1)));
         Solver {
             yard,
@@ -111,7 +114,7 @@ impl<'a> Solver<'a> {
     }
 
     /// The best tree under the bounds, if one fits.
-    pub fn best(&self, bounds: [i16; 2]) -> Option<Plan> {
+    pub fn best(&self, bounds: [i16; MAX_CEILINGS]) -> Option<Plan> {
         let kept = self.kept(bounds);
         let base = Base::of(&self.sorted, kept[NORMAL]);
         let mut search = Search::new(base.links(), self.yard.tree_len());
@@ -128,7 +131,7 @@ impl<'a> Solver<'a> {
     ///
     /// Among links of one class a cheaper one can stand for a dearer, so a best tree has only
     /// those that Kruskal keeps of them. Nor has it one dearer than a whole tree of normal links.
-    fn kept(&self, bounds: [i16; 2]) -> [LinkSet; CLASSES] {
+    fn kept(&self, bounds: [i16; MAX_CEILINGS]) -> [LinkSet; CLASSES] {
         let mut kept = [LinkSet::default(); CLASSES];
         let mut groups = [Groups::apart(); CLASSES];
         let mut missing = self.yard.tree_len();
@@ -145,25 +148,22 @@ impl<'a> Solver<'a> {
         kept
     }
 
-    fn class(&self, link: &Link, bounds: [i16; 2]) -> Class {
+    fn class(&self, link: &Link, bounds: [i16; MAX_CEILINGS]) -> Class {
         let above = |i: usize| i < self.yard.ceilings && link.costs[i] > bounds[i];
-        usize::from(above(0)) | usize::from(above(1)) << 1
+        (0..MAX_CEILINGS).fold(NORMAL, |class, i| class | usize::from(above(i)) << i)
     }
 }
 
-/// Copies the usable links of a yard to the front of a row; gives their number.
-fn copy_usable(yard: &Yard, row: &mut [Link; MAX_LINKS]) -> usize {
-    let all = yard.links();
-    if yard.rest.is_empty() {
-        row[..all.len()].copy_from_slice(all);
-        return all.len();
-    }
-    let mut count = 0;
-    for (place, link) in row.iter_mut().zip(yard.usable_links()) {
-        *place = *link;
+/// A key for each usable link, rising, and how many there are. The low byte of a key is the link's
+/// number, the rest is its sum.
+fn sorted_keys(yard: &Yard) -> ([i64; MAX_LINKS], usize) {
+    let (mut keys, mut count) = ([0; MAX_LINKS], 0);
+    for (key, link) in keys.iter_mut().zip(yard.usable_links()) {
+        *key = i64::from(link.sum) << 8 | i64::from(link.number);
         count += 1;
     }
-    count
+    keys[..count].sort_unstable();
+    (keys, count)
 }
 
 /// The best tree so far out of sets of exceptions, each completed from the base.
@@ -195,7 +195,8 @@ impl<'a> Search<'a> {
     }
 
     /// Tries the first exceptions alone, and each with the second ones that come after it; both
-    /// sets are of places in the sorted row.
+    /// sets are of places in the sorted row. Out of line it is faster.
+    #[inline(never)]
     fn try_sets(&mut self, sorted: &[Link; MAX_LINKS], firsts: LinkSet, seconds: LinkSet) {
         for first in firsts.links() {
             let link = &sorted[usize::from(first)];

@@ -13,6 +13,7 @@ pub mod listing;
 pub mod plan;
 mod plan_index;
 pub mod plan_list;
+pub mod positions;
 pub mod records;
 mod reply;
 pub mod rest;
@@ -25,9 +26,11 @@ use link_set::LinkSet;
 use plan::Plan;
 pub use plan_index::{index, index_lookup};
 pub use plan_list::fetch;
+use positions::Positions;
+use records::MAX_CEILINGS;
 pub use reply::{Costs, Refusal};
 use survey::Yard;
-use walk::{Positions, Walk};
+use walk::Walk;
 pub use writing::{write_survey, Figures};
 
 /// The costs of a drawn tree.
@@ -56,7 +59,11 @@ fn tree_of(yard: &Yard, drawn: &[u8]) -> Option<(LinkSet, i32)> {
 }
 
 /// The best tree under ceilings: its costs, and its links in the lent tree buffer.
-pub fn best(survey: &[u8], ceilings: [i16; 2], tree: &mut [u8]) -> Result<Costs, Refusal> {
+pub fn best(
+    survey: &[u8],
+    ceilings: [i16; MAX_CEILINGS],
+    tree: &mut [u8],
+) -> Result<Costs, Refusal> {
     let yard = Yard::read(survey)?;
     let links = tree.get_mut(..yard.tree_len()).ok_or(Refusal::whole(9))?;
     let plan = Solver::new(&yard)
@@ -70,7 +77,7 @@ pub fn best(survey: &[u8], ceilings: [i16; 2], tree: &mut [u8]) -> Result<Costs,
 pub fn list(survey: &[u8], allowance: u32, buffer: &mut [u8]) -> Result<(), Refusal> {
     let yard = Yard::read(survey)?;
     let positions = Positions::of(&yard);
-    if buffer.len() < plan_list::need(positions.count(), yard.tree_len()) {
+    if buffer.len() < plan_list::need(&yard, positions.count()) {
         return Err(Refusal::whole(9));
     }
     let Some(walk) = Walk::of(&yard, &positions, allowance) else {

@@ -1,6 +1,7 @@
 //! All trees of a yard, and the answers that follow from them by definition.
 
 use crate::plan::Plan;
+use crate::records::MAX_CEILINGS;
 use crate::reply::Costs;
 use crate::survey::{Link, Yard};
 
@@ -32,12 +33,12 @@ impl<'a> Listing<'a> {
     }
 
     /// Whether each present ceiling cost is at most its bound.
-    pub fn fits(&self, costs: Costs, bounds: [i16; 2]) -> bool {
+    pub fn fits(&self, costs: Costs, bounds: [i16; MAX_CEILINGS]) -> bool {
         (0..self.yard.ceilings).all(|i| costs.ceilings[i] <= bounds[i])
     }
 
     /// The best tree under the bounds: least sum, then first.
-    pub fn best(&self, bounds: [i16; 2]) -> Option<Plan> {
+    pub fn best(&self, bounds: [i16; MAX_CEILINGS]) -> Option<Plan> {
         let fitting = |plan: &&Plan| self.fits(plan.costs, bounds);
         // Of equal sums `min_by_key` gives the first.
         let best = self.trees.iter().filter(fitting);
@@ -67,22 +68,35 @@ impl<'a> Listing<'a> {
         values
     }
 
+    /// All positions in the order of the walk, each as the values it picks.
+    pub fn positions(&self) -> Vec<[i16; MAX_CEILINGS]> {
+        let mut positions = vec![[0; MAX_CEILINGS]];
+        for ceiling in 0..MAX_CEILINGS {
+            let values = self.values(ceiling);
+            let with_each = |position: &[i16; MAX_CEILINGS]| {
+                let mut each = vec![*position; values.len()];
+                each.iter_mut()
+                    .zip(&values)
+                    .for_each(|(position, &value)| position[ceiling] = value);
+                each
+            };
+            positions = positions.iter().flat_map(with_each).collect();
+        }
+        positions
+    }
+
     /// How many positions the walk solves.
     pub fn solved_count(&self) -> u32 {
-        let [firsts, seconds] = [0, 1].map(|ceiling| self.values(ceiling));
         // Each mark covers the values from the bounds of a position down to these lows.
-        let mut marks: Vec<([i16; 2], [i16; 2])> = Vec::new();
-        for &first in &firsts {
-            for &second in &seconds {
-                let within = |(bounds, lows): &([i16; 2], [i16; 2])| {
-                    (lows[0]..=bounds[0]).contains(&first)
-                        && (lows[1]..=bounds[1]).contains(&second)
-                };
-                if !marks.iter().any(within) {
-                    let found = self.best([first, second]);
-                    let lows = found.map_or([i16::MIN; 2], |plan| plan.costs.ceilings);
-                    marks.push(([first, second], lows));
-                }
+        let mut marks: Vec<[[i16; MAX_CEILINGS]; 2]> = Vec::new();
+        for bounds in self.positions() {
+            let is_within = |[highs, lows]: &[[i16; MAX_CEILINGS]; 2]| {
+                (0..MAX_CEILINGS).all(|i| (lows[i]..=highs[i]).contains(&bounds[i]))
+            };
+            if !marks.iter().any(is_within) {
+                let found = self.best(bounds);
+                let lows = found.map_or([i16::MIN; MAX_CEILINGS], |plan| plan.costs.ceilings);
+                marks.push([bounds, lows]);
             }
         }
         marks.len() as u32
@@ -138,7 +152,7 @@ fn connects(yard: &Yard, links: &[Link]) -> bool {
 
 /// The sum, and each present ceiling's cost at its rank among the falling costs.
 fn costs(yard: &Yard, links: &[Link]) -> Costs {
-    let mut ceilings = [0; 2];
+    let mut ceilings = [0; MAX_CEILINGS];
     for i in 0..yard.ceilings {
         let mut falling: Vec<i16> = links.iter().map(|link| link.costs[i]).collect();
         falling.sort_by(|a, b| b.cmp(a));

@@ -1,6 +1,7 @@
 //! Trees and their costs.
 
 use crate::link_set::LinkSet;
+use crate::records::MAX_CEILINGS;
 use crate::reply::Costs;
 use crate::survey::{Yard, MAX_RANK};
 
@@ -16,7 +17,7 @@ pub struct Plan {
 impl Plan {
     /// The plan of a tree whose sum is known.
     pub fn of(yard: &Yard, tree: LinkSet, sum: i32) -> Plan {
-        let mut ceilings = [0; 2];
+        let mut ceilings = [0; MAX_CEILINGS];
         for (i, ceiling) in ceilings.iter_mut().enumerate().take(yard.ceilings) {
             let costs = tree
                 .links()

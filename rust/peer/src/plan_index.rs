@@ -1,9 +1,9 @@
 //! The index of a plan list by first ceiling, and lookups in it.
 
-use crate::plan_list::{read_plan, Records};
-use crate::reply::{Costs, Refusal};
+use crate::plan_list::Records;
+use crate::reply::Refusal;
 
-/// What a plan is sorted by: y1, sum, y2 and its number.
+/// What a plan is sorted by: y1, sum, y2 and its number. A third ceiling cost is not in it.
 type Key = (i16, i32, i16, u16);
 
 /// Stands for y1 and y2 where no ceiling is present: all plans are alike in it, and it is at most
@@ -48,11 +48,11 @@ pub fn index_lookup(list: &[u8], index: &[u8], value: i16) -> Result<u16, Refusa
 fn keys(list: &[u8]) -> Result<Vec<Key>, Refusal> {
     let records = Records::read(list)?;
     let mut keys = Vec::with_capacity(records.iter().len());
-    for (record, number) in records.iter().zip(0..) {
-        let (Costs { sum, ceilings }, _) = read_plan(record)?;
+    for (plan, number) in records.iter().zip(0..) {
+        let (sum, written) = records.front(plan)?;
         let [y1, y2] = match records.ceilings {
             0 => [NO_COST; 2],
-            _ => ceilings,
+            _ => written,
         };
         keys.push((y1, sum, y2, number));
     }

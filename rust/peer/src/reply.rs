@@ -1,9 +1,11 @@
 //! What the calls reply.
 
+use crate::records::MAX_CEILINGS;
+
 /// Why a call declined: its number, and the place where the number has one.
 #[derive(Clone, Copy, PartialEq, Eq, Debug)]
 pub struct Refusal {
-    /// The number of the cause, 1 to 17.
+    /// The number of the cause, 1 to 19.
     pub number: u8,
     /// 0 for the yard record, link number plus 1 for a link.
     pub place: u8,
@@ -30,5 +32,5 @@ pub struct Costs {
     /// The sum of the links' sum costs.
     pub sum: i32,
     /// The ceiling costs.
-    pub ceilings: [i16; 2],
+    pub ceilings: [i16; MAX_CEILINGS],
 }

@@ -1,6 +1,7 @@
 //! The reader of surveys.
 
-use crate::records::{YardRecord, LINK_BYTES, LINK_MARK};
+use crate::positions::has_more_than;
+use crate::records::{YardRecord, MAX_CEILINGS, THREE_COSTS, TWO_COSTS};
 use crate::reply::Refusal;
 use crate::rest::Rest;
 use std::ops::RangeInclusive;
@@ -9,6 +10,8 @@ use std::ops::RangeInclusive;
 pub const MAX_STATIONS: usize = 24;
 /// The most links of a yard.
 pub const MAX_LINKS: usize = 40;
+/// The most positions of a walk.
+pub const MAX_POSITIONS: usize = 1600;
 /// The sum costs that a link may have.
 pub const SUMS: RangeInclusive<i32> = -1_000_000..=1_000_000;
 /// The most links above a bound that the ranks allow a tree.
@@ -24,15 +27,20 @@ pub(crate) struct Head {
     /// How many ceilings are present.
     pub ceilings: usize,
     /// The rank of each ceiling; 0 where it is absent.
-    pub ranks: [usize; 2],
+    pub ranks: [usize; MAX_CEILINGS],
     /// Which stations rest.
     pub rest: Rest,
 }
 
 impl Head {
-    /// Gives the number of the first refusal, if these figures are illegal, or the links are too
-    /// many or not as many as written.
-    pub fn check(&self, link_count: usize, written_count: Option<usize>) -> Result<(), u8> {
+    /// Gives the number of the first refusal, if these figures are illegal with a yard record, or the
+    /// links are too many or not as many as written.
+    pub fn check(
+        &self,
+        kind: YardRecord,
+        link_count: usize,
+        written_count: Option<usize>,
+    ) -> Result<(), u8> {
         if !(1..=MAX_STATIONS).contains(&self.stations) {
             return Err(3);
         }
@@ -45,7 +53,7 @@ impl Head {
         if !self.rest.is_legal(self.stations) {
             return Err(18);
         }
-        if self.ceilings > 2 {
+        if !(kind.least_ceilings..=kind.most_ceilings).contains(&self.ceilings) {
             return Err(5);
         }
         if !ranks_are_legal(self.ceilings, self.ranks, self.tree_len()) {
@@ -70,7 +78,7 @@ pub struct Link {
     /// Its sum cost.
     pub sum: i32,
     /// Its ceiling costs; 0 where the ceiling is absent.
-    pub costs: [i16; 2],
+    pub costs: [i16; MAX_CEILINGS],
     /// Whether it ends at no station that rests.
     pub is_usable: bool,
 }
@@ -83,7 +91,7 @@ pub struct Yard {
     /// How many ceilings are present.
     pub ceilings: usize,
     /// The rank of each ceiling; 0 where it is absent.
-    pub ranks: [usize; 2],
+    pub ranks: [usize; MAX_CEILINGS],
     /// Which stations rest.
     pub rest: Rest,
     tree_len: usize,
@@ -98,18 +106,20 @@ impl Yard {
         let (head, rest) = survey
             .split_at_checked(kind.bytes)
             .ok_or(Refusal::whole(1))?;
-        let (records, odd_bytes) = rest.as_chunks::<LINK_BYTES>();
-        if !odd_bytes.is_empty() {
+        if rest.len() % kind.link.bytes > 0 {
             return Err(Refusal::whole(1));
         }
-        let mut yard = Yard::read_head(kind, head, records.len()).map_err(Refusal::whole)?;
-        for (number, record) in records.iter().enumerate() {
-            yard.links[number] = yard
-                .read_link(number as u8, record)
-                .map_err(|cause| Refusal::at_link(number as u8, cause))?;
+        let link_count = rest.len() / kind.link.bytes;
+        let mut yard = Yard::read_head(kind, head, link_count).map_err(Refusal::whole)?;
+        match kind.link {
+            TWO_COSTS => yard.read_links::<{ TWO_COSTS.bytes }>(kind, rest)?,
+            _ => yard.read_links::<{ THREE_COSTS.bytes }>(kind, rest)?,
         }
         yard.mark_unusable();
-        Ok(yard)
+        match has_more_than(MAX_POSITIONS, &yard) {
+            true => Err(Refusal::whole(19)),
+            false => Ok(yard),
+        }
     }
 
     /// The links in survey order.
@@ -138,14 +148,14 @@ impl Yard {
         if !record.starts_with(&kind.mark) {
             return Err(2);
         }
-        let [stations, ceilings, k1, k2] = [2, 3, 4, 5].map(|at| record[at].into());
+        let [stations, ceilings] = [2, 3].map(|at| record[at].into());
         let head = Head {
             stations,
             ceilings,
-            ranks: [k1, k2],
+            ranks: kind.ranks(record),
             rest: kind.rest(record),
         };
-        head.check(link_count, kind.written_count(record))?;
+        head.check(kind, link_count, kind.written_count(record))?;
         Ok(Yard {
             stations,
             ceilings,
@@ -167,12 +177,37 @@ impl Yard {
         }
     }
 
-    /// One link of this yard, usable so far, or the number of the refusal.
-    fn read_link(&self, number: u8, record: &[u8; LINK_BYTES]) -> Result<Link, u8> {
-        let [mark0, mark1, a, b, s0, s1, s2, s3, c0, c1, d0, d1] = *record;
+    /// Reads the links out of records of that many bytes; they are all usable so far.
+    fn read_links<const BYTES: usize>(
+        &mut self,
+        kind: YardRecord,
+        records: &[u8],
+    ) -> Result<(), Refusal> {
+        let (records, _) = records.as_chunks::<BYTES>();
+        for (number, record) in records.iter().enumerate() {
+            self.links[number] = self
+                .read_link(kind, number as u8, record)
+                .map_err(|cause| Refusal::at_link(number as u8, cause))?;
+        }
+        Ok(())
+    }
+
+    /// One link of this yard, or the number of the refusal.
+    #[inline(always)]
+    fn read_link<const BYTES: usize>(
+        &self,
+        kind: YardRecord,
+        number: u8,
+        record: &[u8; BYTES],
+    ) -> Result<Link, u8> {
+        let (&[mark0, mark1, a, b, s0, s1, s2, s3], written) =
+            record.split_first_chunk().ok_or(2)?;
         let sum = i32::from_le_bytes([s0, s1, s2, s3]);
-        let costs = [[c0, c1], [d0, d1]].map(i16::from_le_bytes);
-        if [mark0, mark1] != LINK_MARK {
+        let mut costs = [0; MAX_CEILINGS];
+        for (cost, &bytes) in costs.iter_mut().zip(written.as_chunks().0) {
+            *cost = i16::from_le_bytes(bytes);
+        }
+        if [mark0, mark1] != kind.link.mark {
             return Err(2);
         }
         check_link(self.stations, self.ceilings, [a, b], sum, costs)?;
@@ -188,7 +223,7 @@ impl Yard {
 
 /// Absent ranks are 0. Present ones are 1 to `tree_len`, and together they allow a tree at most
 /// `MAX_EXCEPTIONS`: a rank of k allows k − 1.
-fn ranks_are_legal(ceilings: usize, ranks: [usize; 2], tree_len: usize) -> bool {
+fn ranks_are_legal(ceilings: usize, ranks: [usize; MAX_CEILINGS], tree_len: usize) -> bool {
     let (present, absent) = ranks.split_at(ceilings);
     absent.iter().all(|&rank| rank == 0)
         && present.iter().all(|rank| (1..=tree_len).contains(rank))
@@ -197,12 +232,12 @@ fn ranks_are_legal(ceilings: usize, ranks: [usize; 2], tree_len: usize) -> bool 
 
 /// Gives the number of the first refusal, if a link is illegal in a yard of that many stations and
 /// ceilings.
-pub(crate) fn check_link(
+pub(crate) fn check_link<const COSTS: usize>(
     stations: usize,
     ceilings: usize,
     [a, b]: [u8; 2],
     sum: i32,
-    costs: [i16; 2],
+    costs: [i16; COSTS],
 ) -> Result<(), u8> {
     if usize::from(a.max(b)) >= stations || a == b {
         return Err(7);

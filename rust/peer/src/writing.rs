@@ -1,6 +1,6 @@
 //! The writer of surveys.
 
-use crate::records::{YardRecord, LINK_BYTES, LINK_MARK};
+use crate::records::{LinkRecord, YardRecord, MAX_CEILINGS, TWO_COSTS};
 use crate::reply::Refusal;
 use crate::rest::Rest;
 use crate::survey::{check_link, Head, MAX_LINKS};
@@ -22,6 +22,9 @@ pub struct Figures<'a> {
     pub costs: &'a [i16],
 }
 
+/// The link record of the yard records that are written.
+const LINK: LinkRecord = TWO_COSTS;
+
 /// The ceiling costs of as many links as a yard can have.
 type CostPairs = [[i16; 2]; MAX_LINKS];
 
@@ -32,7 +35,7 @@ type LinkFigures = ([u8; 2], i32, [i16; 2]);
 /// named by its mark, read as a number with the first byte high.
 pub fn write_survey(kind: u32, figures: &Figures, survey: &mut [u8]) -> Result<(), Refusal> {
     let kind = YardRecord::named(kind).ok_or(Refusal::whole(2))?;
-    figures.check_head()?;
+    figures.check_head(kind)?;
     let costs = figures.cost_pairs();
     figures.check_links(&costs)?;
     let (yard_record, link_records) =
@@ -44,15 +47,20 @@ pub fn write_survey(kind: u32, figures: &Figures, survey: &mut [u8]) -> Result<(
 
 impl Figures<'_> {
     /// Refuses illegal figures of the yard record, and too many links.
-    fn check_head(&self) -> Result<(), Refusal> {
+    fn check_head(&self, kind: YardRecord) -> Result<(), Refusal> {
+        let mut ranks = [0; MAX_CEILINGS];
+        for (rank, given) in ranks.iter_mut().zip(self.ranks) {
+            *rank = given.into();
+        }
         let head = Head {
             stations: self.stations.into(),
             ceilings: self.ceilings.into(),
-            ranks: self.ranks.map(usize::from),
+            ranks,
             rest: Rest::default(),
         };
         // No count is handed in: the one that is written is the number of links.
-        head.check(self.sums.len(), None).map_err(Refusal::whole)
+        head.check(kind, self.sums.len(), None)
+            .map_err(Refusal::whole)
     }
 
     /// Refuses the first illegal link.
@@ -98,7 +106,7 @@ impl Figures<'_> {
     }
 
     /// Writes the link records.
-    fn write_links(&self, costs: &CostPairs, records: &mut [[u8; LINK_BYTES]]) {
+    fn write_links(&self, costs: &CostPairs, records: &mut [[u8; LINK.bytes]]) {
         for (record, link) in records.iter_mut().zip(self.links(costs)) {
             *record = link_record(link);
         }
@@ -110,15 +118,15 @@ fn split_records(
     survey: &mut [u8],
     kind: YardRecord,
     link_count: usize,
-) -> Option<(&mut [u8], &mut [[u8; LINK_BYTES]])> {
+) -> Option<(&mut [u8], &mut [[u8; LINK.bytes]])> {
     let (yard_record, rest) = survey.split_at_mut_checked(kind.bytes)?;
     let (link_records, _) = rest.as_chunks_mut();
     Some((yard_record, link_records.get_mut(..link_count)?))
 }
 
 /// The bytes of a link.
-fn link_record(([a, b], sum, costs): LinkFigures) -> [u8; LINK_BYTES] {
-    let [mark0, mark1] = LINK_MARK;
+fn link_record(([a, b], sum, costs): LinkFigures) -> [u8; LINK.bytes] {
+    let [mark0, mark1] = LINK.mark;
     let [s0, s1, s2, s3] = sum.to_le_bytes();
     let [[c0, c1], [d0, d1]] = costs.map(i16::to_le_bytes);
     [mark0, mark1, a, b, s0, s1, s2, s3, c0, c1, d0, d1]

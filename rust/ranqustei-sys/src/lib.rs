@@ -5,9 +5,9 @@
 #![allow(unsafe_code)]
 
 /// The version of what is declared here; [`ranqustei_version`] is the archive's own.
-pub const VERSION: u32 = 6;
+pub const VERSION: u32 = 7;
 
-/// The figures of a yard record.
+/// The figures of a yard record that is written.
 #[repr(C)]
 #[derive(Clone, Copy, PartialEq, Eq, Debug)]
 pub struct Yard {
@@ -47,6 +47,8 @@ pub struct Reply {
     pub y1: i16,
     /// The second ceiling cost.
     pub y2: i16,
+    /// The third ceiling cost.
+    pub y3: i16,
 }
 
 /// The reply of fetching: number 0 and the part of the list that holds a plan's links, or the
@@ -90,7 +92,7 @@ unsafe extern "C" {
         drawn_length: usize,
     ) -> Reply;
 
-    /// The best tree under two ceilings.
+    /// The best tree under ceilings.
     ///
     /// # Safety
     /// Each pointer points to as many bytes as its length says; `tree` overlaps nothing else.
@@ -99,6 +101,7 @@ unsafe extern "C" {
         survey_length: usize,
         b1: i16,
         b2: i16,
+        b3: i16,
         tree: *mut u8,
         tree_length: usize,
     ) -> Reply;

@@ -1,7 +1,7 @@
 //! The calls of the proved archive on slices: the only unsafe code of this crate.
 
 use crate::refusal::{Refusal, DAMAGED};
-use crate::{Costs, Figures};
+use crate::{Costs, Figures, CEILINGS};
 use ranqustei_sys::{
     ranqustei_best, ranqustei_fetch, ranqustei_index, ranqustei_index_lookup, ranqustei_judge,
     ranqustei_list, ranqustei_write_survey, Reply, Yard,
@@ -20,15 +20,14 @@ fn costs(reply: Reply) -> Result<Costs, Refusal> {
     settle(reply.number, reply.place)?;
     Ok(Costs {
         sum: reply.sum,
-        y1: reply.y1,
-        y2: reply.y2,
+        ceilings: [reply.y1, reply.y2, reply.y3],
     })
 }
 
 /// Judges a drawn tree, given as its link numbers, rising: its costs.
 ///
 /// # Errors
-/// 1 to 8, 15 or 18 for the survey, 11 if the drawn links are no tree of the yard.
+/// 1 to 8, 15, 18 or 19 for the survey, 11 if the drawn links are no tree of the yard.
 pub fn judge(survey: &[u8], drawn: &[u8]) -> Result<Costs, Refusal> {
     // SAFETY: each pointer is that of a live slice and goes with its length. The call only reads,
     // so that it does no harm if the two overlap.
@@ -41,10 +40,10 @@ pub fn judge(survey: &[u8], drawn: &[u8]) -> Result<Costs, Refusal> {
 /// first t bytes of `tree`; the bytes after them stay. Bounds for absent ceilings are ignored.
 ///
 /// # Errors
-/// 1 to 8, 15 or 18 for the survey, 9 if `tree` is below t bytes, 14 if no tree fits. `tree` then
-/// stays as it was.
-pub fn best(survey: &[u8], ceilings: [i16; 2], tree: &mut [u8]) -> Result<Costs, Refusal> {
-    let [b1, b2] = ceilings;
+/// 1 to 8, 15, 18 or 19 for the survey, 9 if `tree` is below t bytes, 14 if no tree fits. `tree`
+/// then stays as it was.
+pub fn best(survey: &[u8], bounds: [i16; CEILINGS], tree: &mut [u8]) -> Result<Costs, Refusal> {
+    let [b1, b2, b3] = bounds;
     // SAFETY: each pointer is that of a live slice and goes with its length. `tree` is borrowed
     // for writing, so that it does not overlap the survey.
     let reply = unsafe {
@@ -53,6 +52,7 @@ pub fn best(survey: &[u8], ceilings: [i16; 2], tree: &mut [u8]) -> Result<Costs,
             survey.len(),
             b1,
             b2,
+            b3,
             tree.as_mut_ptr(),
             tree.len(),
         )
@@ -60,11 +60,12 @@ pub fn best(survey: &[u8], ceilings: [i16; 2], tree: &mut [u8]) -> Result<Costs,
     costs(reply)
 }
 
-/// Writes the list of plans into `buffer`, and 0 into its bytes after the list.
+/// Writes the list of plans into `buffer`, and 0 into its bytes after the list. 56,010 bytes are
+/// always enough.
 ///
 /// # Errors
-/// 1 to 8, 15 or 18 for the survey, 9 if `buffer` is below its need: it then stays as it was. 10 if
-/// the solved count would pass the allowance: the whole buffer is then 0.
+/// 1 to 8, 15, 18 or 19 for the survey, 9 if `buffer` is below its need: it then stays as it was. 10
+/// if the solved count would pass the allowance: the whole buffer is then 0.
 pub fn list(survey: &[u8], allowance: u32, buffer: &mut [u8]) -> Result<(), Refusal> {
     // SAFETY: each pointer is that of a live slice and goes with its length. `buffer` is borrowed
     // for writing, so that it does not overlap the survey.

@@ -7,8 +7,8 @@
 //!
 //! A yard has stations and links between them; some stations may rest. A plan is a tree: it connects
 //! all working stations without a ring, by links that end at none that rests. Its sum is taken over
-//! its links, of which some may give charge back and count below 0; each of its ceiling costs is the
-//! k-th largest of that cost over its links.
+//! its links, of which some may give charge back and count below 0; each of its ceiling costs, up to
+//! three, is the k-th largest of that cost over its links.
 //!
 //! ```
 //! use ranqustei::{Cause, Link, Yard};
@@ -35,8 +35,8 @@
 //! assert_eq!((number, plan.to_string()), (1, "7 7 links 0 1".to_string()));
 //!
 //! // The best plan under a bound, or a plain none.
-//! assert_eq!(survey.best([8, 0])?.to_string(), "7 7 links 0 1");
-//! assert_eq!(survey.best([6, 0]).map_err(|refusal| refusal.cause()), Err(Cause::NoTree));
+//! assert_eq!(survey.best([8, 0, 0])?.to_string(), "7 7 links 0 1");
+//! assert_eq!(survey.best([6, 0, 0]).map_err(|refusal| refusal.cause()), Err(Cause::NoTree));
 //!
 //! // The costs of a drawn plan.
 //! let drawn = survey.judge(&[0, 2])?;
@@ -83,7 +83,7 @@ mod yard;
 
 pub use archive::{best, fetch, index, index_lookup, judge, list, write_survey};
 pub use figures::Figures;
-pub use plan::{Costs, Plan};
+pub use plan::{Costs, Plan, CEILINGS};
 pub use plan_index::PlanIndex;
 pub use plan_list::PlanList;
 pub use record::YardRecord;

@@ -2,16 +2,17 @@
 
 use std::fmt;
 
-/// A plan's costs. The cost of an absent ceiling is 0.
+/// The most ceilings that a yard has.
+pub const CEILINGS: usize = 3;
+
+/// A plan's costs.
 #[derive(Clone, Copy, PartialEq, Eq, Debug)]
 #[non_exhaustive]
 pub struct Costs {
     /// The sum over the links; below 0 if they give back more charge than they take.
     pub sum: i32,
-    /// The first ceiling cost.
-    pub y1: i16,
-    /// The second ceiling cost.
-    pub y2: i16,
+    /// The ceiling costs, that of the first ceiling first; 0 for an absent ceiling.
+    pub ceilings: [i16; CEILINGS],
 }
 
 /// A tree of the yard with its costs.
@@ -31,10 +32,8 @@ pub struct Plan {
 impl Plan {
     /// The costs of the present ceilings.
     pub fn ceiling_costs(&self) -> Vec<i16> {
-        [self.costs.y1, self.costs.y2]
-            .into_iter()
-            .take(self.ceilings)
-            .collect()
+        let costs = self.costs.ceilings.into_iter();
+        costs.take(self.ceilings).collect()
     }
 }
 

@@ -1,8 +1,8 @@
 //! A list of plans, fresh from the planner or stored.
 
-use crate::record::{part, plan_len, HEAD_LEN};
+use crate::record::{costs_from, costs_in_plan, part, plan_len, HEAD_LEN, PLAN_COSTS};
 use crate::refusal::DAMAGED;
-use crate::{fetch, Cause, Costs, Plan, PlanIndex, Refusal};
+use crate::{fetch, Cause, Costs, Plan, PlanIndex, Refusal, CEILINGS};
 
 /// A list of plans: its bytes, all of whose plans can be fetched.
 #[derive(Clone, PartialEq, Eq, Debug)]
@@ -20,19 +20,18 @@ impl PlanList {
     ///
     /// # Errors
     /// 12 if the head or a plan is damaged.
-    pub fn from_bytes(mut bytes: Vec<u8>) -> Result<PlanList, Refusal> {
+    pub fn from_bytes(bytes: Vec<u8>) -> Result<PlanList, Refusal> {
         let len = fetched(&bytes)?;
         let [_, _, _, _, s0, s1, s2, s3, t, p] = part(&bytes, 0).ok_or(DAMAGED)?;
-        let tree_links = usize::from(t);
-        bytes.truncate(record_start(len, tree_links));
-        let solved = u32::from_le_bytes([s0, s1, s2, s3]);
-        Ok(PlanList {
+        let mut list = PlanList {
             bytes,
             len,
-            solved,
-            tree_links,
+            solved: u32::from_le_bytes([s0, s1, s2, s3]),
+            tree_links: usize::from(t),
             ceilings: usize::from(p),
-        })
+        };
+        list.bytes.truncate(list.record_start(len));
+        Ok(list)
     }
 
     /// The number of plans.
@@ -56,18 +55,29 @@ impl PlanList {
     /// 13 if the list has no such plan.
     pub fn get(&self, plan: u32) -> Result<Plan, Refusal> {
         let links = fetch(&self.bytes, plan)?.to_vec();
-        let record = part(&self.bytes, record_start(plan, self.tree_links)).ok_or(DAMAGED)?;
-        let [_, _, s0, s1, s2, s3, a0, a1, b0, b1] = record;
-        let costs = Costs {
-            sum: i32::from_le_bytes([s0, s1, s2, s3]),
-            y1: i16::from_le_bytes([a0, a1]),
-            y2: i16::from_le_bytes([b0, b1]),
-        };
+        let costs = self.costs(plan).ok_or(DAMAGED)?;
         Ok(Plan {
             costs,
             ceilings: self.ceilings,
             links,
         })
+    }
+
+    /// The costs in a plan's record.
+    fn costs(&self, plan: u32) -> Option<Costs> {
+        let record = self.bytes.get(self.record_start(plan)..)?;
+        let sum = i32::from_le_bytes(part(record, 2)?);
+        let mut ceilings = [0; CEILINGS];
+        let written = costs_from(record, PLAN_COSTS).take(costs_in_plan(self.ceilings));
+        for (ceiling, cost) in ceilings.iter_mut().zip(written) {
+            *ceiling = cost;
+        }
+        Some(Costs { sum, ceilings })
+    }
+
+    /// The byte at which a plan's record starts.
+    fn record_start(&self, plan: u32) -> usize {
+        HEAD_LEN + plan as usize * plan_len(self.ceilings, self.tree_links)
     }
 
     /// The plans by rising number.
@@ -99,9 +109,4 @@ fn fetched(bytes: &[u8]) -> Result<u32, Refusal> {
             Err(refusal) => return Err(refusal),
         }
     }
-}
-
-/// The byte at which a plan's record starts.
-fn record_start(plan: u32, tree_links: usize) -> usize {
-    HEAD_LEN + plan as usize * plan_len(tree_links)
 }

@@ -1,7 +1,9 @@
 //! The records of a survey and of a plan list, as bytes.
 
-/// The yard record that a survey opens with. A yard without resting stations reads the same from
-/// each.
+use crate::CEILINGS;
+
+/// The yard record that a survey opens with. A yard of at most two ceilings and without resting
+/// stations reads the same from each but the triple one.
 ///
 /// ```
 /// use ranqustei::{Cause, Link, Survey, Yard, YardRecord};
@@ -29,17 +31,38 @@ pub enum YardRecord {
     Counted,
     /// Mark 59 46, 10 bytes: the fields of the counted one, then which stations rest.
     Resting,
+    /// Mark 59 47, 11 bytes: the fields of the resting one with a third ceiling, whose cost the
+    /// links have too. It is for three ceilings, and not for fewer.
+    Triple,
 }
 
 /// Every yard record.
-const RECORDS: [YardRecord; 3] = [YardRecord::Plain, YardRecord::Counted, YardRecord::Resting];
+const RECORDS: [YardRecord; 4] = [
+    YardRecord::Plain,
+    YardRecord::Counted,
+    YardRecord::Resting,
+    YardRecord::Triple,
+];
 
-/// How a yard record is laid out.
+/// How a survey with a yard record is laid out.
 pub(crate) struct Layout {
-    /// Its first two bytes.
+    /// The first two bytes of the yard record.
     pub(crate) mark: [u8; 2],
-    /// Its bytes in all; the links follow.
+    /// The bytes of the yard record; the links follow.
     pub(crate) len: usize,
+    /// Whether the last three bytes of the yard record say which stations rest.
+    pub(crate) has_rest: bool,
+    /// The ceilings for which the yard record has a rank and each link a cost.
+    pub(crate) ceilings: usize,
+    /// The first two bytes of a link record.
+    pub(crate) link_mark: [u8; 2],
+}
+
+impl Layout {
+    /// The bytes of a link record.
+    pub(crate) fn link_len(&self) -> usize {
+        LINK_COSTS + COST_LEN * self.ceilings
+    }
 }
 
 impl YardRecord {
@@ -49,20 +72,34 @@ impl YardRecord {
         u16::from_be_bytes(self.layout().mark).into()
     }
 
-    /// How it is laid out.
+    /// How a survey with it is laid out.
     pub(crate) fn layout(self) -> Layout {
+        let plain = Layout {
+            mark: *b"YD",
+            len: 6,
+            has_rest: false,
+            ceilings: LEAST_CEILINGS,
+            link_mark: *b"LK",
+        };
         match self {
-            YardRecord::Plain => Layout {
-                mark: *b"YD",
-                len: 6,
-            },
+            YardRecord::Plain => plain,
             YardRecord::Counted => Layout {
                 mark: *b"YE",
                 len: 7,
+                ..plain
             },
             YardRecord::Resting => Layout {
                 mark: *b"YF",
                 len: 10,
+                has_rest: true,
+                ..plain
+            },
+            YardRecord::Triple => Layout {
+                mark: *b"YG",
+                len: 11,
+                has_rest: true,
+                ceilings: CEILINGS,
+                link_mark: *b"LM",
             },
         }
     }
@@ -76,21 +113,39 @@ impl YardRecord {
     }
 }
 
-/// Where the rest bytes of the resting yard record start.
-pub(crate) const REST_START: usize = 7;
-/// The first two bytes of a link record.
-pub(crate) const LINK_MARK: [u8; 2] = *b"LK";
-/// The bytes of a link record.
-pub(crate) const LINK_LEN: usize = 12;
+/// The ceilings that every record has room for, present or not.
+const LEAST_CEILINGS: usize = 2;
+/// The bytes of a ceiling cost.
+const COST_LEN: usize = 2;
+/// Where the ranks start in a yard record.
+pub(crate) const YARD_RANKS: usize = 4;
+/// Where the ceiling costs start in a link record.
+pub(crate) const LINK_COSTS: usize = 8;
 /// The bytes of a list head.
 pub(crate) const HEAD_LEN: usize = 10;
+/// Where the ceiling costs start in a plan record.
+pub(crate) const PLAN_COSTS: usize = 6;
 
-/// The bytes of a plan record with `t` links.
-pub(crate) fn plan_len(t: usize) -> usize {
-    10 + t
+/// The ceiling costs that a plan record has room for, in a list with so many ceilings.
+pub(crate) fn costs_in_plan(ceilings: usize) -> usize {
+    ceilings.max(LEAST_CEILINGS)
+}
+
+/// The bytes of a plan record with `t` links, in a list with so many ceilings.
+pub(crate) fn plan_len(ceilings: usize, t: usize) -> usize {
+    PLAN_COSTS + COST_LEN * costs_in_plan(ceilings) + t
 }
 
 /// The `N` bytes from `start`, if they are there.
 pub(crate) fn part<const N: usize>(bytes: &[u8], start: usize) -> Option<[u8; N]> {
     bytes.get(start..)?.first_chunk().copied()
+}
+
+/// The ceiling costs from `start` on; what follows them is read as such too.
+pub(crate) fn costs_from(bytes: &[u8], start: usize) -> impl Iterator<Item = i16> + '_ {
+    let (costs, _) = bytes
+        .get(start..)
+        .unwrap_or_default()
+        .as_chunks::<COST_LEN>();
+    costs.iter().map(|&cost| i16::from_le_bytes(cost))
 }

@@ -7,7 +7,7 @@ use std::fmt;
 #[derive(Clone, Copy, PartialEq, Eq, Debug)]
 #[non_exhaustive]
 pub struct Refusal {
-    /// The number of the cause, 1 to 18.
+    /// The number of the cause, 1 to 19.
     pub number: u8,
     /// 0 for the yard record or no record, else the link number plus 1.
     pub place: u8,
@@ -32,7 +32,7 @@ pub enum Cause {
     Stations,
     /// 4: there are over 40 links.
     Links,
-    /// 5: there are over 2 ceilings.
+    /// 5: there are over 2 ceilings, or with the triple yard record not 3.
     Ceilings,
     /// 6: a rank is against its rule.
     Rank,
@@ -60,6 +60,8 @@ pub enum Cause {
     Output,
     /// 18: a station at rest is not in the yard, or no station works.
     Resting,
+    /// 19: there are over 1,600 positions.
+    Positions,
     /// A number that the planner never gives.
     Unknown(u8),
 }
@@ -86,6 +88,7 @@ impl Refusal {
             16 => Cause::Index,
             17 => Cause::Output,
             18 => Cause::Resting,
+            19 => Cause::Positions,
             number => Cause::Unknown(number),
         }
     }
@@ -96,22 +99,32 @@ impl Refusal {
     }
 }
 
+/// What the length of a survey must be.
+const LENGTH_RULE: &str =
+    "a survey is 6 bytes, or 7 with a link count, or 10 with stations at rest, \
+     and then 12 bytes for each link; with three ceilings it is 11 bytes, and then 14";
+
+/// What the ranks of a yard must be.
+const RANK_RULE: &str = "a rank is 1 to 3 and not above the links of a tree, \
+     what the ranks have above 1 adds up to at most 2, and an absent ceiling has rank 0";
+
+/// What drawn links must be.
+const DRAWN_RULE: &str =
+    "the drawn links are no tree of the yard: they must be one fewer than the working \
+     stations, rising, in the survey, at no resting station, and without a ring";
+
 impl Cause {
     /// What is wrong; for a link's record it follows the words `link e`.
     fn words(self) -> &'static str {
         match self {
-            Cause::Length => {
-                "a survey is 6 bytes, or 7 with a link count, or 10 with stations at rest, \
-                 and then 12 bytes for each link"
-            }
+            Cause::Length => LENGTH_RULE,
             Cause::Mark => "has a wrong mark",
             Cause::Stations => "a yard has 1 to 24 stations",
             Cause::Links => "a yard has at most 40 links",
-            Cause::Ceilings => "a yard has at most 2 ceilings",
-            Cause::Rank => {
-                "a rank is 1 to 3 and not above the links of a tree, \
-                 beside a rank of 3 the other is 1, and an absent ceiling has rank 0"
+            Cause::Ceilings => {
+                "a yard has at most 2 ceilings, and with the triple yard record it has 3"
             }
+            Cause::Rank => RANK_RULE,
             Cause::Ends => {
                 "joins a station that the yard does not have, or joins a station to itself"
             }
@@ -121,10 +134,7 @@ impl Cause {
             }
             Cause::Buffer => "the buffer is too short",
             Cause::Allowance => "the walk would solve more positions than the allowance",
-            Cause::Drawn => {
-                "the drawn links are no tree of the yard: they must be one fewer than the working \
-                 stations, rising, in the survey, at no resting station, and without a ring"
-            }
+            Cause::Drawn => DRAWN_RULE,
             Cause::Damaged => "the plan list is damaged, or the index is not its own",
             Cause::PlanNumber => "the list has no such plan",
             Cause::NoTree => "no tree fits the ceilings",
@@ -134,6 +144,10 @@ impl Cause {
             Cause::Index => "the index has fewer than 2 bytes for each plan",
             Cause::Output => "the output has no room for the survey",
             Cause::Resting => "a station at rest is not in the yard, or no station works",
+            Cause::Positions => {
+                "the yard has over 1,600 positions: the different costs of usable links by \
+                 ceiling, multiplied"
+            }
             Cause::Unknown(_) => "refused for an unknown cause",
         }
     }
@@ -164,7 +178,7 @@ mod tests {
 
     #[test]
     fn numbers_that_the_planner_never_gives() {
-        for number in [0, 19, 255] {
+        for number in [0, 20, 255] {
             let refusal = Refusal { number, place: 2 };
             assert_eq!(refusal.cause(), Cause::Unknown(number));
             assert_eq!(

@@ -1,7 +1,7 @@
 //! A survey that the planner accepts, and the questions to it.
 
 use crate::record::{plan_len, HEAD_LEN};
-use crate::{best, judge, list, Cause, Costs, Plan, PlanList, Refusal, Yard, YardRecord};
+use crate::{best, judge, list, Cause, Costs, Plan, PlanList, Refusal, Yard, YardRecord, CEILINGS};
 use std::collections::BTreeSet;
 
 /// Survey bytes that the planner accepts.
@@ -15,7 +15,7 @@ impl Survey {
     /// Takes survey bytes if the planner accepts them, whichever yard record they open with.
     ///
     /// # Errors
-    /// The planner's refusal, 1 to 8, 15 or 18.
+    /// The planner's refusal, 1 to 8, 15, 18 or 19.
     pub fn new(bytes: Vec<u8>) -> Result<Survey, Refusal> {
         // Every list needs 10 bytes or more. So an empty buffer is refused, with 9, exactly if
         // nothing is wrong with the survey.
@@ -49,7 +49,8 @@ impl Survey {
     }
 
     /// The number M of positions: the product of the numbers of different values that the usable
-    /// links have in each ceiling cost, and 1 without ceilings. The walk solves at most this many.
+    /// links have in each ceiling cost, and 1 without ceilings; at most 1,600. The walk solves at most
+    /// this many.
     pub fn positions(&self) -> u32 {
         (0..self.yard.ranks.len())
             .map(|ceiling| self.values(ceiling))
@@ -69,7 +70,7 @@ impl Survey {
     ///
     /// # Errors
     /// 14 if no tree fits.
-    pub fn best(&self, bounds: [i16; 2]) -> Result<Plan, Refusal> {
+    pub fn best(&self, bounds: [i16; CEILINGS]) -> Result<Plan, Refusal> {
         let mut tree = vec![0; self.yard.tree_links()];
         let costs = best(&self.bytes, bounds, &mut tree)?;
         Ok(self.plan(costs, tree))
@@ -93,9 +94,11 @@ impl Survey {
         PlanList::from_bytes(buffer)
     }
 
-    /// The bytes that a list buffer needs: 10 + M × (10 + t), at most 52,810.
+    /// The bytes that a list buffer needs: 10 + M × (10 + t), or with three ceilings
+    /// 10 + M × (12 + t), at most 56,010.
     pub fn list_need(&self) -> usize {
-        HEAD_LEN + self.positions() as usize * plan_len(self.yard.tree_links())
+        let plan = plan_len(self.yard.ranks.len(), self.yard.tree_links());
+        HEAD_LEN + self.positions() as usize * plan
     }
 
     fn plan(&self, costs: Costs, links: Vec<u8>) -> Plan {

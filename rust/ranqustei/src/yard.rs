@@ -1,6 +1,6 @@
 //! A yard in figures, and its survey bytes.
 
-use crate::record::{part, LINK_LEN, LINK_MARK, REST_START};
+use crate::record::{costs_from, part, Layout, LINK_COSTS, YARD_RANKS};
 use crate::rest;
 use crate::{write_survey, Figures, Refusal, Survey, YardRecord};
 use std::collections::BTreeSet;
@@ -37,8 +37,10 @@ pub struct Link {
 #[derive(Clone, Copy, PartialEq, Eq, Debug)]
 #[non_exhaustive]
 pub enum YardError {
-    /// There are more ceilings than a survey has room for.
+    /// There are more ceilings than the yard record has room for.
     Ceilings {
+        /// The number of ceilings that the yard record has room for.
+        room: usize,
         /// The number of ranks in the yard.
         found: usize,
     },
@@ -65,8 +67,11 @@ pub enum YardError {
 impl fmt::Display for YardError {
     fn fmt(&self, f: &mut fmt::Formatter) -> fmt::Result {
         match self {
-            YardError::Ceilings { found } => {
-                write!(f, "a survey has room for 2 ceilings: found {found}")
+            YardError::Ceilings { room, found } => {
+                write!(
+                    f,
+                    "the yard record has room for {room} ceilings: found {found}"
+                )
             }
             YardError::Costs {
                 link,
@@ -82,10 +87,7 @@ impl fmt::Display for YardError {
                 write!(f, "a station at rest is one from 0 to 23: found {station}")
             }
             YardError::Record => {
-                write!(
-                    f,
-                    "stations rest, and only the resting yard record says which"
-                )
+                write!(f, "stations rest, and the yard record does not say which")
             }
             YardError::Refused(refusal) => refusal.fmt(f),
         }
@@ -124,14 +126,27 @@ impl Yard {
     }
 
     /// The yard's survey, accepted by the planner, with the counted yard record, or with the resting
-    /// one if stations rest: should the survey be cut off later, the planner notices.
+    /// one if stations rest, or with the triple one if there are three ceilings: should the survey be
+    /// cut off later, the planner notices.
+    ///
+    /// ```
+    /// use ranqustei::{Link, Yard, YardRecord};
+    ///
+    /// let links = [Link::new([0, 1], 4, [7, 1, 5]), Link::new([0, 1], 9, [2, 6, 5])];
+    /// let survey = Yard::new(2, [1, 1, 1], links).survey()?;
+    /// assert_eq!(survey.record(), YardRecord::Triple);
+    /// assert_eq!(survey.best([6, 6, 6])?.to_string(), "9 2 6 5 links 1");
+    /// # Ok::<(), Box<dyn std::error::Error>>(())
+    /// ```
     ///
     /// # Errors
     /// The figures that a survey has no room for, else the planner's refusal.
     pub fn survey(&self) -> Result<Survey, YardError> {
-        self.survey_with(match self.resting.is_empty() {
-            true => YardRecord::Counted,
-            false => YardRecord::Resting,
+        let has_room = self.ranks.len() <= YardRecord::Resting.layout().ceilings;
+        self.survey_with(match (has_room, self.resting.is_empty()) {
+            (true, true) => YardRecord::Counted,
+            (true, false) => YardRecord::Resting,
+            (false, _) => YardRecord::Triple,
         })
     }
 
@@ -155,17 +170,19 @@ impl Yard {
     /// ```
     ///
     /// # Errors
-    /// As for [`Yard::survey`]; [`YardError::Record`] if stations rest and the record is not the
-    /// resting one.
+    /// As for [`Yard::survey`]; [`YardError::Record`] if stations rest and the record does not say
+    /// which.
     pub fn survey_with(&self, record: YardRecord) -> Result<Survey, YardError> {
-        let ranks = padded(&self.ranks).ok_or(YardError::Ceilings {
+        let layout = record.layout();
+        let ranks = padded(&self.ranks, layout.ceilings).ok_or(YardError::Ceilings {
+            room: layout.ceilings,
             found: self.ranks.len(),
         })?;
-        let costs = self.costs()?;
-        match record {
-            YardRecord::Resting => self.encoded(ranks, &costs),
-            _ if self.resting.is_empty() => self.written(record, ranks, &costs),
-            _ => Err(YardError::Record),
+        let costs = self.costs(layout.ceilings)?;
+        match (layout.has_rest, self.resting.is_empty()) {
+            (true, _) => self.encoded(&layout, &ranks, &costs),
+            (false, true) => self.written(record, &ranks, &costs),
+            (false, false) => Err(YardError::Record),
         }
     }
 
@@ -189,51 +206,55 @@ impl Yard {
     fn written(
         &self,
         record: YardRecord,
-        ranks: [u8; 2],
-        costs: &[[i16; 2]],
+        ranks: &[u8],
+        costs: &[Vec<i16>],
     ) -> Result<Survey, YardError> {
+        let layout = record.layout();
         let ends: Vec<[u8; 2]> = self.links.iter().map(|link| link.ends).collect();
         let sums: Vec<i32> = self.links.iter().map(|link| link.sum).collect();
         let figures = Figures {
             stations: self.stations,
             ceilings: self.ranks.len() as u8,
-            ranks,
+            ranks: part(ranks, 0).unwrap_or_default(),
             ends: ends.as_flattened(),
             sums: &sums,
-            costs: costs.as_flattened(),
+            costs: &costs.concat(),
         };
-        let mut bytes = vec![0; record.layout().len + LINK_LEN * self.links.len()];
+        let mut bytes = vec![0; layout.len + layout.link_len() * self.links.len()];
         write_survey(record.kind(), &figures, &mut bytes).map_err(YardError::Refused)?;
         // The planner accepts what it writes.
         Ok(Survey::accepted(bytes))
     }
 
-    /// The survey with the resting yard record, which the planner reads and does not write.
-    fn encoded(&self, [k1, k2]: [u8; 2], costs: &[[i16; 2]]) -> Result<Survey, YardError> {
+    /// The survey with a yard record that the planner reads and does not write.
+    fn encoded(
+        &self,
+        layout: &Layout,
+        ranks: &[u8],
+        costs: &[Vec<i16>],
+    ) -> Result<Survey, YardError> {
         let rest = rest::bytes_of(&self.resting);
         let rest = rest.map_err(|station| YardError::Resting { station })?;
         // A number of links that has no room in a byte is above 40, and is declined before it is
         // held against the byte.
         let [p, m] = [self.ranks.len(), self.links.len()].map(|count| count as u8);
-        let mut bytes = YardRecord::Resting.layout().mark.to_vec();
-        bytes.extend([self.stations, p, k1, k2, m]);
-        bytes.extend(rest);
+        let mut bytes = [&layout.mark[..], &[self.stations, p], ranks, &[m], &rest].concat();
         for (link, costs) in self.links.iter().zip(costs) {
-            bytes.extend(link.record(costs));
+            bytes.extend(link.record(layout.link_mark, costs));
         }
         Survey::new(bytes).map_err(YardError::Refused)
     }
 
-    /// The costs of each link for both ceilings.
-    fn costs(&self) -> Result<Vec<[i16; 2]>, YardError> {
+    /// The costs of each link for as many ceilings as there is room for.
+    fn costs(&self, room: usize) -> Result<Vec<Vec<i16>>, YardError> {
         let links = self.links.iter().enumerate();
-        let costs = links.map(|(number, link)| self.link_costs(number, link));
+        let costs = links.map(|(number, link)| self.link_costs(number, link, room));
         costs.collect()
     }
 
-    fn link_costs(&self, number: usize, link: &Link) -> Result<[i16; 2], YardError> {
+    fn link_costs(&self, number: usize, link: &Link, room: usize) -> Result<Vec<i16>, YardError> {
         let (needed, found) = (self.ranks.len(), link.costs.len());
-        let costs = padded(&link.costs).filter(|_| needed == found);
+        let costs = padded(&link.costs, room).filter(|_| needed == found);
         costs.ok_or(YardError::Costs {
             link: number,
             needed,
@@ -243,18 +264,19 @@ impl Yard {
 
     /// The yard of an accepted survey.
     pub(crate) fn read(survey: &[u8]) -> Yard {
-        let [_, _, stations, ceilings, k1, k2] = part(survey, 0).unwrap_or_default();
+        let layout = YardRecord::named_by(survey).layout();
+        let (yard, records) = survey.split_at_checked(layout.len).unwrap_or_default();
+        let [stations, ceilings] = part(yard, 2).unwrap_or_default();
         let present = usize::from(ceilings);
-        let record = YardRecord::named_by(survey);
-        let rest = match record {
-            YardRecord::Resting => part(survey, REST_START).unwrap_or_default(),
-            _ => [0; 3],
+        let ranks = yard.iter().skip(YARD_RANKS).take(present).copied();
+        let rest = match layout.has_rest {
+            true => yard.last_chunk().copied().unwrap_or_default(),
+            false => [0; 3],
         };
-        let records = survey.get(record.layout().len..).unwrap_or_default();
-        let ranks: Vec<u8> = [k1, k2].into_iter().take(present).collect();
         let links = records
-            .chunks_exact(LINK_LEN)
+            .chunks_exact(layout.link_len())
             .map(|record| Link::read(record, present));
+        let ranks: Vec<u8> = ranks.collect();
         let yard = Yard::new(stations, ranks, links.collect::<Vec<_>>());
         yard.with_resting(rest::named_by(rest))
     }
@@ -280,34 +302,22 @@ impl Link {
         }
     }
 
-    /// The link's record, with its costs for both ceilings.
-    fn record(&self, costs: &[i16; 2]) -> Vec<u8> {
-        let [c1, c2] = costs.map(i16::to_le_bytes);
-        [
-            &LINK_MARK[..],
-            &self.ends,
-            &self.sum.to_le_bytes(),
-            &c1,
-            &c2,
-        ]
-        .concat()
+    /// The link's record, with this mark and its costs for all ceilings that there is room for.
+    fn record(&self, mark: [u8; 2], costs: &[i16]) -> Vec<u8> {
+        let mut record = [&mark[..], &self.ends, &self.sum.to_le_bytes()].concat();
+        record.extend(costs.iter().flat_map(|cost| cost.to_le_bytes()));
+        record
     }
 
     fn read(record: &[u8], ceilings: usize) -> Link {
-        let [c1, c2] =
-            [8, 10].map(|start| i16::from_le_bytes(part(record, start).unwrap_or_default()));
         let sum = i32::from_le_bytes(part(record, 4).unwrap_or_default());
-        let costs: Vec<i16> = [c1, c2].into_iter().take(ceilings).collect();
+        let costs: Vec<i16> = costs_from(record, LINK_COSTS).take(ceilings).collect();
         Link::new(part(record, 2).unwrap_or_default(), sum, costs)
     }
 }
 
-/// The figures of two ceilings, 0 for an absent one; nothing if there are more.
-fn padded<T: Copy + Default>(figures: &[T]) -> Option<[T; 2]> {
-    match *figures {
-        [] => Some([T::default(); 2]),
-        [first] => Some([first, T::default()]),
-        [first, second] => Some([first, second]),
-        _ => None,
-    }
+/// The figures with 0 for each absent ceiling that there is room for; nothing if there are more.
+fn padded<T: Copy + Default>(figures: &[T], room: usize) -> Option<Vec<T>> {
+    let absent = room.checked_sub(figures.len())?;
+    Some([figures, &vec![T::default(); absent]].concat())
 }

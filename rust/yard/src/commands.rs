@@ -8,7 +8,7 @@ use crate::files::{named, read_index, read_list, read_survey, shown};
 use crate::table::table;
 use crate::text;
 use crate::words::{number, Words};
-use ranqustei::{fetch, Cause, Plan, PlanIndex, PlanList, Refusal, Survey, YardRecord};
+use ranqustei::{fetch, Cause, Plan, PlanIndex, PlanList, Refusal, Survey, YardRecord, CEILINGS};
 use std::ffi::{OsStr, OsString};
 use std::io::Read;
 
@@ -18,7 +18,7 @@ const COMMANDS: [(&str, &str); 11] = [
     ("best", "YARD BOUND..."),
     ("judge", "YARD LINK..."),
     ("text", "YARD"),
-    ("survey", "YARD [--record plain|counted|resting]"),
+    ("survey", "YARD [--record plain|counted|resting|triple]"),
     ("list", "YARD"),
     ("fetch", "FILE.list PLAN"),
     ("index", "FILE.list"),
@@ -147,7 +147,7 @@ fn best(file: &OsStr, survey: &Survey, words: &[OsString]) -> Result<Vec<u8>, Fa
             shown(file)
         )));
     }
-    let mut bounds = [0; 2];
+    let mut bounds = [0; CEILINGS];
     for (bound, word) in bounds.iter_mut().zip(words) {
         *bound = number(word, BOUND)?;
     }

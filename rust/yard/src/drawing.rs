@@ -1,7 +1,7 @@
 //! The picture of a yard: stations on a circle, hollow at rest, links between them, one plan in
 //! colour.
 
-use crate::figures::{counted, grouped};
+use crate::figures::{counted, grouped, joined};
 use crate::labels::{Area, Taken};
 use crate::layout::{link_curves, station_places, CENTRE, STATION};
 use crate::svg::{along, at, Curve, Point, Svg};
@@ -136,10 +136,7 @@ fn title(plan: Option<(u32, &Plan)>) -> String {
     match costs.as_slice() {
         [] => format!("Plan {number}: sum {sum}"),
         [cost] => format!("Plan {number}: sum {sum}, ceiling cost {cost}"),
-        _ => format!(
-            "Plan {number}: sum {sum}, ceiling costs {}",
-            costs.join(" and ")
-        ),
+        _ => format!("Plan {number}: sum {sum}, ceiling costs {}", joined(&costs)),
     }
 }
 

@@ -24,3 +24,11 @@ pub fn grouped(number: i64) -> String {
     }
     text
 }
+
+/// Several figures in a sentence, as in `1, 2 and 3`.
+pub fn joined(figures: &[String]) -> String {
+    match figures {
+        [first @ .., last] if !first.is_empty() => format!("{} and {last}", first.join(", ")),
+        _ => figures.concat(),
+    }
+}

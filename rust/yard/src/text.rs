@@ -8,10 +8,12 @@
 //! ```
 
 use crate::figures::counted;
-use ranqustei::{Cause, Link, Survey, Yard, YardError};
+use ranqustei::{Cause, Link, Survey, Yard, YardError, CEILINGS};
 use std::fmt;
 use std::str::FromStr;
 
+/// The line of the yard; a yard may have fewer ceilings.
+const HEAD_FORM: &str = "`stations N ceilings K1 K2 K3`";
 /// The word before the stations at rest.
 const RESTING: &str = "resting";
 /// What a station is.
@@ -40,8 +42,10 @@ pub fn read(text: &[u8]) -> Result<Survey, LineError> {
     let text = utf8(text)?;
     let mut lines = filled_lines(text).peekable();
     let Some((head, words)) = lines.next() else {
-        let message = "the text has no line `stations N ceilings K1 K2`";
-        return Err(LineError::new(1, message));
+        return Err(LineError::new(
+            1,
+            format!("the text has no line {HEAD_FORM}"),
+        ));
     };
     let (stations, ranks) = read_head(&words).map_err(|message| LineError::new(head, message))?;
     let mut places = Places {
@@ -115,14 +119,13 @@ fn read_head(words: &[&str]) -> Result<(u8, Vec<u8>), String> {
         ["stations", stations, "ceilings", ref ranks @ ..] => (stations, ranks),
         _ => {
             let found = words.join(" ");
-            let form = "the first line is `stations N ceilings K1 K2`";
-            return Err(format!("{form}: found `{found}`"));
+            return Err(format!("the first line is {HEAD_FORM}: found `{found}`"));
         }
     };
-    if ranks.len() > 2 {
+    if ranks.len() > CEILINGS {
         let found = ranks.len();
         return Err(format!(
-            "a yard has at most 2 ceilings: found {found} ranks"
+            "a yard has at most {CEILINGS} ceilings: found {found} ranks"
         ));
     }
     let stations = figure(stations, "the number of stations is a number from 1 to 24")?;

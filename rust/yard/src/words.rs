@@ -55,8 +55,9 @@ fn record(word: &OsStr) -> Result<YardRecord, Failure> {
         Some("plain") => Ok(YardRecord::Plain),
         Some("counted") => Ok(YardRecord::Counted),
         Some("resting") => Ok(YardRecord::Resting),
+        Some("triple") => Ok(YardRecord::Triple),
         _ => Err(Failure::usage(format!(
-            "`{}` is no yard record, plain, counted or resting",
+            "`{}` is no yard record, plain, counted, resting or triple",
             word.display()
         ))),
     }

@@ -5,6 +5,7 @@
 
 mod figures;
 mod lists;
+mod position_report;
 mod reached;
 mod report;
 mod rest_report;
@@ -18,14 +19,17 @@ use compare::kinds::{Kind, KINDS};
 use compare::listed::is_listed;
 use compare::planner::{Archive, Peer};
 use compare::reduced::ByReduction;
+use compare::rests::REST_RECORDS;
 use compare::rng::Rng;
 use compare::round::survey_calls;
 use compare::round_trip::round_trip;
 use compare::tally::Tally;
 use figures::compare_figures;
 use lists::{compare_lists, with_list};
-use peer::records::{YardRecord, RESTING, WRITTEN_RECORDS};
+use peer::records::{YardRecord, TRIPLE, WRITTEN_RECORDS};
 use peer::survey::Yard;
+use peer::Refusal;
+use position_report::print_positions;
 use reached::{unreached, unreached_figures, unreached_lists, unreached_numbers};
 use report::{print_calls, print_indexes, print_listed, print_numbers, print_records, print_sums};
 use rest_report::print_rests;
@@ -77,6 +81,7 @@ fn print_surveys(surveys: &[(&'static Kind, Tally)], total: &Tally) {
     print_sums(surveys, total);
     print_records(surveys, total);
     print_rests(surveys, total);
+    print_positions(total);
     let [legal, damaged] = [true, false].map(|legal| {
         let mut rows = surveys.to_vec();
         rows.retain(|(kind, _)| kind.is_legal() == legal);
@@ -87,8 +92,9 @@ fn print_surveys(surveys: &[(&'static Kind, Tally)], total: &Tally) {
         total.samples, legal.samples, damaged.samples, damaged.legal
     );
     println!(
-        "{} legal surveys were written back with each yard record that is written.",
-        total.writes.round_trips
+        "{} legal surveys were written back with each yard record that is written; {} have a third \
+         ceiling and are not written.",
+        total.writes.round_trips, total.writes.not_written
     );
 }
 
@@ -145,36 +151,57 @@ fn compare_survey(
     let yard = match Yard::read(survey) {
         Ok(yard) => yard,
         Err(refusal) => {
-            tally.sums.count_refused(survey, refusal);
-            tally.records.count_refused(survey, refusal);
-            tally.rests.count_refused(survey, refusal);
+            count_refused(survey, refusal, tally);
             return Ok(());
         }
     };
-    tally.legal += 1;
-    tally.sums.count_legal(&yard);
-    tally.records.count_legal(survey);
-    tally.rests.count_legal(survey, &yard);
+    count_legal(survey, &yard, tally);
     if is_listed(&yard) {
         let by_listing = ByListing::of(&yard);
         tally.listed.count(&yard, &by_listing);
         let mut comparison = Comparison::new(&Archive, &by_listing, tally);
         kind.calls(&mut comparison, survey, rng)?;
     }
-    if YardRecord::of(survey) == RESTING {
+    if YardRecord::of(survey).rest_at.is_some() {
         compare_reduced(survey, rng, tally)?;
     }
     Ok(())
 }
 
+fn count_legal(survey: &[u8], yard: &Yard, tally: &mut Tally) {
+    tally.legal += 1;
+    tally.sums.count_legal(yard);
+    tally.records.count_legal(survey);
+    tally.positions.count_legal(survey, yard);
+    for (rests, record) in tally.rests.iter_mut().zip(REST_RECORDS) {
+        rests.count_legal(record, survey, yard);
+    }
+}
+
+fn count_refused(survey: &[u8], refusal: Refusal, tally: &mut Tally) {
+    tally.sums.count_refused(survey, refusal);
+    tally.records.count_refused(survey, refusal);
+    tally.positions.count_refused(survey, refusal);
+    tally.triple_reasons.count_refused(survey, refusal);
+    for (rests, record) in tally.rests.iter_mut().zip(REST_RECORDS) {
+        rests.count_refused(record, survey, refusal);
+    }
+}
+
 /// Holds the proved planner's replies to a survey with rest bytes against its replies to the yard
 /// without the stations at rest.
 fn compare_reduced(survey: &[u8], rng: &mut Rng, tally: &mut Tally) -> Result<(), Difference> {
+    let own = YardRecord::of(survey);
     let by_reduction = ByReduction {
         planner: &Archive,
-        record: rng.pick(&WRITTEN_RECORDS),
+        record: match own {
+            TRIPLE => own,
+            _ => rng.pick(&WRITTEN_RECORDS),
+        },
     };
-    tally.rests.reduced += 1;
+    for (rests, record) in tally.rests.iter_mut().zip(REST_RECORDS) {
+        rests.reduced += u64::from(record == own);
+    }
     let mut comparison = Comparison::new(&Archive, &by_reduction, tally);
     survey_calls(&mut comparison, survey, rng).map(|_| ())
 }

@@ -5,13 +5,15 @@ use compare::index_damage::INDEX_DAMAGES;
 use compare::index_tally::{IndexTally, LIST_SORTS};
 use compare::kinds::Kind;
 use compare::list_damage::LIST_DAMAGES;
-use compare::records::marks;
-use compare::rests::{RestTally, REST_ORDER, REST_REASONS, REST_SORTS};
+use compare::positions::{PositionTally, AFTER, BEFORE, POSITION_REASONS, POSITION_SORTS};
+use compare::ranks::{RANKS, TRIPLE_RANKS};
+use compare::records::{marks, COUNTING_RECORDS};
+use compare::rests::{RestTally, ONE_WORKING, REST_ORDER, REST_REASONS, REST_RECORDS, REST_SORTS};
 use compare::sums::{OUTSIDE, SORTS};
 use compare::tally::{Call, Tally, CALLS};
+use compare::triple_reasons::TRIPLE_REASONS;
 use compare::write_tally::{WriteTally, LENGTHS, UNKNOWN_KINDS, YARD_SORTS};
-use compare::yards::RANKS;
-use peer::records::{COUNTED, RESTING, YARD_RECORDS};
+use peer::records::{YardRecord, YARD_RECORDS};
 use peer::survey::MAX_LINKS;
 
 /// What the surveys did not reach.
@@ -33,18 +35,22 @@ pub fn unreached(tallies: &[(&Kind, Tally)], total: &Tally) -> Vec<String> {
     if legal.clone().all(|(_, tally)| tally.sums.across == 0) {
         missing.push("a list with plans on both sides of 0".to_string());
     }
-    for (record, mark) in [COUNTED, RESTING]
-        .into_iter()
-        .zip(marks([COUNTED, RESTING]))
-    {
+    for (record, mark) in COUNTING_RECORDS.into_iter().zip(marks(COUNTING_RECORDS)) {
         if !total.records.is_cut_everywhere(record) {
             missing.push(format!(
                 "{mark}, 40 links cut at every record end and refused by 15"
             ));
         }
     }
-    missing.extend(unreached_rests(&total.rests));
-    if total.writes.round_trips != total.legal {
+    for (record, rests) in REST_RECORDS.into_iter().zip(&total.rests) {
+        missing.extend(unreached_rests(record, rests));
+    }
+    missing.extend(unreached_positions(&total.positions));
+    let reasons = TRIPLE_REASONS.iter().zip(total.triple_reasons.0);
+    missing.extend(lacking(reasons.map(|((name, number, _), count)| {
+        (format!("{number} for {name}"), count)
+    })));
+    if total.writes.round_trips + total.writes.not_written != total.legal {
         missing.push("every legal survey written back".to_string());
     }
     missing
@@ -61,19 +67,25 @@ fn unreached_sorts(kind: &Kind, tally: &Tally) -> Vec<String> {
 
 /// The yard records that a kind of legal surveys lacks, and links to stations at rest.
 fn unreached_records(kind: &Kind, tally: &Tally) -> Vec<String> {
-    let records = marks(YARD_RECORDS).into_iter().zip(tally.records.legal);
-    let records = records.map(|(mark, count)| (format!("yard record {mark}"), count));
+    let due = kind.records();
+    let records = YARD_RECORDS.into_iter().zip(marks(YARD_RECORDS));
+    let records = records.zip(tally.records.legal);
+    let records = records.filter(|((record, _), _)| due.contains(record));
+    let records = records.map(|((_, mark), count)| (format!("yard record {mark}"), count));
     let (rest, _) = REST_SORTS[0];
-    let rest = [(rest.to_string(), tally.rests.sorts[0])];
-    let lacking = lacking(records.chain(rest)).into_iter();
+    let rests = REST_RECORDS.iter().zip(&tally.rests);
+    let rests = rests.filter(|(record, _)| due.contains(record));
+    let rests = rests.map(|(_, rests)| (rest.to_string(), rests.sorts[0]));
+    let lacking = lacking(records.chain(rests)).into_iter();
     lacking
         .map(|name| format!("{name} in {}", kind.name))
         .collect()
 }
 
-/// What the surveys with rest bytes did not reach.
-fn unreached_rests(tally: &RestTally) -> Vec<String> {
+/// What the surveys with a yard record that has rest bytes did not reach.
+fn unreached_rests(record: YardRecord, tally: &RestTally) -> Vec<String> {
     let sorts = REST_SORTS.iter().zip(tally.sorts);
+    let sorts = sorts.filter(|((name, _), _)| record.least_ceilings == 0 || *name != ONE_WORKING);
     let sorts = sorts.map(|((name, _), count)| (format!("a yard with {name}"), count));
     let reasons = REST_REASONS.iter().zip(tally.reasons);
     let reasons = reasons.map(|((name, _), count)| (format!("18 for {name}"), count));
@@ -82,12 +94,33 @@ fn unreached_rests(tally: &RestTally) -> Vec<String> {
         let name = format!("{first} where there is reason for {other} in a survey with rest bytes");
         (name, count)
     });
-    let short = tally.has_all_short_lengths().into();
+    let short = tally.has_all_short_lengths(record).into();
     let short = [(
         "a yard record with rest bytes cut at each byte".to_string(),
         short,
     )];
-    lacking(sorts.chain(reasons).chain(order).chain(short))
+    let [mark] = marks([record]);
+    let lacking = lacking(sorts.chain(reasons).chain(order).chain(short)).into_iter();
+    lacking.map(|name| format!("{mark}: {name}")).collect()
+}
+
+/// What the surveys with three ceilings did not reach.
+fn unreached_positions(tally: &PositionTally) -> Vec<String> {
+    let ranks = TRIPLE_RANKS.iter().zip(tally.ranks);
+    let ranks = ranks.map(|(ranks, count)| (format!("ranks {ranks:?}"), count));
+    let sorts = POSITION_SORTS.iter().zip(tally.sorts);
+    let sorts = sorts.map(|((name, _), count)| (format!("a yard with {name}"), count));
+    let reasons = POSITION_REASONS.iter().zip(tally.reasons);
+    let reasons = reasons.map(|((name, _), count)| (format!("19 for {name}"), count));
+    let before = BEFORE.iter().zip(tally.before);
+    let before = before.map(|(number, count)| (format!("{number} before 19"), count));
+    let at_last = [2, 7, 8].iter().zip(tally.at_last_link);
+    let at_last =
+        at_last.map(|(number, count)| (format!("{number} at the last link before 19"), count));
+    let after = AFTER.iter().zip(tally.after);
+    let after = after.map(|(number, count)| (format!("19 before {number}"), count));
+    let counted = ranks.chain(sorts).chain(reasons).chain(before);
+    lacking(counted.chain(at_last).chain(after))
 }
 
 /// What the hand-made lists did not reach.

@@ -4,10 +4,10 @@ use compare::index_damage::INDEX_DAMAGES;
 use compare::index_tally::{IndexTally, LIST_SORTS};
 use compare::kinds::Kind;
 use compare::list_damage::LIST_DAMAGES;
-use compare::records::marks;
+use compare::records::{marks, COUNTING_RECORDS};
 use compare::sums::{OUTSIDE, SORTS};
 use compare::tally::{Tally, CALLS, NUMBERS};
-use peer::records::{COUNTED, RESTING, YARD_RECORDS};
+use peer::records::YARD_RECORDS;
 
 /// How often each call was made on each kind of samples, for the calls that were made on some.
 pub fn print_calls(samples: &str, tallies: &[(&str, Tally)], total: &Tally) {
@@ -28,18 +28,18 @@ pub fn print_calls(samples: &str, tallies: &[(&str, Tally)], total: &Tally) {
 /// The yards that were held against a listing of all trees too.
 pub fn print_listed(tallies: &[(&Kind, Tally)], total: &Tally) {
     println!(
-        "\n| held against all trees | yards | trees | p = 0 | p = 1 | p = 2 \
-         | rank above 1 | both above 1 | tied plans |"
+        "\n| held against all trees | yards | trees | p = 0 | p = 1 | p = 2 | p = 3 \
+         | rank above 1 | two above 1 | tied plans |"
     );
-    println!("|---|---|---|---|---|---|---|---|---|");
+    println!("|---|---|---|---|---|---|---|---|---|---|");
     let rows = tallies.iter().map(|(kind, tally)| (kind.name, tally));
     let rows = rows.filter(|(_, tally)| tally.listed.yards > 0);
     for (name, tally) in rows.chain([("all", total)]) {
         let listed = tally.listed;
-        let [none, one, two] = listed.ceilings;
+        let ceilings = listed.ceilings.map(|count| count.to_string()).join(" | ");
         println!(
-            "| {name} | {} | {} | {none} | {one} | {two} | {} | {} | {} |",
-            listed.yards, listed.trees, listed.ranked, listed.both_ranked, listed.tied
+            "| {name} | {} | {} | {ceilings} | {} | {} | {} |",
+            listed.yards, listed.trees, listed.ranked, listed.two_ranked, listed.tied
         );
     }
 }
@@ -63,22 +63,20 @@ pub fn print_sums(tallies: &[(&Kind, Tally)], total: &Tally) {
 
 /// The yard records of the legal surveys, and the cuts that a link count gave away.
 pub fn print_records(tallies: &[(&Kind, Tally)], total: &Tally) {
-    let marks = marks(YARD_RECORDS);
     println!(
         "\n| yard records of legal surveys | {} |",
-        marks.join(" | ")
+        marks(YARD_RECORDS).join(" | ")
     );
-    println!("|---|{}", "---|".repeat(marks.len()));
+    println!("|---|{}", "---|".repeat(YARD_RECORDS.len()));
     let rows = tallies.iter().map(|(kind, tally)| (kind.name, tally));
     for (name, tally) in rows.chain([("all", total)]) {
         let counts = tally.records.legal.map(|count| count.to_string());
         println!("| {name} | {} |", counts.join(" | "));
     }
-    let [counted, resting] = [COUNTED, RESTING].map(|record| total.records.cuts(record));
-    println!(
-        "\nA yard of 40 links was cut at {counted} record ends and refused by 15; with rest bytes, \
-         at {resting}."
-    );
+    for (record, mark) in COUNTING_RECORDS.into_iter().zip(marks(COUNTING_RECORDS)) {
+        let cuts = total.records.cuts(record);
+        println!("\n{mark}: 40 links were cut at {cuts} record ends and refused by 15.");
+    }
 }
 
 /// The lists that were indexed, those of list calls and those made by hand, and what was refused.

@@ -1,11 +1,11 @@
 //! The tables of what was written from figures, and of what was refused.
 
 use compare::figure_reasons::{LINK_REASONS, YARD_REASONS};
+use compare::ranks::RANKS;
 use compare::records::marks;
 use compare::sums::SORTS;
 use compare::tally::{Call, Tally, CALLS};
 use compare::write_tally::{WriteTally, LENGTHS, UNKNOWN_KINDS, YARD_SORTS};
-use compare::yards::RANKS;
 use peer::records::WRITTEN_RECORDS;
 
 /// All tables.

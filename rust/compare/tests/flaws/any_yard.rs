@@ -5,11 +5,12 @@ use compare::planner::Planner;
 use peer::listing::Listing;
 use peer::plan::Plan;
 use peer::plan_list;
+use peer::positions::Positions;
+use peer::records::MAX_CEILINGS;
 use peer::survey::Yard;
-use peer::walk::Positions;
 use peer::{Costs, Refusal};
 use std::cell::RefCell;
-use std::collections::{HashMap, HashSet};
+use std::collections::HashMap;
 
 /// Judges by the k-th largest of the different values.
 pub struct DifferentValues;
@@ -42,7 +43,12 @@ impl Planner for NoPlace {
 pub struct LastTree;
 
 impl Planner for LastTree {
-    fn best(&self, survey: &[u8], ceilings: [i16; 2], tree: &mut [u8]) -> Result<Costs, Refusal> {
+    fn best(
+        &self,
+        survey: &[u8],
+        ceilings: [i16; MAX_CEILINGS],
+        tree: &mut [u8],
+    ) -> Result<Costs, Refusal> {
         let sum = peer::best(survey, ceilings, tree)?.sum;
         let yard = Yard::read(survey)?;
         let listing = Listing::of(&yard);
@@ -58,7 +64,12 @@ impl Planner for LastTree {
 pub struct NoExceptions;
 
 impl Planner for NoExceptions {
-    fn best(&self, survey: &[u8], ceilings: [i16; 2], tree: &mut [u8]) -> Result<Costs, Refusal> {
+    fn best(
+        &self,
+        survey: &[u8],
+        ceilings: [i16; MAX_CEILINGS],
+        tree: &mut [u8],
+    ) -> Result<Costs, Refusal> {
         let lent = tree.to_vec();
         let costs = peer::best(survey, ceilings, tree)?;
         let yard = Yard::read(survey)?;
@@ -78,7 +89,12 @@ impl Planner for NoExceptions {
 pub struct ClearedTail;
 
 impl Planner for ClearedTail {
-    fn best(&self, survey: &[u8], ceilings: [i16; 2], tree: &mut [u8]) -> Result<Costs, Refusal> {
+    fn best(
+        &self,
+        survey: &[u8],
+        ceilings: [i16; MAX_CEILINGS],
+        tree: &mut [u8],
+    ) -> Result<Costs, Refusal> {
         let costs = peer::best(survey, ceilings, tree)?;
         tree[Yard::read(survey)?.tree_len()..].fill(0);
         Ok(costs)
@@ -143,32 +159,25 @@ pub struct Walking {
     pub keeps_dominated: bool,
     /// Whether it places the values of unusable links too.
     pub places_unusable: bool,
+    /// Whether it marks every place of the third ceiling.
+    pub marks_third: bool,
 }
 
 impl Walking {
     fn walk(&self, yard: &Yard, listing: &Listing) -> (u32, Vec<Plan>) {
-        let values = [0, 1].map(|ceiling| match self.places_unusable {
+        let values: Places = std::array::from_fn(|ceiling| match self.places_unusable {
             true => all_values(yard, ceiling),
             false => listing.values(ceiling),
         });
-        let (mut marked, mut solved, mut found) = (HashSet::new(), 0, Vec::new());
-        for a in 0..values[0].len() {
-            for b in 0..values[1].len() {
-                if marked.contains(&(a, b)) {
-                    continue;
-                }
-                solved += 1;
-                let plan = listing.best([values[0][a], values[1][b]]);
-                found.extend(plan);
-                let last = |i: usize| match plan {
-                    None => values[i].len(),
-                    Some(plan) => {
-                        let own = values[i].iter().position(|&v| v == plan.costs.ceilings[i]);
-                        own.unwrap_or(0) + self.past
-                    }
-                };
-                marked.extend((a..=last(0)).flat_map(|a| (b..=last(1)).map(move |b| (a, b))));
+        let (mut marks, mut solved, mut found) = (Vec::new(), 0, Vec::new());
+        for position in all_positions(&values) {
+            if marks.iter().any(|mark| is_within(position, mark)) {
+                continue;
             }
+            solved += 1;
+            let plan = listing.best(std::array::from_fn(|i| values[i][position[i]]));
+            found.extend(plan);
+            marks.push(self.mark(&values, position, plan));
         }
         found.sort_by_key(|plan| plan.costs);
         found.dedup();
@@ -176,6 +185,48 @@ impl Walking {
         found.retain(|plan| self.keeps_dominated || plans.contains(plan));
         (solved, found)
     }
+
+    /// The positions from which and through which is marked.
+    fn mark(&self, values: &Places, mut first: Position, plan: Option<Plan>) -> [Position; 2] {
+        let mut end: Position = std::array::from_fn(|i| match plan {
+            None => values[i].len(),
+            Some(plan) => {
+                let own = values[i].iter().position(|&v| v == plan.costs.ceilings[i]);
+                own.unwrap_or(0) + self.past
+            }
+        });
+        if self.marks_third {
+            (first[2], end[2]) = (0, values[2].len());
+        }
+        [first, end]
+    }
+}
+
+/// The values of each ceiling, in falling order.
+type Places = [Vec<i16>; MAX_CEILINGS];
+
+/// A place of each ceiling.
+type Position = [usize; MAX_CEILINGS];
+
+/// All positions in dictionary order.
+fn all_positions(values: &Places) -> Vec<Position> {
+    let mut positions = vec![[0; MAX_CEILINGS]];
+    for (ceiling, values) in values.iter().enumerate() {
+        let with_each = |position: Position| {
+            (0..values.len()).map(move |place| {
+                let mut position = position;
+                position[ceiling] = place;
+                position
+            })
+        };
+        positions = positions.into_iter().flat_map(with_each).collect();
+    }
+    positions
+}
+
+/// Whether a position is marked: from one through another in each ceiling.
+fn is_within(position: Position, [first, end]: &[Position; 2]) -> bool {
+    (0..MAX_CEILINGS).all(|i| (first[i]..=end[i]).contains(&position[i]))
 }
 
 impl Planner for Walking {

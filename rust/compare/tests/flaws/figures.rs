@@ -4,7 +4,7 @@ use compare::columns::Columns;
 use compare::planner::Planner;
 use compare::records::kind_of;
 use compare::sums::{HIGHEST, LOWEST};
-use peer::records::{YardRecord, COUNTED, PLAIN};
+use peer::records::{YardRecord, COUNTED, PLAIN, TRIPLE};
 use peer::survey::MAX_LINKS;
 use peer::{Figures, Refusal};
 
@@ -25,7 +25,7 @@ impl Planner for Taking {
 }
 
 /// Kinds taken for others.
-pub const KINDS_TAKEN: [(&str, Taking); 4] = [
+pub const KINDS_TAKEN: [(&str, Taking); 5] = [
     ("a kind cut to 16 bits", Taking(|kind, _| *kind &= 0xffff)),
     (
         "an unknown kind taken for the plain one",
@@ -40,6 +40,14 @@ pub const KINDS_TAKEN: [(&str, Taking); 4] = [
         Taking(|kind, _| {
             if *kind == kind_of(COUNTED) + 1 {
                 *kind -= 1;
+            }
+        }),
+    ),
+    (
+        "the triple kind taken for the counted one",
+        Taking(|kind, _| {
+            if *kind == kind_of(TRIPLE) {
+                *kind = kind_of(COUNTED);
             }
         }),
     ),

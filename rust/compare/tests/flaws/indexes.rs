@@ -1,9 +1,9 @@
 //! Planners that spoil an index buffer, decline it wrongly or misread its list.
 
 use compare::index_rules::ENTRY_BYTES;
-use compare::list_bytes::{plan_bytes, plan_count, used_bytes};
+use compare::list_bytes::{plan_bytes, plan_count, plan_record, used_bytes};
 use compare::planner::Planner;
-use peer::plan_list::{HEAD_BYTES, MAX_PLANS, PLAN_MARK};
+use peer::plan_list::{HEAD_BYTES, MAX_PLANS};
 use peer::Refusal;
 
 /// Does more to the index buffer; it knows the reply and how many bytes the index has.
@@ -110,7 +110,8 @@ pub const REFUSALS: [(&str, Declining); 4] = [
 pub struct Misreading(pub fn(&mut Vec<u8>));
 
 impl Misreading {
-    fn read(&self, list: &[u8]) -> Vec<u8> {
+    /// What a list is taken for.
+    pub fn read(&self, list: &[u8]) -> Vec<u8> {
         let mut misread = list.to_vec();
         if list.len() >= HEAD_BYTES && list.len() >= used_bytes(list) {
             (self.0)(&mut misread);
@@ -150,7 +151,7 @@ pub const READINGS: [(&str, Misreading); 9] = [
         "a mark tested after the last plan",
         Misreading(|list| {
             let after = &list[used_bytes(list)..];
-            if after.len() >= plan_bytes(list) && !after.starts_with(&PLAN_MARK) {
+            if after.len() >= plan_bytes(list) && !after.starts_with(&plan_record(list[9]).mark) {
                 list.clear();
             }
         }),
@@ -188,17 +189,18 @@ pub const READINGS: [(&str, Misreading); 9] = [
         }),
     ),
     (
-        "3 ceilings taken for 2",
-        Misreading(|list| list[9] = if list[9] == 3 { 2 } else { list[9] }),
+        "4 ceilings taken for 3",
+        Misreading(|list| list[9] = if list[9] == 4 { 3 } else { list[9] }),
     ),
 ];
 
 /// Puts the right mark on the plans from one on.
 fn mend_marks(list: &mut [u8], first: usize) {
     let (used, plan_bytes) = (used_bytes(list), plan_bytes(list));
+    let mark = plan_record(list[9]).mark;
     let plans = list[HEAD_BYTES..used].chunks_exact_mut(plan_bytes);
     for plan in plans.skip(first) {
-        plan[..2].copy_from_slice(&PLAN_MARK);
+        plan[..2].copy_from_slice(&mark);
     }
 }
 

@@ -3,7 +3,7 @@
 
 use crate::reading::Reading;
 use compare::planner::Planner;
-use peer::records::{YardRecord, COUNTED, LINK_BYTES, PLAIN, YARD_RECORDS};
+use peer::records::{YardRecord, COUNTED, PLAIN, YARD_RECORDS};
 use peer::Refusal;
 
 /// Whether a survey opens with a yard record that has a link count.
@@ -21,7 +21,7 @@ pub fn is_known(survey: &[u8]) -> bool {
 /// Whether a survey is a yard record of that length and whole links.
 fn is_measured_by(record: YardRecord, survey: &[u8]) -> bool {
     let links = survey.len().checked_sub(record.bytes);
-    links.is_some_and(|bytes| bytes % LINK_BYTES == 0)
+    links.is_some_and(|bytes| bytes % record.link.bytes == 0)
 }
 
 /// The link count of a survey, and how many links are present, if it has a count.
@@ -30,7 +30,7 @@ fn counts(survey: &[u8]) -> Option<[usize; 2]> {
     if !is_counted(survey) || !is_measured_by(record, survey) {
         return None;
     }
-    let present = (survey.len() - record.bytes) / LINK_BYTES;
+    let present = (survey.len() - record.bytes) / record.link.bytes;
     let written = record.written_count(survey)?;
     Some([written, present])
 }

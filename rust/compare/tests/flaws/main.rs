@@ -9,12 +9,17 @@ mod lookups;
 mod on_figures;
 mod on_lists;
 mod on_resting;
+mod on_triple;
 mod orders;
 mod outputs;
 mod reading;
 mod resting;
 mod signed_sums;
 mod trees_at_rest;
+mod triple_calls;
+mod triple_fetches;
+mod triple_lists;
+mod triple_surveys;
 mod two_ranks;
 mod write_refusals;
 
@@ -163,8 +168,7 @@ fn flaws_of_two_ranks_are_noticed() {
         ("the cheapest of all exceptions", &by_the_cheapest),
         ("a rank of 3 taken for 2", &ThreeForTwo),
     ];
-    let with_other_ranks = |survey: &[u8]| !matches!(survey, [_, _, _, _, 2..=3, 2..=3, ..]);
-    assert_noticed(is_small, with_other_ranks, &flawed);
+    assert_noticed(is_small, |survey| !two_ranks::are_in(survey), &flawed);
 }
 
 #[test]

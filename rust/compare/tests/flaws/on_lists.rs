@@ -11,7 +11,7 @@ use compare::rng::Rng;
 use compare::tally::Tally;
 
 /// Whether some call on the lists tells two planners apart, or has a fault in both.
-fn is_noticed(left: &dyn Planner, right: &dyn Planner) -> bool {
+pub fn is_noticed(left: &dyn Planner, right: &dyn Planner) -> bool {
     LIST_KINDS.iter().any(|kind| {
         (kind.first_seed..kind.first_seed + SEEDS.min(kind.seeds)).any(|seed| {
             let (mut rng, mut tally) = (Rng::new(seed), Tally::default());

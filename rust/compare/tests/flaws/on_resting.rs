@@ -2,7 +2,8 @@
 
 use crate::any_yard::Walking;
 use crate::reading::{refusing, Reading};
-use crate::resting::{is_resting, taking_rest, taking_unusable, ClearedByRest, RestBytes, ORDERS};
+use crate::resting::{has_rest_bytes, is_resting, taking_rest, taking_unusable};
+use crate::resting::{ClearedByRest, RestBytes, ORDERS};
 use crate::trees_at_rest::{DrawnForAll, HeadForAll, Joining, Needing, TreeRoomForAll};
 use crate::{assert_noticed, is_noticed_among, resting, trees_at_rest, SEEDS};
 use compare::comparison::Comparison;
@@ -12,9 +13,9 @@ use compare::reduced::ByReduction;
 use compare::rng::Rng;
 use compare::round::survey_calls;
 use compare::tally::Tally;
+use peer::positions::Positions;
 use peer::records::WRITTEN_RECORDS;
 use peer::survey::{Link, Yard};
-use peer::walk::Positions;
 
 /// Whether the surveys are of small or large yards, or were damaged twice, or cut.
 fn is_any_size_or_cut(kind: &Kind) -> bool {
@@ -30,7 +31,7 @@ fn is_any_size_or_cut(kind: &Kind) -> bool {
 
 /// Asserts that each flaw shows, and on surveys with rest bytes alone.
 fn assert_noticed_at_rest(flawed: &[(&str, &dyn Planner)]) {
-    assert_noticed(is_any_size_or_cut, |survey| !is_resting(survey), flawed);
+    assert_noticed(is_any_size_or_cut, |survey| !has_rest_bytes(survey), flawed);
 }
 
 /// Whether some call tells a planner's replies to a legal survey with rest bytes from its replies

@@ -17,7 +17,7 @@ impl Ordering {
         let mut sorted: Vec<u16> = (0..plans.costs.len() as u16).collect();
         sorted.sort_by_key(|&number| {
             let Costs { sum, ceilings } = plans.costs[usize::from(number)];
-            let [y1, y2] = ceilings.map(i64::from);
+            let [y1, y2, _] = ceilings.map(i64::from);
             let written = [y1, sum.into(), y2, number.into()];
             let counting = match plans.ceilings {
                 0 => [0, sum.into(), 0, number.into()],

@@ -2,7 +2,7 @@
 
 use compare::planner::Planner;
 use compare::write_rules::Request;
-use peer::records::{YardRecord, COUNTED, LINK_BYTES, PLAIN};
+use peer::records::{YardRecord, COUNTED, PLAIN, TWO_COSTS};
 use peer::{Figures, Refusal};
 
 /// Does more to the survey that was written, and to the bytes after it.
@@ -76,12 +76,12 @@ pub const SPOILS: [(&str, Spoiling); 11] = [
 ];
 
 /// The link records of a survey.
-fn links_of(survey: &mut [u8]) -> &mut [[u8; LINK_BYTES]] {
+fn links_of(survey: &mut [u8]) -> &mut [[u8; TWO_COSTS.bytes]] {
     let first = YardRecord::of(survey).bytes;
     survey[first..].as_chunks_mut().0
 }
 
-fn in_links(survey: &mut [u8], change: fn(&mut [u8; LINK_BYTES])) {
+fn in_links(survey: &mut [u8], change: fn(&mut [u8; TWO_COSTS.bytes])) {
     links_of(survey).iter_mut().for_each(change);
 }
 

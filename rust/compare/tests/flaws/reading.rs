@@ -1,6 +1,7 @@
 //! Planners whose reader alone is flawed.
 
 use compare::planner::Planner;
+use peer::records::MAX_CEILINGS;
 use peer::survey::Yard;
 use peer::{Costs, Refusal};
 
@@ -12,7 +13,12 @@ impl<R: Fn(&[u8]) -> Result<Vec<u8>, Refusal>> Planner for Reading<R> {
         peer::judge(&(self.0)(survey)?, drawn)
     }
 
-    fn best(&self, survey: &[u8], ceilings: [i16; 2], tree: &mut [u8]) -> Result<Costs, Refusal> {
+    fn best(
+        &self,
+        survey: &[u8],
+        ceilings: [i16; MAX_CEILINGS],
+        tree: &mut [u8],
+    ) -> Result<Costs, Refusal> {
         peer::best(&(self.0)(survey)?, ceilings, tree)
     }
 

@@ -3,7 +3,7 @@
 use crate::reading::Reading;
 use compare::planner::Planner;
 use compare::reduced::Reduced;
-use peer::records::{COUNTED, LINK_BYTES, LINK_MARK, PLAIN, RESTING};
+use peer::records::{YardRecord, COUNTED, PLAIN, RESTING, TWO_COSTS};
 use peer::rest::REST_BYTES;
 use peer::survey::{Yard, MAX_LINKS, MAX_STATIONS};
 use peer::Refusal;
@@ -11,13 +11,18 @@ use peer::Refusal;
 /// The bits of the stations at rest.
 pub type RestBytes = [u8; REST_BYTES];
 
-/// Whether a survey opens with the yard record that has rest bytes.
+/// Whether a survey opens with a yard record that has rest bytes.
+pub fn has_rest_bytes(survey: &[u8]) -> bool {
+    YardRecord::of(survey).rest_at.is_some()
+}
+
+/// Whether a survey opens with the one that has at most two ceilings beside them.
 pub fn is_resting(survey: &[u8]) -> bool {
     survey.starts_with(&RESTING.mark)
 }
 
 /// The rest bytes of a survey and its link records, if it has rest bytes.
-fn parts(survey: &mut [u8]) -> Option<(&mut RestBytes, &mut [[u8; LINK_BYTES]])> {
+fn parts(survey: &mut [u8]) -> Option<(&mut RestBytes, &mut [[u8; TWO_COSTS.bytes]])> {
     if !is_resting(survey) {
         return None;
     }
@@ -32,7 +37,7 @@ fn rests(bytes: &RestBytes, station: u8) -> bool {
 }
 
 /// Whether a link ends at no station at rest.
-fn is_usable(bytes: &RestBytes, link: &[u8; LINK_BYTES]) -> bool {
+fn is_usable(bytes: &RestBytes, link: &[u8; TWO_COSTS.bytes]) -> bool {
     !rests(bytes, link[2]) && !rests(bytes, link[3])
 }
 
@@ -77,7 +82,7 @@ pub fn turned_round(rest: RestBytes, stations: u8) -> RestBytes {
 }
 
 /// Takes each link that ends at a station at rest for another.
-pub fn taking_unusable(taken: fn(&mut [u8; LINK_BYTES], &RestBytes)) -> impl Planner {
+pub fn taking_unusable(taken: fn(&mut [u8; TWO_COSTS.bytes], &RestBytes)) -> impl Planner {
     Reading(move |survey: &[u8]| {
         let mut survey = survey.to_vec();
         if let Some((rest, links)) = parts(&mut survey) {
@@ -89,12 +94,12 @@ pub fn taking_unusable(taken: fn(&mut [u8; LINK_BYTES], &RestBytes)) -> impl Pla
 }
 
 /// Does not test the mark of a link.
-pub fn any_mark(link: &mut [u8; LINK_BYTES], _: &RestBytes) {
-    link[..2].copy_from_slice(&LINK_MARK);
+pub fn any_mark(link: &mut [u8; TWO_COSTS.bytes], _: &RestBytes) {
+    link[..2].copy_from_slice(&TWO_COSTS.mark);
 }
 
 /// Does not test the other end of a link than the one at rest.
-pub fn any_ends(link: &mut [u8; LINK_BYTES], rest: &RestBytes) {
+pub fn any_ends(link: &mut [u8; TWO_COSTS.bytes], rest: &RestBytes) {
     let at_rest = if rests(rest, link[2]) {
         link[2]
     } else {
@@ -104,7 +109,7 @@ pub fn any_ends(link: &mut [u8; LINK_BYTES], rest: &RestBytes) {
 }
 
 /// Does not test the costs of a link.
-pub fn any_costs(link: &mut [u8; LINK_BYTES], _: &RestBytes) {
+pub fn any_costs(link: &mut [u8; TWO_COSTS.bytes], _: &RestBytes) {
     link[4..].fill(0);
 }
 
@@ -123,7 +128,7 @@ pub fn forty_usable(survey: &[u8]) -> Result<Vec<u8>, Refusal> {
     let mut survey = survey.to_vec();
     if let Some((rest, links)) = parts(&mut survey) {
         let usable = links.iter().filter(|link| is_usable(rest, link));
-        let usable: Vec<[u8; LINK_BYTES]> = usable.copied().collect();
+        let usable: Vec<[u8; TWO_COSTS.bytes]> = usable.copied().collect();
         let left_out = links.len() - usable.len();
         if links.len() > MAX_LINKS {
             survey[6] = survey[6].wrapping_sub(left_out as u8);
@@ -164,7 +169,7 @@ fn all_working(survey: &[u8]) -> Vec<u8> {
 /// Asks for the length that a survey has without rest bytes.
 pub fn measured_as_counted(survey: &[u8]) -> Result<Vec<u8>, Refusal> {
     let links = survey.len().checked_sub(COUNTED.bytes);
-    let is_measured = links.is_some_and(|bytes| bytes % LINK_BYTES == 0);
+    let is_measured = links.is_some_and(|bytes| bytes % TWO_COSTS.bytes == 0);
     if is_resting(survey) && !is_measured {
         return Err(Refusal::whole(1));
     }

@@ -7,8 +7,10 @@ use compare::planner::Planner;
 use peer::listing::Listing;
 use peer::plan::Plan;
 use peer::plan_list;
+use peer::positions::Positions;
+use peer::records::MAX_CEILINGS;
 use peer::survey::Yard;
-use peer::walk::{Positions, Walk};
+use peer::walk::Walk;
 use peer::{Costs, Refusal};
 
 /// Whether no link of a survey, legal or not, has a sum cost below 0.
@@ -56,7 +58,7 @@ pub struct Pruning {
 }
 
 impl Pruning {
-    fn search(&self, yard: &Yard, bounds: [i16; 2]) -> Option<Plan> {
+    fn search(&self, yard: &Yard, bounds: [i16; MAX_CEILINGS]) -> Option<Plan> {
         let listing = Listing::of(yard);
         let fitting = listing.trees().iter();
         let fitting = fitting.filter(|plan| listing.fits(plan.costs, bounds));
@@ -82,7 +84,12 @@ impl Pruning {
 }
 
 impl Planner for Pruning {
-    fn best(&self, survey: &[u8], ceilings: [i16; 2], tree: &mut [u8]) -> Result<Costs, Refusal> {
+    fn best(
+        &self,
+        survey: &[u8],
+        ceilings: [i16; MAX_CEILINGS],
+        tree: &mut [u8],
+    ) -> Result<Costs, Refusal> {
         let costs = peer::best(survey, ceilings, tree)?;
         let yard = Yard::read(survey)?;
         if !is_listed(&yard) {

@@ -5,8 +5,9 @@ use peer::kruskal::Groups;
 use peer::link_set::LinkSet;
 use peer::plan::Plan;
 use peer::plan_list;
+use peer::positions::Positions;
+use peer::records::MAX_CEILINGS;
 use peer::survey::{Link, Yard};
-use peer::walk::Positions;
 use peer::{Costs, Refusal};
 
 /// How many links a tree has that joins all stations.
@@ -31,7 +32,12 @@ impl Planner for DrawnForAll {
 pub struct TreeRoomForAll;
 
 impl Planner for TreeRoomForAll {
-    fn best(&self, survey: &[u8], ceilings: [i16; 2], tree: &mut [u8]) -> Result<Costs, Refusal> {
+    fn best(
+        &self,
+        survey: &[u8],
+        ceilings: [i16; MAX_CEILINGS],
+        tree: &mut [u8],
+    ) -> Result<Costs, Refusal> {
         if tree.len() < tree_of_all(&Yard::read(survey)?) {
             return Err(Refusal::whole(9));
         }
@@ -44,8 +50,10 @@ pub struct Needing(pub fn(&Yard) -> [usize; 2]);
 
 impl Planner for Needing {
     fn list(&self, survey: &[u8], allowance: u32, buffer: &mut [u8]) -> Result<(), Refusal> {
-        let [positions, tree_len] = (self.0)(&Yard::read(survey)?);
-        if buffer.len() < plan_list::need(positions, tree_len) {
+        let yard = Yard::read(survey)?;
+        let [positions, tree_len] = (self.0)(&yard);
+        let own = plan_list::need(&yard, positions);
+        if buffer.len() < own - positions * yard.tree_len() + positions * tree_len {
             return Err(Refusal::whole(9));
         }
         peer::list(survey, allowance, buffer)
@@ -59,8 +67,8 @@ pub fn with_tree_of_all(yard: &Yard) -> [usize; 2] {
 
 /// The positions of all links' values, and the links of a tree.
 pub fn with_all_values(yard: &Yard) -> [usize; 2] {
-    let [firsts, seconds] = [0, 1].map(|ceiling| all_values(yard, ceiling).len());
-    [firsts * seconds, yard.tree_len()]
+    let counts = (0..MAX_CEILINGS).map(|ceiling| all_values(yard, ceiling).len());
+    [counts.product(), yard.tree_len()]
 }
 
 /// The different values of a ceiling on all links, in falling order; 0 alone if it is absent.
@@ -122,7 +130,12 @@ impl Planner for Joining {
             .ok_or(Refusal::whole(11))
     }
 
-    fn best(&self, survey: &[u8], ceilings: [i16; 2], tree: &mut [u8]) -> Result<Costs, Refusal> {
+    fn best(
+        &self,
+        survey: &[u8],
+        ceilings: [i16; MAX_CEILINGS],
+        tree: &mut [u8],
+    ) -> Result<Costs, Refusal> {
         let costs = peer::best(survey, ceilings, tree)?;
         let yard = Yard::read(survey)?;
         let mut cheapest: Vec<&Link> = yard.links().iter().collect();

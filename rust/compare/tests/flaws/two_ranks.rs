@@ -1,17 +1,30 @@
-//! Planners that are wrong only where both ranks are above 1.
+//! Planners that are wrong only where two ranks are above 1.
 
 use compare::planner::Planner;
 use peer::kruskal::Groups;
 use peer::listing::Listing;
 use peer::plan::Plan;
+use peer::records::{YardRecord, MAX_CEILINGS};
 use peer::survey::{Link, Yard};
 use peer::{Costs, Refusal};
+
+/// Whether two ranks of a survey are above 1, in each place that a yard record has them.
+pub fn are_in(survey: &[u8]) -> bool {
+    let room = YardRecord::of(survey).most_ceilings;
+    let ranks = survey.get(4..4 + room).unwrap_or_default();
+    ranks.iter().filter(|&&rank| rank > 1).count() > 1
+}
 
 /// Gives the best of the trees whose exceptions pass a test, right or flawed.
 pub struct Admitting(pub fn(&Exceptions) -> bool);
 
 impl Planner for Admitting {
-    fn best(&self, survey: &[u8], ceilings: [i16; 2], tree: &mut [u8]) -> Result<Costs, Refusal> {
+    fn best(
+        &self,
+        survey: &[u8],
+        ceilings: [i16; MAX_CEILINGS],
+        tree: &mut [u8],
+    ) -> Result<Costs, Refusal> {
         let yard = Yard::read(survey)?;
         if tree.len() < yard.tree_len() {
             return Err(Refusal::whole(9));
@@ -29,12 +42,12 @@ impl Planner for Admitting {
 /// The exceptions of a tree: its links above a bound.
 pub struct Exceptions<'a> {
     yard: &'a Yard,
-    bounds: [i16; 2],
+    bounds: [i16; MAX_CEILINGS],
     links: Vec<Link>,
 }
 
 impl<'a> Exceptions<'a> {
-    fn of(yard: &'a Yard, bounds: [i16; 2], plan: &Plan) -> Exceptions<'a> {
+    fn of(yard: &'a Yard, bounds: [i16; MAX_CEILINGS], plan: &Plan) -> Exceptions<'a> {
         let links = plan.tree.links();
         let mut exceptions = Exceptions {
             yard,
@@ -47,7 +60,7 @@ impl<'a> Exceptions<'a> {
 
     /// Those of the links that are above a bound.
     fn among(&self, links: &[Link]) -> Vec<Link> {
-        let exceptional = |link: &&Link| [0, 1].iter().any(|&i| self.is_above(link, i));
+        let exceptional = |link: &&Link| (0..MAX_CEILINGS).any(|i| self.is_above(link, i));
         links.iter().filter(exceptional).copied().collect()
     }
 
@@ -56,15 +69,15 @@ impl<'a> Exceptions<'a> {
     }
 
     /// How many exceptions each rank allows.
-    fn allowed(&self) -> [usize; 2] {
+    fn allowed(&self) -> [usize; MAX_CEILINGS] {
         self.yard.ranks.map(|rank| rank.saturating_sub(1))
     }
 
     /// Whether each rank allows as many of the links as count for its ceiling.
     fn are_allowed(&self, links: &[Link], counts: impl Fn(&Link, usize) -> bool) -> bool {
         let counted = |ceiling| links.iter().filter(|link| counts(link, ceiling)).count();
-        let allowed = self.allowed();
-        counted(0) <= allowed[0] && counted(1) <= allowed[1]
+        let mut allowed = self.allowed().into_iter().enumerate();
+        allowed.all(|(ceiling, allowed)| counted(ceiling) <= allowed)
     }
 
     fn is_allowed_alone(&self, link: &Link) -> bool {
@@ -98,13 +111,18 @@ pub fn fit_link_by_link(tree: &Exceptions) -> bool {
 
 /// Takes no more exceptions than one rank alone allows.
 pub fn fit_by_one_rank(tree: &Exceptions) -> bool {
-    let [first, second] = tree.allowed();
-    fit(tree) && tree.links.len() <= first.max(second)
+    let most = tree.allowed().into_iter().max();
+    fit(tree) && Some(tree.links.len()) <= most
 }
 
-/// Takes no link that is above both bounds.
+/// Takes no link that is above two bounds.
 pub fn fit_without_both(tree: &Exceptions) -> bool {
-    let both = |link| tree.is_above(link, 0) && tree.is_above(link, 1);
+    let both = |link: &Link| {
+        (0..MAX_CEILINGS)
+            .filter(|&i| tree.is_above(link, i))
+            .count()
+            > 1
+    };
     fit(tree) && !tree.links.iter().any(both)
 }
 

@@ -54,15 +54,15 @@ fn p8_and_p9_under_ceilings() {
     let a = survey(3, &[1], &A);
     let costs = Costs {
         sum: 7,
-        ceilings: [7, 0],
+        ceilings: [7, 0, 0],
     };
     let mut tree = [0xaa; 3];
-    assert_eq!(best(&a, [6, 0], &mut tree), Err(Refusal::whole(14)));
+    assert_eq!(best(&a, [6, 0, 0], &mut tree), Err(Refusal::whole(14)));
     let lowest = i16::MIN;
-    assert_eq!(best(&a, [lowest, 0], &mut tree), Err(Refusal::whole(14)));
-    assert_eq!(best(&a, [8, 0], &mut tree[..1]), Err(Refusal::whole(9)));
+    assert_eq!(best(&a, [lowest, 0, 0], &mut tree), Err(Refusal::whole(14)));
+    assert_eq!(best(&a, [8, 0, 0], &mut tree[..1]), Err(Refusal::whole(9)));
     assert_eq!(tree, [0xaa; 3]);
-    assert_eq!(best(&a, [8, lowest], &mut tree), Ok(costs));
+    assert_eq!(best(&a, [8, lowest, 0], &mut tree), Ok(costs));
     assert_eq!(tree, [0, 1, 0xaa]);
 }
 
@@ -71,7 +71,7 @@ fn p10_and_p11_drawn_trees() {
     let costs = |sum, y1| {
         Ok(Costs {
             sum,
-            ceilings: [y1, 0],
+            ceilings: [y1, 0, 0],
         })
     };
     assert_eq!(judge(&survey(3, &[1], &A), &[0, 2]), costs(5, 9));

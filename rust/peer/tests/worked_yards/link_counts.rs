@@ -48,7 +48,7 @@ fn a_wrong_count_leaves_all_as_it_was() {
         let (mut tree, mut buffer) = ([0xaa; 3], [0xaa; 50]);
         let a = counted_a(count);
         assert_eq!(judge(&a, &[0, 2]), Err(Refusal::whole(15)));
-        assert_eq!(best(&a, [8, 0], &mut tree), Err(Refusal::whole(15)));
+        assert_eq!(best(&a, [8, 0, 0], &mut tree), Err(Refusal::whole(15)));
         assert_eq!(list(&a, 1600, &mut buffer), Err(Refusal::whole(15)));
         assert_eq!((tree, buffer), ([0xaa; 3], [0xaa; 50]));
     }
@@ -95,7 +95,7 @@ fn the_mark_says_how_long_the_yard_record_is() {
 
 #[test]
 fn an_unknown_mark_is_measured_by_6_and_12() {
-    for mark in [[0x59, 0x43], [0x59, 0x47], [0x58, 0x45], [0x45, 0x59]] {
+    for mark in [[0x59, 0x43], [0x59, 0x48], [0x58, 0x45], [0x45, 0x59]] {
         for len in 2..60 {
             let mut bytes = vec![0; len];
             bytes[..2].copy_from_slice(&mark);

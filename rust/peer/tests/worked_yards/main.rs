@@ -6,4 +6,5 @@ mod link_counts;
 mod resting;
 mod samples;
 mod signed_sums;
+mod triple;
 mod two_ranks;

@@ -41,14 +41,17 @@ fn the_cheapest_link_leads_to_a_station_at_rest() {
     let plans = [plan(4, 9, 0, &[2, 3]), plan(7, 7, 0, &[1, 2])].concat();
     assert_eq!(bytes, [head(2, 3, 2, 1), plans].concat());
     let mut tree = [0xaa; 3];
-    assert_eq!(best(&yard, [1, 0], &mut tree[..1]), Err(Refusal::whole(9)));
-    assert_eq!(best(&yard, [1, 0], &mut tree), Err(Refusal::whole(14)));
+    assert_eq!(
+        best(&yard, [1, 0, 0], &mut tree[..1]),
+        Err(Refusal::whole(9))
+    );
+    assert_eq!(best(&yard, [1, 0, 0], &mut tree), Err(Refusal::whole(14)));
     assert_eq!(tree, [0xaa; 3]);
     let costs = Costs {
         sum: 7,
-        ceilings: [7, 0],
+        ceilings: [7, 0, 0],
     };
-    assert_eq!(best(&yard, [8, 0], &mut tree), Ok(costs));
+    assert_eq!(best(&yard, [8, 0, 0], &mut tree), Ok(costs));
     assert_eq!(tree, [1, 2, 0xaa]);
 }
 
@@ -57,7 +60,7 @@ fn a_drawn_link_to_a_station_at_rest() {
     let yard = resting(&[3], &survey(4, &[1], &A_AND_HIVE));
     let costs = Costs {
         sum: 5,
-        ceilings: [9, 0],
+        ceilings: [9, 0, 0],
     };
     assert_eq!(judge(&yard, &[1, 3]), Ok(costs));
     let wrong: [&[u8]; 5] = [&[0, 1], &[0, 1, 2], &[1, 2, 3], &[3, 1], &[1, 4]];
@@ -103,7 +106,7 @@ fn one_station_works() {
         let yard = resting(&others, &survey(3, &[], &links));
         let bytes = listed(&yard, 20, 20);
         assert_eq!(bytes, [head(1, 1, 0, 0), plan(0, 0, 0, &[])].concat());
-        assert_eq!(best(&yard, [0, 0], &mut []), Ok(Costs::default()));
+        assert_eq!(best(&yard, [0, 0, 0], &mut []), Ok(Costs::default()));
         assert_eq!(judge(&yard, &[]), Ok(Costs::default()));
         assert_eq!(judge(&yard, &[working as u8]), NO_TREE);
         let ranked = resting(&others, &survey(3, &[1], &A));
@@ -117,7 +120,7 @@ fn no_link_is_usable() {
     let yard = resting(&[1], &survey(3, &[1], &links));
     assert_eq!(listed(&yard, 10, 10), head(0, 0, 1, 1));
     assert_eq!(list(&yard, 0, &mut [0; 10]), Ok(()));
-    let reply = best(&yard, [i16::MAX; 2], &mut [0]);
+    let reply = best(&yard, [i16::MAX; 3], &mut [0]);
     assert_eq!(reply, Err(Refusal::whole(14)));
     // Without ceilings there is one position, and no tree for it.
     let links = links.map(|(a, b, sum, ..)| (a, b, sum, 0, 0));
@@ -173,7 +176,7 @@ fn a_wrong_rest_leaves_all_as_it_was() {
         let a = with_rest(rest, &survey(3, &[1], &A));
         let (mut tree, mut buffer) = ([0xaa; 3], [0xaa; 50]);
         assert_eq!(judge(&a, &[0, 2]), Err(Refusal::whole(18)));
-        assert_eq!(best(&a, [8, 0], &mut tree), Err(Refusal::whole(18)));
+        assert_eq!(best(&a, [8, 0, 0], &mut tree), Err(Refusal::whole(18)));
         assert_eq!(list(&a, 1600, &mut buffer), Err(Refusal::whole(18)));
         assert_eq!(list(&a, 0, &mut []), Err(Refusal::whole(18)));
         assert_eq!((tree, buffer), ([0xaa; 3], [0xaa; 50]));

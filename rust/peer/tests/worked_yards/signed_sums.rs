@@ -9,7 +9,7 @@ fn limits_of_sums() {
     let only = |sum| {
         Ok(Costs {
             sum,
-            ceilings: [0, 0],
+            ceilings: [0, 0, 0],
         })
     };
     let eighth = |place| Err(Refusal { number: 8, place });
@@ -78,7 +78,7 @@ fn a_dear_exception_beside_a_link_below_0() {
     let bytes = listed(&survey(3, &[2], &links), 34, 22);
     assert_eq!(bytes, [head(1, 1, 2, 1), plan(-9, 1, 0, &[0, 2])].concat());
     let mut tree = [0; 2];
-    let costs = best(&survey(3, &[2], &links), [1, 0], &mut tree);
+    let costs = best(&survey(3, &[2], &links), [1, 0, 0], &mut tree);
     assert_eq!((costs.map(|costs| costs.sum), tree), (Ok(-9), [0, 2]));
 }
 

@@ -49,8 +49,8 @@ fn best_with_exceptions(sum: i32) -> [u8; 3] {
     let survey = survey(4, &[2, 2], &links);
     let yard = Yard::read(&survey).unwrap();
     let mut tree = [0; 3];
-    let costs = best(&survey, [5, 5], &mut tree).unwrap();
-    let by_listing = Listing::of(&yard).best([5, 5]).unwrap();
+    let costs = best(&survey, [5, 5, 0], &mut tree).unwrap();
+    let by_listing = Listing::of(&yard).best([5, 5, 0]).unwrap();
     assert_eq!(by_listing.costs, costs);
     assert!(by_listing.tree.links().eq(tree));
     tree

@@ -1,13 +1,15 @@
 //! Random bytes and random yards: every call replies, and figures come back as they went in.
 
 use crate::random::Random;
-use crate::samples::{bytes_a, bytes_of, yard_a, RECORDS};
-use ranqustei::{best, fetch, index, index_lookup, judge, list, Link, PlanList, Survey, Yard};
+use crate::samples::{bytes_of, three_a, yard_a, RECORDS};
+use ranqustei::{
+    best, fetch, index, index_lookup, judge, list, Link, PlanList, Survey, Yard, YardRecord,
+};
 
 /// Puts a survey to every call.
 fn ask(survey: Vec<u8>, random: &mut Random) {
     let drawn = random.bytes(30);
-    let bounds = [0; 2].map(|_: u8| random.below(65_536) as u16 as i16);
+    let bounds = [0; 3].map(|_: u8| random.below(65_536) as u16 as i16);
     let judged = judge(&survey, &drawn);
     let found = best(&survey, bounds, &mut vec![0; random.below(30)]);
     let listed = list(
@@ -17,7 +19,7 @@ fn ask(survey: Vec<u8>, random: &mut Random) {
     );
     match Survey::new(survey) {
         Err(refusal) => {
-            assert!(matches!(refusal.number, 1..=8 | 15 | 18));
+            assert!(matches!(refusal.number, 1..=8 | 15 | 18 | 19));
             assert_eq!(
                 (judged.err(), found.err(), listed.err()),
                 (Some(refusal), Some(refusal), Some(refusal))
@@ -28,10 +30,10 @@ fn ask(survey: Vec<u8>, random: &mut Random) {
             assert!(plans
                 .iter()
                 .all(|plan| survey.judge(&plan.links) == Ok(plan)));
-            assert_eq!(survey.best([i16::MAX; 2]).is_err(), plans.is_empty());
+            assert_eq!(survey.best([i16::MAX; 3]).is_err(), plans.is_empty());
             let index = plans.index().expect("a list has an index");
             let looked_up = index.cheapest(bounds[0]).map(|(_, plan)| plan.costs.sum);
-            let solved = survey.best([bounds[0], i16::MAX]);
+            let solved = survey.best([bounds[0], i16::MAX, i16::MAX]);
             assert_eq!(solved.map(|plan| plan.costs.sum).ok(), looked_up.ok());
         }
     }
@@ -49,9 +51,10 @@ fn any_bytes_are_a_survey_or_refused() {
 #[test]
 fn surveys_with_a_few_bytes_changed() {
     let mut random = Random(2);
-    let surveys = RECORDS.map(|record| bytes_of(&yard_a(1), record));
-    for _ in 0..3_000 {
-        let mut bytes = surveys[random.below(3)].clone();
+    let mut surveys = RECORDS.map(|record| bytes_of(&yard_a(1), record)).to_vec();
+    surveys.push(bytes_of(&three_a([1, 1, 1]), YardRecord::Triple));
+    for _ in 0..4_000 {
+        let mut bytes = surveys[random.below(4)].clone();
         for _ in 0..random.below(4) {
             let at = random.below(bytes.len());
             bytes[at] = random.below(12) as u8;
@@ -87,14 +90,15 @@ fn ask_of_list(list: Vec<u8>, random: &mut Random) {
 #[test]
 fn any_bytes_are_a_plan_list_or_refused() {
     let mut random = Random(3);
-    let list = Survey::new(bytes_a())
-        .and_then(|survey| survey.plans())
-        .expect("survey A lists");
+    let lists = [yard_a(1), three_a([1, 1, 1])].map(|yard| {
+        let survey = yard.survey().expect("the yard is accepted");
+        let plans = survey.plans().expect("an accepted survey lists");
+        plans.as_bytes().to_vec()
+    });
     for round in 0..6_000 {
-        let mut bytes = if round % 2 == 0 {
-            list.as_bytes().to_vec()
-        } else {
-            random.bytes(80)
+        let mut bytes = match lists.get(round % 3) {
+            Some(list) => list.clone(),
+            None => random.bytes(80),
         };
         for _ in 0..random.below(3) {
             let length = bytes.len().max(1);
@@ -109,7 +113,7 @@ fn any_bytes_are_a_plan_list_or_refused() {
 /// A yard whose figures may break any rule.
 fn random_yard(random: &mut Random) -> Yard {
     let stations = random.below(26) as u8;
-    let ranks: Vec<u8> = (0..random.below(4))
+    let ranks: Vec<u8> = (0..random.below(5))
         .map(|_| random.below(3) as u8)
         .collect();
     let ends = usize::from(stations) + 1;
@@ -126,7 +130,7 @@ fn random_yard(random: &mut Random) -> Yard {
 #[test]
 fn yards_come_back_from_their_surveys() {
     let mut random = Random(4);
-    let mut accepted = 0;
+    let mut accepted = [0; 2];
     for _ in 0..5_000 {
         let yard = random_yard(&mut random);
         let [plain, counted, resting] = RECORDS.map(|record| {
@@ -136,8 +140,12 @@ fn yards_come_back_from_their_surveys() {
         assert_eq!((&plain, &plain), (&counted, &resting));
         if let Ok(found) = plain {
             assert_eq!(found, yard);
-            accepted += 1;
+            accepted[0] += 1;
+        }
+        if let Ok(survey) = yard.survey_with(YardRecord::Triple) {
+            assert_eq!((survey.yard(), yard.ranks.len()), (&yard, 3));
+            accepted[1] += 1;
         }
     }
-    assert!(accepted > 100);
+    assert!(accepted.iter().all(|&count| count > 50), "{accepted:?}");
 }

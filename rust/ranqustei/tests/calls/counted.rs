@@ -11,10 +11,10 @@ fn counting(plain: &[u8], count: u8) -> Vec<u8> {
 /// What all calls on surveys decline a survey with. They leave every byte that they were lent.
 pub fn declined(survey: &[u8]) -> Option<(u8, u8)> {
     let mut tree = [0xA5; 23];
-    let mut buffer = [0xA5; 52_810];
+    let mut buffer = [0xA5; 56_010];
     let refusals = [
         judge(survey, &[0, 1]).err(),
-        best(survey, [i16::MAX; 2], &mut tree).err(),
+        best(survey, [i16::MAX; 3], &mut tree).err(),
         list(survey, 1_600, &mut buffer).err(),
     ];
     assert_eq!(refusals, [refusals[0]; 3]);
@@ -22,15 +22,21 @@ pub fn declined(survey: &[u8]) -> Option<(u8, u8)> {
     refusals[0].map(told)
 }
 
-#[test]
-fn every_cut_is_declined() {
-    let whole = bytes_of(&largest(), YardRecord::Counted);
-    assert_eq!(whole.len(), 487);
-    let record_ends: Vec<usize> = (0..40).map(|links| 7 + 12 * links).collect();
+/// Asserts that a survey with a link count is declined wherever it is cut. Its yard record and each
+/// of its link records have so many bytes.
+pub fn check_every_cut(whole: &[u8], yard_bytes: usize, link_bytes: usize) {
+    let record_ends: Vec<usize> = (yard_bytes..whole.len()).step_by(link_bytes).collect();
     for length in 0..whole.len() {
         let number = if record_ends.contains(&length) { 15 } else { 1 };
         assert_eq!(declined(&whole[..length]), Some((number, 0)), "{length}");
     }
+}
+
+#[test]
+fn every_cut_is_declined() {
+    let whole = bytes_of(&largest(), YardRecord::Counted);
+    assert_eq!(whole.len(), 487);
+    check_every_cut(&whole, 7, 12);
 }
 
 #[test]
@@ -61,7 +67,7 @@ fn all_records_get_the_same_replies() {
         for bound in [i16::MIN, -1, 6, 8, 19, i16::MAX] {
             check_same(&surveys, |survey| {
                 let mut tree = [0xA5; 30];
-                (best(survey, [bound, i16::MAX], &mut tree), tree)
+                (best(survey, [bound, i16::MAX, 0], &mut tree), tree)
             });
         }
     }
@@ -119,7 +125,7 @@ fn a_wrong_count_comes_after_3_and_before_5() {
     let wrong = counting(&bytes_a(), 2);
     let short = [
         list(&wrong, 0, &mut []).err(),
-        best(&wrong, [9; 2], &mut []).err(),
+        best(&wrong, [9; 3], &mut []).err(),
     ];
     assert_eq!(short.map(|refusal| refusal.map(told)), [Some((15, 0)); 2]);
 }
@@ -145,7 +151,7 @@ fn too_many_links_come_before_the_count() {
 
 #[test]
 fn an_unknown_mark_is_measured_as_the_plain_one() {
-    for mark in [b"YG", b"YH", b"YC", b"XD", b"XE", b"EY", b"LK"] {
+    for mark in [b"YH", b"YC", b"XD", b"XE", b"XG", b"EY", b"LK"] {
         let survey = [&mark[..], &[0; 60]].concat();
         for length in 0..survey.len() {
             let is_measured_whole = [6, 18, 30, 42, 54].contains(&length);

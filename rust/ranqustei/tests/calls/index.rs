@@ -5,7 +5,7 @@ use ranqustei::{index, index_lookup, PlanIndex, PlanList, Yard};
 
 /// Three plans, their numbers by rising first ceiling cost, and the bytes of that index.
 fn three() -> (Vec<u8>, [u8; 6]) {
-    let list = list_of(2, 2, &[(1, 9, 0), (2, 7, 0), (3, 8, 0)]);
+    let list = list_of(2, 2, &[(1, [9, 0]), (2, [7, 0]), (3, [8, 0])]);
     (list, [1, 0, 2, 0, 0, 0])
 }
 
@@ -38,7 +38,7 @@ fn damaged_lists() {
         damaged[at] ^= 0x20;
         check_damaged(&damaged);
     }
-    for (at, byte) in [(8, 24), (9, 3), (2, 4)] {
+    for (at, byte) in [(8, 24), (9, 3), (9, 4), (2, 4)] {
         let mut damaged = list.clone();
         damaged[at] = byte;
         check_damaged(&damaged);
@@ -48,13 +48,22 @@ fn damaged_lists() {
 #[test]
 fn limits_of_a_list() {
     for (t, p) in [(0, 0), (23, 2)] {
-        let longest = list_of(t, p, &[(0, 0, 0); 1_600]);
+        let longest = list_of(t, p, &[(0, [0, 0]); 1_600]);
         assert_eq!(declined(&longest, 3_200), None);
         assert_eq!(declined(&longest, 3_199), Some((16, 0)));
-        check_damaged(&list_of(t, p, &[(0, 0, 0); 1_601]));
+        check_damaged(&list_of(t, p, &[(0, [0, 0]); 1_601]));
     }
-    check_damaged(&list_of(24, 1, &[(0, 0, 0)]));
-    check_damaged(&list_of(2, 3, &[(0, 0, 0)]));
+    let longest = list_of(23, 3, &[(0, [0, 0, 0]); 1_600]);
+    assert_eq!(longest.len(), 56_010);
+    assert_eq!(declined(&longest, 3_200), None);
+    assert_eq!(declined(&longest, 3_199), Some((16, 0)));
+    check_damaged(&longest[..56_009]);
+    check_damaged(&list_of(23, 3, &[(0, [0, 0, 0]); 1_601]));
+    check_damaged(&list_of(24, 1, &[(0, [0, 0])]));
+    for p in [4, u8::MAX] {
+        check_damaged(&list_of(2, p, &[(0, [0, 0])]));
+        check_damaged(&list_of(2, p, &[(0, [0, 0, 0])]));
+    }
 }
 
 #[test]
@@ -124,8 +133,8 @@ fn every_three_numbers() {
 
 #[test]
 fn empty_lists() {
-    for p in 0..3 {
-        let list = list_of(2, p, &[]);
+    for p in 0..4 {
+        let list = list_of::<2>(2, p, &[]);
         assert_eq!((declined(&list, 0), declined(&list, 5)), (None, None));
         let mut buffer = [0xA5; 5];
         assert_eq!(index(&list, &mut buffer), Ok(()));

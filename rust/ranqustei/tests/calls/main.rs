@@ -11,5 +11,7 @@ mod refusals;
 mod resting;
 mod samples;
 mod signed_sums;
+mod triple;
+mod triple_refusals;
 mod writing;
 mod yards;

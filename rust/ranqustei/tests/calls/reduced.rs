@@ -7,7 +7,7 @@ use ranqustei::{Link, Plan, Survey, Yard, YardError, YardRecord};
 /// A yard whose links are legal; its ranks and its resting stations may not be.
 fn random_yard(random: &mut Random) -> Yard {
     let stations = 2 + random.below(8);
-    let ranks = (0..random.below(3)).map(|_| 1 + random.below(3) as u8);
+    let ranks = (0..random.below(4)).map(|_| 1 + random.below(3) as u8);
     let ranks: Vec<u8> = ranks.collect();
     let links = (0..random.below(15)).map(|_| {
         let end = random.below(stations);
@@ -64,7 +64,7 @@ fn check(whole: &Survey, reduced: &Survey, numbers: &[u8], random: &mut Random) 
         assert_eq!(plan, with_former(expected, numbers));
     }
     for _ in 0..4 {
-        let bounds = [0; 2].map(|_: u8| random.below(6) as i16 - 3);
+        let bounds = [0; 3].map(|_: u8| random.below(6) as i16 - 3);
         let found = reduced.best(bounds).map(|plan| with_former(plan, numbers));
         assert_eq!(whole.best(bounds), found);
     }
@@ -76,7 +76,10 @@ fn resting_stations_are_as_good_as_gone() {
     let mut seen = [0; 3];
     for _ in 0..6_000 {
         let yard = random_yard(&mut random);
-        let survey = yard.survey_with(YardRecord::Resting);
+        let survey = yard.survey_with(match yard.ranks.len() {
+            3 => YardRecord::Triple,
+            _ => YardRecord::Resting,
+        });
         let (left, numbers) = reduced(&yard);
         let is_beyond = yard.resting.last() >= Some(&yard.stations);
         match (survey, left.survey()) {

@@ -1,8 +1,8 @@
 //! Every refusal number: its call, its place, its cause and its sentence.
 
-use crate::samples::{bytes_a, bytes_of, figures_a, told, yard_a};
+use crate::samples::{bytes_a, bytes_of, figures_a, told, yard, yard_a};
 use ranqustei::{
-    best, fetch, index, index_lookup, judge, list, write_survey, Cause, Refusal, YardError,
+    best, fetch, index, index_lookup, judge, list, write_survey, Cause, Link, Refusal, YardError,
     YardRecord,
 };
 
@@ -28,7 +28,7 @@ fn edited_in(mut survey: Vec<u8>, at: usize, byte: u8) -> Option<Refusal> {
     survey[at] = byte;
     let refusal = list(&survey, 9, &mut [0; 60]).err();
     assert_eq!(judge(&survey, &[0, 1]).err(), refusal);
-    assert_eq!(best(&survey, [9, 9], &mut [0; 2]).err(), refusal);
+    assert_eq!(best(&survey, [9; 3], &mut [0; 2]).err(), refusal);
     refusal
 }
 
@@ -43,7 +43,7 @@ fn surveys_of_a_wrong_length() {
             0,
             Cause::Length,
             "a survey is 6 bytes, or 7 with a link count, or 10 with stations at rest, and then \
-             12 bytes for each link",
+             12 bytes for each link; with three ceilings it is 11 bytes, and then 14",
         );
     }
 }
@@ -69,10 +69,10 @@ fn yard_records() {
         5,
         0,
         Cause::Ceilings,
-        "a yard has at most 2 ceilings",
+        "a yard has at most 2 ceilings, and with the triple yard record it has 3",
     );
-    let rule = "a rank is 1 to 3 and not above the links of a tree, beside a rank of 3 the other \
-                is 1, and an absent ceiling has rank 0";
+    let rule = "a rank is 1 to 3 and not above the links of a tree, what the ranks have above 1 \
+                adds up to at most 2, and an absent ceiling has rank 0";
     check(edited(4, 3), 6, 0, Cause::Rank, rule);
     check(edited(5, 1), 6, 0, Cause::Rank, rule);
 }
@@ -114,6 +114,24 @@ fn stations_at_rest() {
 }
 
 #[test]
+fn positions() {
+    let mut yard = yard(2, &[1, 1, 1], &[]);
+    let link = |cost: i16| Link::new([0, 1], 1, [cost, -cost, cost / 2]);
+    yard.links = (0..16).map(link).collect();
+    let Err(YardError::Refused(refusal)) = yard.survey() else {
+        panic!("16 × 16 × 8 positions are refused");
+    };
+    check(
+        Some(refusal),
+        19,
+        0,
+        Cause::Positions,
+        "the yard has over 1,600 positions: the different costs of usable links by ceiling, \
+         multiplied",
+    );
+}
+
+#[test]
 fn link_records() {
     check(edited(19, 0), 2, 2, Cause::Mark, "link 1 has a wrong mark");
     let ends = "joins a station that the yard does not have, or joins a station to itself";
@@ -150,7 +168,7 @@ fn buffers_and_allowance() {
         "the buffer is too short",
     );
     check(
-        best(&survey, [9, 9], &mut [0]).err(),
+        best(&survey, [9; 3], &mut [0]).err(),
         9,
         0,
         Cause::Buffer,
@@ -178,7 +196,7 @@ fn drawn_links_and_bounds() {
     }
     let mut tree = [7; 3];
     check(
-        best(&survey, [6, 0], &mut tree).err(),
+        best(&survey, [6, 0, 0], &mut tree).err(),
         14,
         0,
         Cause::NoTree,
@@ -256,11 +274,13 @@ fn written_surveys() {
         Cause::Output,
         "the output has no room for the survey",
     );
-    check(
-        write(0x5946, 42),
-        2,
-        0,
-        Cause::Mark,
-        "the yard record has a wrong mark",
-    );
+    for record in [YardRecord::Resting, YardRecord::Triple] {
+        check(
+            write(record.kind(), 600),
+            2,
+            0,
+            Cause::Mark,
+            "the yard record has a wrong mark",
+        );
+    }
 }

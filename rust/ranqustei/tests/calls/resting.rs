@@ -1,6 +1,6 @@
 //! The resting yard record: a tree joins the working stations, by links that end at none that rests.
 
-use crate::counted::declined;
+use crate::counted::{check_every_cut, declined};
 use crate::samples::{bytes_of, chain, largest, told, yard, yard_a, RECORDS};
 use crate::yards::check;
 use ranqustei::{best, judge, list, Link, Survey, Yard, YardError, YardRecord};
@@ -82,7 +82,7 @@ fn other_records_do_not_say_which_stations_rest() {
     }
     assert_eq!(
         YardError::Record.to_string(),
-        "stations rest, and only the resting yard record says which"
+        "stations rest, and the yard record does not say which"
     );
 }
 
@@ -102,7 +102,7 @@ fn links_keep_their_numbers() {
 #[test]
 fn drawn_links() {
     let survey = bytes(&winter());
-    let judged = |drawn: &[u8]| judge(&survey, drawn).map(|costs| (costs.sum, costs.y1));
+    let judged = |drawn: &[u8]| judge(&survey, drawn).map(|costs| (costs.sum, costs.ceilings[0]));
     assert_eq!(judged(&[2]), Ok((3, 2)));
     // Links with one or both ends at rest, none, too many, and one that is not there.
     for drawn in [
@@ -149,7 +149,7 @@ fn one_working_station() {
         assert_eq!(survey.judge(&[]).map(|plan| plan.costs.sum), Ok(0));
         assert_eq!(survey.judge(&[0]).map_err(told), Err((11, 0)));
         assert!(survey
-            .best([i16::MIN; 2])
+            .best([i16::MIN; 3])
             .is_ok_and(|plan| plan.links.is_empty()));
     }
 }
@@ -163,7 +163,7 @@ fn no_usable_link() {
     let mut head = [0xA5; 11];
     assert_eq!(list(&bytes(&bare), 0, &mut head), Ok(()));
     assert_eq!(head, *b"PH\x00\x00\x00\x00\x00\x00\x01\x01\x00");
-    assert_eq!(survey.best([i16::MAX; 2]).map_err(told), Err((14, 0)));
+    assert_eq!(survey.best([i16::MAX; 3]).map_err(told), Err((14, 0)));
     // Without ceilings there is one position, and it is solved.
     let bare = yard(3, &[], &[(0, 1, 4, &[])]).with_resting([1]);
     check(&bare, &[], 1);
@@ -195,10 +195,13 @@ fn values_are_those_of_usable_links() {
 fn lent_bytes() {
     let survey = bytes(&winter());
     let mut tree = [0xA5; 4];
-    assert_eq!(best(&survey, [1, 0], &mut tree).map_err(told), Err((14, 0)));
-    assert_eq!(best(&survey, [2, 0], &mut []).map_err(told), Err((9, 0)));
+    assert_eq!(
+        best(&survey, [1, 0, 0], &mut tree).map_err(told),
+        Err((14, 0))
+    );
+    assert_eq!(best(&survey, [2, 0, 0], &mut []).map_err(told), Err((9, 0)));
     assert_eq!(tree, [0xA5; 4]);
-    assert!(best(&survey, [2, 0], &mut tree).is_ok());
+    assert!(best(&survey, [2, 0, 0], &mut tree).is_ok());
     assert_eq!(tree, [2, 0xA5, 0xA5, 0xA5]);
     let mut buffer = [0xA5; 30];
     assert_eq!(
@@ -217,12 +220,7 @@ fn lent_bytes() {
 #[test]
 fn every_cut_is_declined() {
     for yard in resting_yards() {
-        let whole = bytes(&yard);
-        for length in 0..whole.len() {
-            let is_record_end = length >= 10 && length % 12 == 10;
-            let number = if is_record_end { 15 } else { 1 };
-            assert_eq!(declined(&whole[..length]), Some((number, 0)), "{length}");
-        }
+        check_every_cut(&bytes(&yard), 10, 12);
     }
 }
 

@@ -2,7 +2,7 @@
 
 use ranqustei::{Figures, Link, Refusal, Yard, YardRecord};
 
-/// The yard records that a survey may have.
+/// The yard records that a survey of at most two ceilings may have.
 pub const RECORDS: [YardRecord; 3] = [YardRecord::Plain, YardRecord::Counted, YardRecord::Resting];
 
 /// A yard from its stations, its ranks and its links: two ends, a sum, ceiling costs.
@@ -11,6 +11,16 @@ pub fn yard(stations: u8, ranks: &[u8], links: &[(u8, u8, i32, &[i16])]) -> Yard
         .iter()
         .map(|&(a, b, sum, costs)| Link::new([a, b], sum, costs));
     Yard::new(stations, ranks, links.collect::<Vec<_>>())
+}
+
+/// Survey A with two further ceiling costs, and ranks for all three ceilings.
+pub fn three_a(ranks: [u8; 3]) -> Yard {
+    let links = [
+        (0, 1, 4, &[7, 1, 5][..]),
+        (1, 2, 3, &[2, 6, 8]),
+        (0, 2, 1, &[9, 3, 4]),
+    ];
+    yard(3, &ranks, &links)
 }
 
 /// Survey A of document 01, with another rank perhaps.
@@ -77,16 +87,15 @@ pub fn yards() -> [Yard; 7] {
     ]
 }
 
-/// The bytes of a plan list of this t and p, whoever made it: each plan with its sum and both
-/// ceiling costs, and with 0 for every link.
-pub fn list_of(t: u8, p: u8, plans: &[(i32, i16, i16)]) -> Vec<u8> {
+/// The bytes of a plan list of this t and p, whoever made it: each plan with its sum and its
+/// ceiling costs, two or three, and with 0 for every link.
+pub fn list_of<const N: usize>(t: u8, p: u8, plans: &[(i32, [i16; N])]) -> Vec<u8> {
     let [low, high] = (plans.len() as u16).to_le_bytes();
     let mut bytes = vec![b'P', b'H', low, high, 0, 0, 0, 0, t, p];
-    for (sum, y1, y2) in plans {
-        bytes.extend(b"PL");
+    for (sum, costs) in plans {
+        bytes.extend(if N == 2 { b"PL" } else { b"PM" });
         bytes.extend(sum.to_le_bytes());
-        bytes.extend(y1.to_le_bytes());
-        bytes.extend(y2.to_le_bytes());
+        bytes.extend(costs.iter().flat_map(|cost| cost.to_le_bytes()));
         bytes.extend(vec![0; usize::from(t)]);
     }
     bytes

@@ -52,7 +52,7 @@ fn equal_sums_below_0() {
 #[test]
 fn questions() {
     let survey = accepted(&a_with([-4, 3, -1]));
-    let best = |bound| survey.best([bound, 0]).map(|plan| plan.to_string());
+    let best = |bound| survey.best([bound, 0, 0]).map(|plan| plan.to_string());
     assert_eq!(best(9), Ok("-5 9 links 0 2".to_string()));
     assert_eq!(best(8), Ok("-1 7 links 0 1".to_string()));
     assert_eq!(best(6).map_err(told), Err((14, 0)));

@@ -1,6 +1,6 @@
 //! The yards of document 01 and yards at its limits, on figures.
 
-use crate::samples::{chain, largest, told, yard, yard_a};
+use crate::samples::{chain, largest, told, yard, yard_a, RECORDS};
 use ranqustei::{Cause, PlanList, Yard, YardError};
 
 /// The plans of a yard as the planner's program prints them, and the solved count.
@@ -68,11 +68,11 @@ fn worked_yards() {
 fn questions_to_survey_a() {
     let survey = yard_a(1).survey().expect("survey A is accepted");
     assert_eq!(
-        survey.best([8, 0]).map(|plan| plan.to_string()),
+        survey.best([8, 0, 0]).map(|plan| plan.to_string()),
         Ok("7 7 links 0 1".to_string())
     );
-    assert_eq!(survey.best([6, 0]).map_err(told), Err((14, 0)));
-    assert_eq!(survey.best([i16::MIN, 0]).map_err(told), Err((14, 0)));
+    assert_eq!(survey.best([6, 0, 0]).map_err(told), Err((14, 0)));
+    assert_eq!(survey.best([i16::MIN, 0, 0]).map_err(told), Err((14, 0)));
     assert_eq!(
         survey
             .judge(&[0, 2])
@@ -144,15 +144,23 @@ fn the_longest_list_buffer() {
 }
 
 #[test]
-fn figures_that_a_survey_cannot_hold() {
-    let three = yard(3, &[1, 1, 1], &[])
+fn ceilings_that_a_survey_cannot_hold() {
+    let four = yard(3, &[1, 1, 1, 1], &[])
         .survey()
-        .expect_err("three ceilings");
-    assert_eq!(three, YardError::Ceilings { found: 3 });
+        .expect_err("four ceilings");
+    assert_eq!(four, YardError::Ceilings { room: 3, found: 4 });
     assert_eq!(
-        three.to_string(),
-        "a survey has room for 2 ceilings: found 3"
+        four.to_string(),
+        "the yard record has room for 3 ceilings: found 4"
     );
+    for record in RECORDS {
+        let three = yard(3, &[1, 1, 1], &[]).survey_with(record);
+        assert_eq!(three, Err(YardError::Ceilings { room: 2, found: 3 }));
+    }
+}
+
+#[test]
+fn costs_that_a_survey_cannot_hold() {
     let links = [(0, 1, 4, &[7][..]), (1, 2, 3, &[])];
     let missing = yard(3, &[1], &links)
         .survey()

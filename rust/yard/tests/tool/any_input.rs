@@ -1,7 +1,7 @@
 //! Random text, bytes and words: the tool answers or says what is wrong.
 
 use crate::random::Random;
-use crate::tool::{run_bytes, scratch, text_a};
+use crate::tool::{repository, run_bytes, scratch, text_a};
 
 const COMMANDS: [&str; 11] = [
     "plans", "best", "judge", "text", "survey", "list", "fetch", "index", "cheapest", "draw",
@@ -30,8 +30,9 @@ fn random_text(random: &mut Random) -> String {
         "",
         "stations 3 ceilings 1\n",
         "stations 3 ceilings 1\nresting 1\n",
+        "stations 3 ceilings 1 1 1\n",
     ];
-    let mut text = heads[random.below(4)].to_string();
+    let mut text = heads[random.below(heads.len())].to_string();
     for _ in 0..random.below(24) {
         text += WORDS[random.below(WORDS.len())];
         text += if random.below(4) == 0 { "\n" } else { " " };
@@ -58,8 +59,8 @@ fn any_words() {
     let mut random = Random(6);
     let text = text_a();
     let words = [
-        "-o", "--plan", "--record", "plain", "counted", "resting", "-", "0", "1", "-5", "300",
-        "help", "", "--", "–", "x.list", "x.index", "x.survey",
+        "-o", "--plan", "--record", "plain", "counted", "resting", "triple", "-", "0", "1", "-5",
+        "300", "help", "", "--", "–", "x.list", "x.index", "x.survey",
     ];
     for _ in 0..4_000 {
         let command = COMMANDS[random.below(COMMANDS.len())];
@@ -76,8 +77,10 @@ fn any_bytes_in_files() {
         let survey = run_bytes(&["survey", "-", "--record", record], text_a());
         survey.expect("survey A is accepted")
     });
-    for round in 0..300 {
-        let mut bytes = good[round % 3].clone();
+    let triple = std::fs::read(repository("examples/valley.survey"));
+    let triple = triple.expect("the example is there");
+    for round in 0..400 {
+        let mut bytes = good.get(round % 4).unwrap_or(&triple).clone();
         for _ in 0..random.below(3) {
             let at = random.below(bytes.len());
             bytes[at] = random.below(16) as u8;

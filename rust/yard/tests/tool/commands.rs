@@ -83,9 +83,12 @@ fn surveys_and_texts_keep_everything() {
     for name in example_yards() {
         let text = run(&["text", &name], "").expect("the example is accepted");
         assert_eq!(run(&["text", "-"], &text), Ok(text.clone()), "{name}");
-        let records = match text.contains("\nresting ") {
-            true => &["resting"][..],
-            false => &["plain", "counted", "resting"],
+        let head = text.lines().next().unwrap_or_default();
+        let has_three = head.split_whitespace().count() == 6;
+        let records = match (has_three, text.contains("\nresting ")) {
+            (true, _) => &["triple"][..],
+            (false, true) => &["resting"],
+            (false, false) => &["plain", "counted", "resting"],
         };
         for record in records {
             let survey = |file| {
@@ -186,7 +189,7 @@ fn wrong_words() {
     for (command, takes) in [
         ("plans", "YARD"),
         ("text", "YARD"),
-        ("survey", "YARD [--record plain|counted|resting]"),
+        ("survey", "YARD [--record plain|counted|resting|triple]"),
         ("list", "YARD"),
         ("frontier", "YARD"),
     ] {
@@ -236,7 +239,7 @@ fn yard_records_are_for_surveys_alone() {
 #[test]
 fn wrong_yard_records() {
     for record in ["", "x", "Plain", "59 45"] {
-        let words = format!("`{record}` is no yard record, plain, counted or resting");
+        let words = format!("`{record}` is no yard record, plain, counted, resting or triple");
         assert_eq!(on_a("survey", &["--record", record]), misused(&words));
     }
     assert_eq!(

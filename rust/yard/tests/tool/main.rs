@@ -12,4 +12,5 @@ mod records;
 mod resting;
 mod signed_sums;
 mod tool;
+mod triple;
 mod yard_text;

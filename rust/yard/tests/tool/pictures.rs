@@ -21,8 +21,8 @@ fn check(words: &[&str], yard: &str, picture: &str) {
 
 #[test]
 fn pictures_of_the_documents() {
-    let yards = ["orchard", "orchard-winter", "solar"];
-    let [orchard, winter, solar] = yards.map(|yard| format!("examples/yards/{yard}.txt"));
+    let yards = ["orchard", "orchard-winter", "solar", "valley"];
+    let [orchard, winter, solar, valley] = yards.map(|yard| format!("examples/yards/{yard}.txt"));
     let plan = |number| ["draw", "--plan", number];
     check(&plan("5"), &orchard, "docs/pictures/orchard-plan.svg");
     check(&plan("1"), &winter, "docs/pictures/orchard-winter-plan.svg");
@@ -32,6 +32,7 @@ fn pictures_of_the_documents() {
         "docs/pictures/orchard-frontier.svg",
     );
     check(&["frontier"], &solar, "docs/pictures/solar-frontier.svg");
+    check(&["frontier"], &valley, "docs/pictures/valley-frontier.svg");
 }
 
 /// Draws a yard both ways; the pictures have numbers alone as coordinates.
@@ -101,6 +102,10 @@ fn parallel_links_are_separate_curves() {
 fn yards_at_the_limits() {
     let [plan, _] = draw("stations 2 ceilings 1 1\n0 1 1000000 -32768 32767\n");
     assert!(plan.contains(">Plan 0: sum 1,000,000, ceiling costs −32,768 and 32,767</text>"));
+    let [plan, frontier] = draw("stations 2 ceilings 1 1 1\n0 1 1000000 -32768 32767 0\n");
+    assert!(plan.contains(">Plan 0: sum 1,000,000, ceiling costs −32,768, 32,767 and 0</text>"));
+    assert_eq!(frontier.matches(">sum</text>").count(), 3);
+    assert!(frontier.contains(">ceiling cost 3: the largest over the links</text>"));
     let chain: String = (0..23)
         .map(|end| format!("{end} {} 1000000 {end} 1\n", end + 1))
         .collect();

@@ -44,6 +44,8 @@ fn folder() -> PathBuf {
         "yards/orchard-winter.txt",
         "yards/heather.txt",
         "yards/solar.txt",
+        "yards/valley.txt",
+        "positions.survey",
         "cut-off.survey",
     ] {
         let name = format!("examples/{example}");

@@ -61,7 +61,7 @@ fn wrong_lines() {
     let second = "a line `resting` comes second, before the links";
     check(&format!("{HEAD}{LINKS}resting 1\n"), 6, second);
     check(&with_line("resting 1\nresting 2"), 3, second);
-    let head = "the first line is `stations N ceilings K1 K2`: found `resting 1`";
+    let head = "the first line is `stations N ceilings K1 K2 K3`: found `resting 1`";
     check(&format!("resting 1\n{HEAD}"), 1, head);
 }
 
@@ -74,8 +74,8 @@ fn other_faults_keep_their_lines() {
         &format!("link 1 {ends} (number 7, place 2)"),
     );
     let rank =
-        "a rank is 1 to 3 and not above the links of a tree, beside a rank of 3 the other is \
-                1, and an absent ceiling has rank 0 (number 6, place 0)";
+        "a rank is 1 to 3 and not above the links of a tree, what the ranks have above 1 adds up \
+                to at most 2, and an absent ceiling has rank 0 (number 6, place 0)";
     check("stations 3 ceilings 2\nresting 1\n", 1, rank);
     check(
         "stations 25\nresting 30\n",
@@ -125,7 +125,7 @@ fn records() {
     let bytes = b"YF\x04\x01\x01\x00\x04\x0A\x00\x00".to_vec();
     assert_eq!(record(&[], &winter), Ok(bytes.clone()));
     assert_eq!(record(&["--record", "resting"], &winter), Ok(bytes));
-    let lost = "standard input: stations rest, and only the resting yard record says which";
+    let lost = "standard input: stations rest, and the yard record does not say which";
     for other in ["plain", "counted"] {
         let answer = record(&["--record", other], &winter);
         assert_eq!(answer, Err((1, lost.to_string())));

@@ -49,7 +49,7 @@ pub fn example_yards() -> Vec<String> {
         .map(|file| file.expect("a file").path());
     let names = paths.map(|path| path.display().to_string());
     let is_yard = |name: &String| name.ends_with(".txt") || name.ends_with(".survey");
-    let refused = ["refused", "long", "cut-off", "all-at-rest"];
+    let refused = ["refused", "long", "cut-off", "all-at-rest", "positions"];
     let refused = refused.map(|name| format!("/{name}.survey"));
     let is_refused = |name: &String| refused.iter().any(|file| name.ends_with(file));
     names

@@ -17,11 +17,11 @@ fn check(text: &str, line: usize, words: &str) {
 
 #[test]
 fn heads() {
-    check("", 1, "the text has no line `stations N ceilings K1 K2`");
+    check("", 1, "the text has no line `stations N ceilings K1 K2 K3`");
     check(
         "# nothing\n\n",
         1,
-        "the text has no line `stations N ceilings K1 K2`",
+        "the text has no line `stations N ceilings K1 K2 K3`",
     );
     for head in [
         "0 1 4",
@@ -31,7 +31,7 @@ fn heads() {
         "stations 3 ceiling 1",
         "ceilings 1",
     ] {
-        let words = format!("the first line is `stations N ceilings K1 K2`: found `{head}`");
+        let words = format!("the first line is `stations N ceilings K1 K2 K3`: found `{head}`");
         check(&format!("\n# a yard\n  {head}  # so\n"), 3, &words);
     }
     check(
@@ -50,9 +50,9 @@ fn heads() {
         "a rank is a number from 1 to 3: found `-1`",
     );
     check(
-        "stations 3 ceilings 1 1 1",
+        "stations 3 ceilings 1 1 1 1",
         1,
-        "a yard has at most 2 ceilings: found 3 ranks",
+        "a yard has at most 3 ceilings: found 4 ranks",
     );
 }
 

@@ -86,7 +86,7 @@ pub fn hand_made_lists() -> [(String, Vec<u8>); 3] {
 fn list_of(figures: &[[i32; 2]], rng: &mut Rng) -> Vec<u8> {
     let plan = |&[y1, sum]: &[i32; 2]| Costs {
         sum,
-        ceilings: [y1 as i16, 0],
+        ceilings: [y1 as i16, 0, 0],
     };
     let draft = ListDraft {
         tree_len: 23,

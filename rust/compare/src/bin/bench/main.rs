@@ -2,27 +2,32 @@
 
 mod index;
 mod timing;
+mod triple;
 mod writing;
 
 use compare::kinds::{hard, large};
 use compare::list_bytes::{plan_count, solved_count, used_bytes};
 use compare::rng::Rng;
-use compare::yards::{Layout, Recipe, Signs, Values};
+use compare::values::{Signs, Values};
+use compare::yards::{Layout, Recipe};
 use peer::plan_list;
-use peer::records::COUNTED;
+use peer::positions::Positions;
+use peer::records::{COUNTED, MAX_CEILINGS};
 use peer::survey::{Link, Yard, MAX_LINKS};
-use peer::walk::Positions;
 use std::hint::black_box;
 use timing::{fastest, print_ratios, RUNS};
+
+/// The rank of each ceiling; 0 where it is absent.
+type Ranks = [u8; MAX_CEILINGS];
 
 /// Yards of a row.
 const YARDS: u64 = 6;
 /// Ceilings questions of a run.
 const QUESTIONS: usize = 64;
 const STATIONS: [u8; 7] = [6, 8, 10, 12, 16, 20, 24];
-const RANKS: [[u8; 2]; 5] = [[1, 1], [2, 1], [3, 1], [1, 3], [2, 2]];
+const RANKS: [Ranks; 5] = [[1, 1, 0], [2, 1, 0], [3, 1, 0], [1, 3, 0], [2, 2, 0]];
 /// The ranks of yards with one ceiling.
-const SINGLE_RANKS: [[u8; 2]; 3] = [[1, 0], [2, 0], [3, 0]];
+const SINGLE_RANKS: [Ranks; 3] = [[1, 0, 0], [2, 0, 0], [3, 0, 0]];
 const HARD_LINKS: i64 = MAX_LINKS as i64;
 const SETS: [(&str, Values); 2] = [("hard", Values::Different), ("opposed", Values::Opposed)];
 /// The stations of the yards with signed sums or a link count.
@@ -45,6 +50,9 @@ fn main() {
         "Their yard record has no link count; counted is hard with one. In resting, which is hard"
     );
     println!("with a link count and rest bytes, one station in {ONE_IN} rests.");
+    println!(
+        "With three ceilings hard and opposed have at most as many values of each as is said."
+    );
     compare_planners();
     let yards = || hard(HARD_LINKS, Values::Different);
     let [signed, counted, resting] = [
@@ -55,6 +63,7 @@ fn main() {
     compare_variant("Signed sums", "signed", &signed, &VARIANT_STATIONS);
     compare_variant("Link counts", "counted", &counted, &VARIANT_STATIONS);
     compare_variant("Stations at rest", "resting", &resting, &RESTING_STATIONS);
+    triple::print_table();
     growth();
     compare_indexes();
     writing::print_table();
@@ -97,23 +106,32 @@ fn ratios(rows: &[Row], call: fn(&Row) -> [f64; 2]) -> Vec<f64> {
 
 /// The table of both calls on a variant of the hard set.
 fn compare_variant(title: &str, set: &str, recipe: &Recipe, stations: &[u8]) {
-    println!("\n## {title}: the list call, then the ceilings question\n");
-    println!("| set | n | k | solved | archive | peer | ratio | archive | peer | ratio |");
-    println!("|---|---|---|---|---|---|---|---|---|---|");
+    print_both_heading(title);
     let rows = stations
         .iter()
         .flat_map(|&stations| RANKS.map(|ranks| (stations, ranks)));
     for (stations, ranks) in rows {
         let surveys = yards_of(recipe, stations, ranks);
-        let row = Row::new(label(set, stations, ranks), &surveys);
-        let (label, solved) = (&row.label, row.solved);
-        let ([list, peer_list], [best, peer_best]) = (row.list, row.best);
-        let [list_ratio, best_ratio] = [list / peer_list, best / peer_best];
-        println!(
-            "| {label} | {solved:.0} | {list:.1} | {peer_list:.1} | {list_ratio:.2} \
-             | {best:.2} | {peer_best:.2} | {best_ratio:.2} |"
-        );
+        print_both(&Row::new(label(set, stations, ranks), &surveys));
     }
+}
+
+/// The heading of a table of both calls.
+fn print_both_heading(title: &str) {
+    println!("\n## {title}: the list call, then the ceilings question\n");
+    println!("| set | n | k | solved | archive | peer | ratio | archive | peer | ratio |");
+    println!("|---|---|---|---|---|---|---|---|---|---|");
+}
+
+/// A row of a table of both calls.
+fn print_both(row: &Row) {
+    let (label, solved) = (&row.label, row.solved);
+    let ([list, peer_list], [best, peer_best]) = (row.list, row.best);
+    let [list_ratio, best_ratio] = [list / peer_list, best / peer_best];
+    println!(
+        "| {label} | {solved:.0} | {list:.1} | {peer_list:.1} | {list_ratio:.2} \
+         | {best:.2} | {peer_best:.2} | {best_ratio:.2} |"
+    );
 }
 
 /// The table of the list call's time for a solved position, by links and by stations.
@@ -139,20 +157,22 @@ fn compare_indexes() {
     for (set, values) in SETS {
         for (ceilings, ranks) in [(1, &SINGLE_RANKS[..]), (2, &RANKS)] {
             let name = format!("{set}, p = {ceilings}");
-            lists.push((name, longest_list(values, ranks)));
+            lists.push((name, longest_list(&hard(HARD_LINKS, values), ranks)));
         }
+        let recipe = triple::recipe(values, triple::MANY);
+        let name = format!("{set}, p = 3");
+        lists.push((name, longest_list(&recipe, &triple::RANKS)));
     }
     lists.extend(index::hand_made_lists());
     index::print_table(&lists);
 }
 
-/// The longest list of a set's yards with some ranks.
-fn longest_list(values: Values, ranks: &[[u8; 2]]) -> Vec<u8> {
-    let recipe = hard(HARD_LINKS, values);
+/// The longest list of yards with some ranks.
+fn longest_list(recipe: &Recipe, ranks: &[Ranks]) -> Vec<u8> {
     let mut lists = Vec::new();
     for stations in STATIONS {
         for &ranks in ranks {
-            let surveys = yards_of(&recipe, stations, ranks);
+            let surveys = yards_of(recipe, stations, ranks);
             lists.extend(surveys.iter().map(|survey| list_of(survey)));
         }
     }
@@ -170,11 +190,13 @@ fn list_of(survey: &[u8]) -> Vec<u8> {
 }
 
 fn list_need(yard: &Yard) -> usize {
-    plan_list::need(Positions::of(yard).count(), yard.tree_len())
+    plan_list::need(yard, Positions::of(yard).count())
 }
 
-fn label(set: &str, stations: u8, [k1, k2]: [u8; 2]) -> String {
-    format!("{set} | {stations} | {k1}, {k2}")
+fn label(set: &str, stations: u8, ranks: Ranks) -> String {
+    let present = ranks.iter().filter(|&&rank| rank > 0);
+    let ranks: Vec<String> = present.map(u8::to_string).collect();
+    format!("{set} | {stations} | {}", ranks.join(", "))
 }
 
 fn large_yards() -> Vec<Vec<u8>> {
@@ -183,7 +205,7 @@ fn large_yards() -> Vec<Vec<u8>> {
     (0..YARDS * 10).map(survey).collect()
 }
 
-fn yards_of(recipe: &Recipe, stations: u8, ranks: [u8; 2]) -> Vec<Vec<u8>> {
+fn yards_of(recipe: &Recipe, stations: u8, ranks: Ranks) -> Vec<Vec<u8>> {
     let draft = |seed| recipe.draft_with(stations, ranks, &mut Rng::new(seed));
     (0..YARDS).map(|seed| draft(seed).bytes()).collect()
 }
@@ -236,7 +258,8 @@ fn time_best(survey: &[u8], yard: &Yard) -> [f64; 2] {
         [] => 0,
         _ => rng.pick(&links).costs[ceiling],
     };
-    let questions: Vec<[i16; 2]> = (0..QUESTIONS).map(|_| [bound(0), bound(1)]).collect();
+    let questions = (0..QUESTIONS).map(|_| std::array::from_fn(&mut bound));
+    let questions: Vec<[i16; MAX_CEILINGS]> = questions.collect();
     let mut tree = [0; MAX_LINKS];
     let times = fastest(|planner| {
         for &bounds in &questions {

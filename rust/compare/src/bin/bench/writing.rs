@@ -8,8 +8,8 @@ use compare::kinds::exact;
 use compare::records::{kind_of, marks};
 use compare::rng::Rng;
 use compare::sums::HIGHEST;
+use compare::values::Values;
 use compare::write_rules::Request;
-use compare::yards::Values;
 use peer::records::{YardRecord, WRITTEN_RECORDS};
 use std::hint::black_box;
 

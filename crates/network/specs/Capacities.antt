@@ -1,5 +1,5 @@
 -- What the arrays of the code hold, at least what the limits let a survey have (`survey-fine`). No figure of document 01 is here: the code between the
--- reader of a survey and the calls goes by these, and only by these; the raise is the definitions' too.
+-- reader of a survey and the calls goes by these, and only by these; the raise, and the ceilings that costs are listed for, are the definitions' too.
 use Prim.Native.Nat.{ℕ, _^_, _*_, _-_}
 
 -- stations, and so entries of the groups of stations

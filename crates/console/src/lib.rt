@@ -1,7 +1,7 @@
 // Text and numbers for the programs: written to standard output, and read from a line. What is written is not part of any contract.
 pub mod line;
 
-use encoding_writes::bits32;
+use encoding::writes::bits32;
 
 const OUTPUT: i32 = 1;
 

@@ -25,8 +25,8 @@ use Rattle.forest.specs.Groups.{apart, joined}
 use Rattle.forest.specs.declared.Forest.{Forest}
 use Rattle.network.specs.Yard.{endsAt}
 use Rattle.kruskal.specs.Base.{kept}
-use Rattle.exceptions_patterns.specs.Patterns.{Patterned, admitted, patternAt}
-use Rattle.exceptions_admitted.specs.Fit.{fit-at, fitOf}
+use Rattle.exceptions.specs.Patterns.{Patterned, admitted, patternAt}
+use Rattle.exceptions.specs.Fit.{fit-at, fitOf}
 
 -- a link that joins two groups joins two stations
 crosses-apart : (L : Labelling) (e : Edge) → crosses L e ≡ true → crosses identity e ≡ true

@@ -12,7 +12,7 @@ use Rattle.order.specs.Least.{ranked}
 use Rattle.network.specs.Capacities.{linksHeld}
 use Rattle.network.specs.Yard.{sumAt}
 use Rattle.kruskal_order.specs.ByCost.{Cheap, linkOrder, order-apart, order-below, order-length}
-use Rattle.kruskal_usable.specs.Usable.{usable-sublist, usableOrder}
+use Rattle.kruskal_order.specs.Usable.{usable-sublist, usableOrder}
 use Rattle.kruskal.specs.Tree.{Walkable}
 
 -- links that have a pattern each, with an array that has room for them

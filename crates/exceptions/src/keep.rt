@@ -1,13 +1,13 @@
 // The exceptions that Kruskal's method keeps, run over the links of each pattern apart, in one pass.
-use exceptions_admitted::fit_patterns;
+use crate::admitted::fit_patterns;
 use forest::Forest;
 use network::capacities::PATTERNS_HELD;
 ghost use Prim.Native.Nat.{_*_};
 ghost use mathlib.Core.Path.{_≡_};
 ghost use lib.ListN.{length};
 ghost use Rattle.kruskal.specs.Grown.{Near};
-ghost use Rattle.exceptions_patterns.specs.Patterns.{Patterned};
-ghost use Rattle.kruskal_usable.specs.Collect.{Holding};
+ghost use Rattle.exceptions.specs.Patterns.{Patterned};
+ghost use Rattle.kruskal_order.specs.Collect.{Holding};
 ghost use Rattle.exceptions.specs.Select.{Selectable};
 ghost use Rattle.exceptions.specs.Keep.{keptExceptions};
 

@@ -1,3 +1,13 @@
-// Which links a tree may use under ceilings: the normal ones freely, and the exceptions within each ceiling's rank.
-pub mod keep;
+// Links above bounds, the exceptions: which of them a tree may have, of each ceiling fewer than its rank.
+
+// Above which bounds a link lies, its pattern.
+pub mod patterns;
+
+// The patterns that the ranks admit, alone and in pairs.
+pub mod admitted;
+
+// The normal links, in order.
 pub mod select;
+
+// The exceptions that Kruskal's method keeps of each pattern.
+pub mod keep;

@@ -1,7 +1,7 @@
 // The normal links, in their order.
 ghost use Rattle.order.specs.Lists.{filter};
-ghost use Rattle.exceptions_patterns.specs.Patterns.{normal};
-ghost use Rattle.kruskal_usable.specs.Collect.{Holding};
+ghost use Rattle.exceptions.specs.Patterns.{normal};
+ghost use Rattle.kruskal_order.specs.Collect.{Holding};
 ghost use Rattle.exceptions.specs.Select.{Selectable};
 
 // Writes the links of an order that are above no bound, in their order, and returns their number.

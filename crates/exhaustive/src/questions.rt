@@ -5,7 +5,7 @@ use alltrees::answers::has_links;
 use alltrees::answers::numbers;
 use alltrees::answers::wanted;
 use alltrees::listing::NONE;
-use encoding_writes::bits32;
+use encoding::writes::bits32;
 use network::Answer;
 use network::PlanCosts;
 use planner::best;

@@ -5,8 +5,8 @@ use Prim.Native.Nat.{ℕ, _*_, _≤_}
 use native.Mathlib.Nat.{zero-add}
 use lib.ListN.{drop, length}
 use Rattle.network.specs.Bytes.{littleEndian}
-use Rattle.encoding_overwrite.specs.Overwrite.{overwrite}
-use Rattle.encoding_blocks.specs.Fields.{Written, fieldBytes, fields-length, written-end}
+use Rattle.buffers.specs.Overwrite.{overwrite}
+use Rattle.encoding.specs.Fields.{Written, fieldBytes, fields-length, written-end}
 
 -- the bytes of numbers, two each
 abbrev pub entryBytes : List ℕ → List ℕ

@@ -18,7 +18,7 @@ use Rattle.spanning.specs.Count.{forest-few}
 use Rattle.spanning.specs.Kruskal.{greedy-forest, kruskal, kruskal-greedy}
 use Rattle.network.specs.Capacities.{stationsHeld, sumHeld}
 use Rattle.network.specs.Yard.{endsAt, sumAt}
-use Rattle.encoding_overwrite.specs.Overwrite.{length-overwrite, overwrite, take-overwrite, written}
+use Rattle.buffers.specs.Overwrite.{length-overwrite, overwrite, take-overwrite, written}
 use Rattle.forest.specs.Groups.{apart, apart-labels, apart-led, joined}
 use Rattle.forest.specs.declared.Forest.{Forest}
 use Rattle.kruskal.specs.Tree.{Usable}

@@ -1,2 +1,4 @@
-// Kruskal's method on links in order of cost: the links that it keeps, and the groups after each of them.
+// Kruskal's method: the links that it keeps, the base, and the leaders after each of them, the history.
+
+// The base with its history.
 pub mod links;

@@ -1,5 +1,5 @@
 // The links that Kruskal's method keeps with nothing joined before: at most one fewer than there are stations, whatever comes in.
-use encoding_copies::copy_in;
+use buffers::copies::copy_in;
 use forest::Forest;
 use network::capacities::STATIONS_HELD;
 ghost use Prim.Native.Nat.{_*_, _≤_};

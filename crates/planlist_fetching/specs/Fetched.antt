@@ -25,10 +25,10 @@ use Rattle.network.specs.NetworkFine.{slots-few}
 use Rattle.network.specs.Fetching.{headCount, damaged, fetchLinks, fetchNumber, fetchStart, linksStart, planStart, headTreeSize}
 use Rattle.network.specs.declared.Costs.{Costs}
 use Rattle.network.specs.Network.{Network}
-use Rattle.encoding_numbers.specs.RoundTrip.{u16-bytes}
-use Rattle.encoding_blocks.specs.Blocks.{Sized, join-at, length-join}
+use Rattle.encoding.specs.RoundTrip.{u16-bytes}
+use Rattle.encoding.specs.Blocks.{Sized, join-at, length-join}
 use Rattle.planlist_records.specs.Records.{encode, length-mark, length-plan}
-use Rattle.planlist_finding.specs.Found.{number-marked, number-none}
+use Rattle.planlist_fetching.specs.Found.{number-marked, number-none}
 
 -- ---- the links, by the tests that lead to them
 

@@ -14,9 +14,9 @@ use Rattle.network.specs.Bytes.{bitsOf, littleEndian}
 use Rattle.network.specs.PlanList.{ceilingBytes, planBytes, planMark, planSize}
 use Rattle.network.specs.Survey.{narrowSlots}
 use Rattle.network.specs.declared.Costs.{Costs}
-use Rattle.encoding_overwrite.specs.Overwrite.{overwrite, overwrite-chain}
-use Rattle.encoding_blocks.specs.Blocks.{blocks}
-use Rattle.encoding_blocks.specs.Fields.{fields-length}
+use Rattle.buffers.specs.Overwrite.{overwrite, overwrite-chain}
+use Rattle.encoding.specs.Blocks.{blocks}
+use Rattle.encoding.specs.Fields.{fields-length}
 
 -- a ceiling cost as bytes
 abbrev pub costBytes : ℤ → List ℕ

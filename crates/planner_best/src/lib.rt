@@ -1,12 +1,12 @@
 // The ceilings question.
-use kruskal_usable::order_usable;
+use kruskal_order::usable::order_usable;
 use network::Answer;
 use network::Checked;
 use network::Refusal;
 use network::capacities::CEILINGS_HELD;
 use network::capacities::LINKS_HELD;
 use solver::question::solve;
-use survey::read_survey;
+use survey_reading::reader::read_survey;
 ghost use mathlib.Core.Path.{_≡_};
 ghost use lib.ListN.{length};
 ghost use Rattle.network.specs.Calls.{asked, says, treeAfter};

@@ -8,7 +8,7 @@ pub fn fetch_number(list: &[u8], r: u32) -> u8
     ensures reply { λ n. ⌜ n ≡ fetchNumber (now (list .entry)) r ⌝ }
     ensures kept { λ n. ⌜ NumberKept (now (list .entry)) r n ⌝ }
 {
-    planlist_finding::fetch_number(list, r)
+    planlist_fetching::finding::fetch_number(list, r)
 }
 
 // The link bytes of plan r, a part of the list; an empty part if the number is not 0.
@@ -16,5 +16,5 @@ pub fn fetch_links<'a>(list: &'a [u8], r: u32) -> &'a [u8]
     ensures reply { λ part. ⌜ now part ≡ fetchLinks (now (list .entry)) r ⌝ }
     ensures kept { λ part. ⌜ LinksKept (now (list .entry)) r (now part) ⌝ }
 {
-    planlist_fetching::fetch_links(list, r)
+    planlist_fetching::fetching::fetch_links(list, r)
 }

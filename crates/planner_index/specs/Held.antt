@@ -8,9 +8,9 @@ use lib.Seq.{drop-cons}
 use Rattle.network.specs.Bytes.{byteAt, littleEndian}
 use Rattle.network.specs.PlanList.{join}
 use Rattle.network.specs.Indexing.{entriesFrom}
-use Rattle.encoding_numbers.specs.RoundTrip.{bytes-u16}
-use Rattle.index_keys.specs.Order.{AllBytes}
-use Rattle.index_testing.specs.Entries.{AllBelow}
+use Rattle.encoding.specs.RoundTrip.{bytes-u16}
+use Rattle.index_building.specs.Order.{AllBytes}
+use Rattle.index_lookup.specs.Entries.{AllBelow}
 
 -- entries behind two bytes
 entries-behind : (n at a b : ℕ) (bs : List ℕ) → entriesFrom n (suc (suc at)) (a ∷ b ∷ bs) ≡ entriesFrom n at bs

@@ -17,9 +17,9 @@ use Rattle.network.specs.Bytes.{littleEndian}
 use Rattle.network.specs.PlanList.{join}
 use Rattle.network.specs.Fetching.{damaged, headCount}
 use Rattle.network.specs.Indexing.{entriesFrom, indexIn, indexKey, indexNeed, indexOf, isIndex, planNumbers, withoutCeilings}
-use Rattle.sorting.specs.Numbers.{Telling, numbers-once, sorted-numbers}
-use Rattle.planlist_finding.specs.Found.{whole}
-use Rattle.index_testing.specs.Entries.{AllBelow}
+use Rattle.order.specs.Numbers.{Telling, numbers-once, sorted-numbers}
+use Rattle.planlist_fetching.specs.Found.{whole}
+use Rattle.index_lookup.specs.Entries.{AllBelow}
 use Rattle.planner_index.specs.Held.{entries-held}
 
 module _ (list : List ℕ) where

@@ -26,11 +26,11 @@ use Rattle.network.specs.Promise.{Archived}
 use Rattle.network.specs.declared.Found.{Found}
 use Rattle.network.specs.declared.Found.the-variants.{Plan}
 use Rattle.network.specs.declared.Status.{Status}
-use Rattle.planlist_finding.specs.Found.{number-damaged, number-marked}
-use Rattle.index_keys.specs.Order.{AllBytes}
+use Rattle.planlist_fetching.specs.Found.{number-damaged, number-marked}
+use Rattle.index_building.specs.Order.{AllBytes}
 use Rattle.index_building.specs.Entries.{entry-length, entryBytes}
 use Rattle.index_building.specs.Replies.{built-fits, built-short, built-unfit, fit-intact}
-use Rattle.index_finding.specs.Finding.{looked-held, looked-other, looked-short, looked-unfit}
+use Rattle.index_lookup.specs.Finding.{looked-held, looked-other, looked-short, looked-unfit}
 use Rattle.planner_fetch.specs.Archive.{number-kept}
 use Rattle.planner_index.specs.Held.{entries-bytes}
 use Rattle.planner_index.specs.Index.{index-below, index-held, index-in, index-length, index-once, index-rising}

@@ -1,10 +1,10 @@
 // The index of a plan list by first ceiling, and the cheapest plan that a value of that ceiling allows.
-use index_building::build;
-use index_finding::find;
+use index_building::building::build;
+use index_lookup::finding::find;
 use network::Found;
 use network::Refusal;
 use network::Status;
-use planlist_finding::is_damaged;
+use planlist_fetching::finding::is_damaged;
 ghost use mathlib.Core.Path.{_≡_};
 ghost use lib.ListN.{length};
 ghost use Rattle.network.specs.Indexing.{indexAfter, indexStatus, lookupReply, saysFound};

@@ -3,7 +3,7 @@ use network::Checked;
 use network::Status;
 use network::capacities::CEILINGS_HELD;
 use network::capacities::LINKS_HELD;
-use survey::read_survey;
+use survey_reading::reader::read_survey;
 use walk::list::list_plans;
 ghost use mathlib.Core.Path.{_≡_};
 ghost use lib.ListN.{length};

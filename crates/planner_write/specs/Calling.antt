@@ -19,8 +19,8 @@ use Rattle.network.specs.declared.Layout.{Layout}
 use Rattle.network.specs.declared.Refusal.{Refusal}
 use Rattle.network.specs.declared.Status.{Status}
 use Rattle.network.specs.declared.YardFigures.{YardFigures}
-use Rattle.survey_written.specs.Columns.{Full, full-figures, fullCosts, fullEnds, link-many, made-full, refused-fine}
-use Rattle.survey_written.specs.Fields.{Met}
+use Rattle.survey_roundtrip.specs.Columns.{Full, full-figures, fullCosts, fullEnds, link-many, made-full, refused-fine}
+use Rattle.survey_roundtrip.specs.Fields.{Met}
 use Rattle.survey_writing.specs.Filled.{fullAfter, fullChecked, fullStatus}
 use Rattle.planner_write.specs.Promised.{promised}
 

@@ -18,10 +18,10 @@ use Rattle.network.specs.WritingPromise.{Known, OfBytes, Says, WritePromised}
 use Rattle.network.specs.declared.Checked.the-variants.{Fine}
 use Rattle.network.specs.declared.Layout.{Layout}
 use Rattle.network.specs.declared.Status.{Status}
-use Rattle.survey_written.specs.Fields.{Met, survey-layout}
-use Rattle.survey_written.specs.Former.{survey-former}
-use Rattle.survey_written.specs.Layouts.{kind-known, kind-listed, kind-missed, layout-known, writable-for}
-use Rattle.survey_written.specs.ReadBack.{figures-read, legal-fit, reader-agrees}
+use Rattle.survey_roundtrip.specs.Fields.{Met, survey-layout}
+use Rattle.survey_roundtrip.specs.Former.{survey-former}
+use Rattle.survey_roundtrip.specs.Layouts.{kind-known, kind-listed, kind-missed, layout-known, writable-for}
+use Rattle.survey_roundtrip.specs.ReadBack.{figures-read, legal-fit, reader-agrees}
 use Rattle.planner_write.specs.Numbered.{write-fine}
 
 module _ (kind : ℕ) (f : Figures) (output : List ℕ) (met : unknownKind kind ≡ false → yardFiguresChecked (f .yard) (length (f .links)) ≡ Fine → Met f) where

@@ -2,12 +2,12 @@
 use network::Checked;
 use network::Status;
 use network::YardFigures;
-use survey_figures::check_yard;
-use survey_kind::kind_of;
-use survey_kind::layout_for;
-use survey_padding::full_costs;
-use survey_padding::full_ends;
-use survey_writing::write_full;
+use survey_writing::figures::check_yard;
+use survey_writing::kinds::kind_of;
+use survey_writing::kinds::layout_for;
+use survey_writing::padding::full_costs;
+use survey_writing::padding::full_ends;
+use survey_writing::writer::write_full;
 ghost use mathlib.Core.Path.{_≡_};
 ghost use lib.ListN.{length};
 ghost use Rattle.network.specs.Writing.{figuresFrom, writeAfter, writeStatus};

@@ -15,16 +15,16 @@ use Rattle.kruskal.specs.Grown.{flagsOf}
 use Rattle.kruskal.specs.Tree.{Tree}
 use Rattle.kmax.specs.Digits.{admits}
 use Rattle.exceptions.specs.Select.{InOrder}
-use Rattle.search_best.specs.Search.{Best, beats, nothing, offered}
-use Rattle.search_best.specs.Stands.{Keeps, Stands, linksBy}
-use Rattle.search_best.specs.Marks.{Distinct, Flagged}
-use Rattle.search_best.specs.Chosen.{chosen, chosen-flagged, contending, contends-chosen, contends-not}
-use Rattle.search_best.specs.declared.best.Lead.{Lead}
-use Rattle.search_best.specs.declared.best.Trial.{Trial}
-use Rattle.search_base.specs.Rest.{lead-loses, losesTo}
-use Rattle.search_base.specs.declared.rest.Rest.{Rest}
-use Rattle.search_set.specs.Grows.{ring}
-use Rattle.search_set.specs.Trials.{Joining, One, Ready}
+use Rattle.search_trials.specs.Search.{Best, beats, nothing, offered}
+use Rattle.search_trials.specs.Stands.{Keeps, Stands, linksBy}
+use Rattle.search_trials.specs.Marks.{Distinct, Flagged}
+use Rattle.search_trials.specs.Chosen.{chosen, chosen-flagged, contending, contends-chosen, contends-not}
+use Rattle.search_trials.specs.declared.best.Lead.{Lead}
+use Rattle.search_trials.specs.declared.best.Trial.{Trial}
+use Rattle.search_trials.specs.Rest.{lead-loses, losesTo}
+use Rattle.search_trials.specs.declared.rest.Rest.{Rest}
+use Rattle.search_trials.specs.Grows.{ring}
+use Rattle.search_trials.specs.Trials.{Joining, One, Ready}
 
 -- the base with the rows of its leaders, in rising order of cost and each link once, and a lead whose exceptions have flags
 pub record Begun (ends sums base history : List ℕ) (best : Lead) : Type 0 where

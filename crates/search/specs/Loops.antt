@@ -19,16 +19,16 @@ use Rattle.order.specs.Sorted.{Sorted}
 use Rattle.network.specs.Yard.{sumAt}
 use Rattle.kmax.specs.Ceilings.{slackOf}
 use Rattle.kmax.specs.Digits.{admits, admits-few, marked, ones}
-use Rattle.exceptions_patterns.specs.Patterns.{Patterned, admitted, patternAt}
+use Rattle.exceptions.specs.Patterns.{Patterned, admitted, patternAt}
 use Rattle.exceptions.specs.Keep.{Exceptions}
 use Rattle.exceptions.specs.Select.{sublist-in-order}
-use Rattle.search_best.specs.Sets.{higher, lower, pair, sets, singles, trials}
-use Rattle.search_best.specs.Search.{Best, considered, offered, tried, triedIf}
-use Rattle.search_best.specs.Stands.{grownFrom}
-use Rattle.search_base.specs.Rest.{drop-sublist, from-place, loses-more, losesTo, losing, restOf}
-use Rattle.search_base.specs.declared.rest.Rest.{Rest}
-use Rattle.search_set.specs.Grows.{ring}
-use Rattle.search_set.specs.Trials.{Joining, ring-tried, two-tried}
+use Rattle.search_trials.specs.Sets.{higher, lower, pair, sets, singles, trials}
+use Rattle.search_trials.specs.Search.{Best, considered, offered, tried, triedIf}
+use Rattle.search_trials.specs.Stands.{grownFrom}
+use Rattle.search_trials.specs.Rest.{drop-sublist, from-place, loses-more, losesTo, losing, restOf}
+use Rattle.search_trials.specs.declared.rest.Rest.{Rest}
+use Rattle.search_trials.specs.Grows.{ring}
+use Rattle.search_trials.specs.Trials.{Joining, ring-tried, two-tried}
 use Rattle.search.specs.Begun.{Tryable, fitting}
 
 pair-sum : (c : ℕ → ℕ) (x y : ℕ) → sum c (pair x y) ≡ c x + c y

@@ -1,23 +1,23 @@
 // The search for the best tree over all sets of exceptions.
-use exceptions_admitted::admits_pair;
-use search_base::rest::Rest;
-use search_best::best::Lead;
-use search_best::best::Trial;
-use search_best::best::contends;
-use search_best::best::offer;
-use search_set::is_ring;
-use search_set::with_one;
-use search_set::with_two;
-use trees_sums::sum_at;
+use exceptions::admitted::admits_pair;
+use search_trials::best::Lead;
+use search_trials::best::Trial;
+use search_trials::best::contends;
+use search_trials::best::offer;
+use search_trials::rest::Rest;
+use search_trials::trials::is_ring;
+use search_trials::trials::with_one;
+use search_trials::trials::with_two;
+use trees_costs::sums::sum_at;
 ghost use mathlib.Core.Path.{_≡_};
 ghost use Prim.Native.Nat.{_+_, _*_, _<_};
 ghost use lib.ListN.{getD, length};
-ghost use Rattle.exceptions_patterns.specs.Patterns.{Patterned};
+ghost use Rattle.exceptions.specs.Patterns.{Patterned};
 ghost use Rattle.exceptions.specs.Keep.{Exceptions};
-ghost use Rattle.search_best.specs.Marks.{Distinct, Flagged};
-ghost use Rattle.search_best.specs.Sets.{sets};
-ghost use Rattle.search_base.specs.Rest.{restOf};
-ghost use Rattle.search_set.specs.Trials.{Alone, One};
+ghost use Rattle.search_trials.specs.Marks.{Distinct, Flagged};
+ghost use Rattle.search_trials.specs.Sets.{sets};
+ghost use Rattle.search_trials.specs.Rest.{restOf};
+ghost use Rattle.search_trials.specs.Trials.{Alone, One};
 ghost use Rattle.search.specs.Begun.{Begun, Tryable, bestBy, competed, fitting};
 ghost use Rattle.search.specs.Loops.{searched, triedOnes, withPairs};
 

@@ -14,13 +14,13 @@ use Rattle.network.specs.NetworkFine.{NetworkFine}
 use Rattle.network.specs.Network.{Network}
 use Rattle.network.specs.Shaped.{netOf}
 use Rattle.network.specs.declared.Shape.{Shape}
-use Rattle.trees_sums.specs.Added.{sumOf}
-use Rattle.search_best.specs.Flags.{rising}
-use Rattle.search_best.specs.Search.{Best}
-use Rattle.solver_buffer.specs.Buffer.{put-front, putAt}
-use Rattle.solver_search.specs.Assembled.{Reports}
-use Rattle.solver_search.specs.declared.Found.{Found}
-use Rattle.solver_network.specs.OfNetwork.{netBest}
+use Rattle.trees_costs.specs.Added.{sumOf}
+use Rattle.search_trials.specs.Flags.{rising}
+use Rattle.search_trials.specs.Search.{Best}
+use Rattle.solver.specs.Buffer.{put-front, putAt}
+use Rattle.solver.specs.Assembled.{Reports}
+use Rattle.solver.specs.declared.by_patterns.Found.{Found}
+use Rattle.solver.specs.OfNetwork.{netBest}
 use Rattle.solver.specs.Found.{Shows, none-shown, tree-shown}
 use Rattle.solver.specs.Best.{best-shown}
 

@@ -30,16 +30,16 @@ use Rattle.network.specs.NetworkFine.{NetworkFine, graph-sound}
 use Rattle.network.specs.Network.{Network}
 use Rattle.forest.specs.Groups.{apart, apart-labels, apart-led}
 use Rattle.kruskal_order.specs.ByCost.{linkOrder}
-use Rattle.kruskal_usable.specs.Usable.{usable-apart, usable-below, usable-joins, usableOf, usableOrder}
+use Rattle.kruskal_order.specs.Usable.{usable-apart, usable-below, usable-joins, usableOf, usableOrder}
 use Rattle.kruskal.specs.Base.{kept}
 use Rattle.kruskal.specs.Grown.{kept-kruskal}
 use Rattle.solver.specs.Filter.{filter-ext, filter-sort}
-use Rattle.search_best.specs.Sets.{trials, trials-among, trials-complete, trials-sound}
-use Rattle.exceptions_patterns.specs.Patterns.{admitted, normal, patternAt}
-use Rattle.exceptions_patterns.specs.OfNetwork.{net-admitted, net-normal, net-pattern, net-patterned, netPatterns}
+use Rattle.search_trials.specs.Sets.{trials, trials-among, trials-complete, trials-sound}
+use Rattle.exceptions.specs.Patterns.{admitted, normal, patternAt}
+use Rattle.exceptions.specs.OfNetwork.{net-admitted, net-normal, net-pattern, net-patterned, netPatterns}
 use Rattle.exceptions.specs.Keep.{exceptions-of, exceptions-sublist, kept-exceptions, keptExceptions, pattern-known}
-use Rattle.search_best.specs.Search.{bestOf}
-use Rattle.solver_network.specs.OfNetwork.{netBest, orderOf}
+use Rattle.search_trials.specs.Search.{bestOf}
+use Rattle.solver.specs.OfNetwork.{netBest, orderOf}
 use Rattle.solver.specs.Found.{Shows, near, search-shown}
 
 -- links have different numbers, and so different places in the order

@@ -33,10 +33,10 @@ use Rattle.network.specs.Network.{Network}
 use Rattle.kruskal.specs.Tree.{bare, linked}
 use Rattle.kruskal.specs.Grown.{Holds, Near, bare-holds, grown-holds}
 use Rattle.kruskal.specs.Tree.{Tree}
-use Rattle.search_best.specs.Flags.{first, first-dictionary, flags-length, flags-rising, rising}
-use Rattle.exceptions_patterns.specs.Patterns.{admitted}
-use Rattle.search_best.specs.Search.{beats, considered, nothing, offered, tried, triedIf}
-use Rattle.search_best.specs.Search.{Best}
+use Rattle.search_trials.specs.Flags.{first, first-dictionary, flags-length, flags-rising, rising}
+use Rattle.exceptions.specs.Patterns.{admitted}
+use Rattle.search_trials.specs.Search.{beats, considered, nothing, offered, tried, triedIf}
+use Rattle.search_trials.specs.Search.{Best}
 
 -- ---- Kruskal's method keeps all of a list exactly where it is a forest
 

@@ -1,3 +1,9 @@
+-- the links in the caller's buffer
+pub mod Buffer
+-- the best tree, put together from what the search is given
+pub mod Assembled
+-- the best tree of a network, from its ranks, its patterns and its link order
+pub mod OfNetwork
 -- filters
 pub mod Filter
 -- what the program's search keeps is what the theory's search keeps

@@ -22,10 +22,10 @@ use Rattle.network.specs.declared.PlanCosts.{PlanCosts}
 use Rattle.network.specs.Network.{Network}
 use Rattle.network.specs.declared.Refusal.{Refusal}
 use Rattle.network.specs.declared.Shape.{Shape}
-use Rattle.trees_sums.specs.Added.{sumOf}
+use Rattle.trees_costs.specs.Added.{sumOf}
 use Rattle.trees_costs.specs.TreeCosts.{Priceable, TreeLinks, costs-net, costsBy, priceable, tree-links}
 use Rattle.solver.specs.Answer.{Tells}
-use Rattle.solver_search.specs.declared.Found as best
+use Rattle.solver.specs.declared.by_patterns.Found as best
 
 -- the answer, by the best tree under the bounds
 unfoldable pub answerOf : Network → Option (List ℕ) → Answer

@@ -1,3 +1,16 @@
-// The best tree of a network under ceilings: its links in the tree buffer, and the ceilings question with its answer.
-pub mod best;
+// The ceilings question on a network: the best tree under bounds, with its links in the tree buffer.
+
+// Links put into the tree buffer.
+pub mod tree_buffer;
+
+// The best tree by patterns and ranks.
+pub mod by_patterns;
+
+// The best tree of a network, as flags.
+pub mod of_network;
+
+// Its links in the tree buffer.
+pub mod links;
+
+// Its costs, or 14.
 pub mod question;

@@ -1,15 +1,15 @@
 // The ceilings question on a network: the best tree's costs, or number 14, and its links in the lent tree buffer.
-use crate::best::best_links;
+use crate::links::best_links;
 use network::Answer;
 use network::Refusal;
 use network::Shape;
-use trees_costs::costs_with;
+use trees_costs::costs::costs_with;
 ghost use mathlib.Core.Path.{_≡_};
 ghost use Prim.Native.Nat.{_≤_};
 ghost use lib.ListN.{length};
 ghost use Rattle.network.specs.Calls.{treeWith};
 ghost use Rattle.network.specs.Shaped.{Plannable, netOf};
-ghost use Rattle.kruskal_usable.specs.Usable.{usableOrder};
+ghost use Rattle.kruskal_order.specs.Usable.{usableOrder};
 ghost use Rattle.solver.specs.Answer.{bestUnder};
 ghost use Rattle.solver.specs.Question.{answerOf};
 

@@ -1,5 +1,5 @@
 // The layouts of surveys, and where the records of a survey stand.
-use encoding_numbers::mark_at;
+use encoding::numbers::mark_at;
 use network::Form;
 use network::Layout;
 use network::records::LINK_FIELDS;

@@ -1,3 +1,7 @@
-// Where the records of a survey and their fields stand.
+// The layouts of surveys: a row for each yard mark.
+
+// Where the fields of a record stand.
 pub mod fields;
+
+// The table of layouts, the one that a survey has, and where its link records start.
 pub mod layout;

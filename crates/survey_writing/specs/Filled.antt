@@ -18,11 +18,11 @@ use Rattle.network.specs.declared.Layout.{Layout}
 use Rattle.network.specs.declared.Refusal.{Refusal}
 use Rattle.network.specs.declared.Status.{Status}
 use Rattle.network.specs.declared.YardFigures.{YardFigures}
-use Rattle.encoding_overwrite.specs.Overwrite.{overwrite, overwrite-chain}
-use Rattle.survey_written.specs.Columns.{columnsChecked, link-many, links-checked}
-use Rattle.survey_written.specs.Fields.{survey-length, yard-length}
-use Rattle.survey_written.specs.Layouts.{Writable, writtenLink}
-use Rattle.survey_written.specs.Written.{records-all, recordsTo}
+use Rattle.buffers.specs.Overwrite.{overwrite, overwrite-chain}
+use Rattle.survey_roundtrip.specs.Columns.{columnsChecked, link-many, links-checked}
+use Rattle.survey_roundtrip.specs.Fields.{survey-length, yard-length}
+use Rattle.survey_roundtrip.specs.Layouts.{Writable, writtenLink}
+use Rattle.survey_roundtrip.specs.Written.{records-all, recordsTo}
 
 -- 7 and 8 link by link, then 17: what is left of `writeChecked` by then
 unfoldable pub fullChecked : Layout → Figures → ℕ → Checked

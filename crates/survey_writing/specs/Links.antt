@@ -6,11 +6,11 @@ use native.Mathlib.Omega.{arith}
 use lib.IntN.{ℤ}
 use lib.ListN.{length}
 use Rattle.network.specs.Writing.{Link, linkBytes, linkFrom}
-use Rattle.encoding_overwrite.specs.Overwrite.{overwrite}
-use Rattle.survey_written.specs.Columns.{Full, link-read, linkRead}
-use Rattle.survey_written.specs.Fields.{Fitting}
-use Rattle.survey_written.specs.Layouts.{writtenLink}
-use Rattle.survey_written.specs.Written.{records-none, records-turn, recordsTo}
+use Rattle.buffers.specs.Overwrite.{overwrite}
+use Rattle.survey_roundtrip.specs.Columns.{Full, link-read, linkRead}
+use Rattle.survey_roundtrip.specs.Fields.{Fitting}
+use Rattle.survey_roundtrip.specs.Layouts.{writtenLink}
+use Rattle.survey_roundtrip.specs.Written.{records-none, records-turn, recordsTo}
 
 module _ (mark ends : List ℕ) (sums costs : List ℤ) (first : ℕ) (before : List ℕ) where
   -- the records of the first i links stand from `first` on, and `at` is behind them

@@ -29,8 +29,8 @@ use Rattle.network.specs.Resting.{working-few}
 use Rattle.network.specs.Yard.{ceilingCosts, ceilingPart, ends, graph, isTree, stations, sumAt, treeSize, treeSum, usable}
 use Rattle.network.specs.declared.Costs.{Costs}
 use Rattle.network.specs.declared.Shape.{Shape}
-use Rattle.trees_sums.specs.Added.{Below, loweredSum, sum-le, sumOf}
-use Rattle.trees_ceilings.specs.Ceiling.{CeilingFine, ceilingOf}
+use Rattle.trees_costs.specs.Added.{Below, loweredSum, sum-le, sumOf}
+use Rattle.trees_costs.specs.Ceiling.{CeilingFine, ceilingOf}
 
 -- ---- definitions
 

@@ -27,8 +27,8 @@ use Rattle.network.specs.Shaped.{Plannable}
 use Rattle.network.specs.Yard.{endsAt, usableAt, working}
 use Rattle.network.specs.declared.Shape.{Shape}
 use Rattle.stations.specs.Stations.{Stations, plannable-stations}
-use Rattle.trees_drawing.specs.Drawing.{drawing}
-use Rattle.trees_drawing.specs.declared.Drawn.{Drawn}
+use Rattle.trees_drawn.specs.Drawing.{drawing}
+use Rattle.trees_drawn.specs.declared.drawing.Drawn.{Drawn}
 
 -- ---- definitions
 

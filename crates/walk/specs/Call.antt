@@ -12,9 +12,9 @@ use Rattle.network.specs.Calls.{ifFine, plansAfter, plansChecked, roomChecked, 
 use Rattle.network.specs.Yard.{treeSize}
 use Rattle.network.specs.Network.{Network}
 use Rattle.network.specs.declared.Status.{Status}
-use Rattle.planlist_ending.specs.Finished.{finished}
-use Rattle.walk_positions.specs.Walked.{Outcome}
-use Rattle.walk_positions.specs.declared.positions.Walked.{Walked}
+use Rattle.planlist_frontier.specs.Finished.{finished}
+use Rattle.walk.specs.Walked.{Outcome}
+use Rattle.walk.specs.declared.positions.Walked.{Walked}
 use Rattle.walk.specs.Concluded.{concluded, list-filled}
 
 module _ (net : Network) (allowance : ℕ) (buffer : List ℕ) where

@@ -11,10 +11,10 @@ use Rattle.network.specs.PlanList.{bufferNeed, costsOf, filled, headBytes, head
 use Rattle.network.specs.Walk.{plans, positionCount}
 use Rattle.network.specs.Yard.{treeSize, yard}
 use Rattle.network.specs.Network.{Network}
-use Rattle.planlist_ending.specs.Finished.{finished, finished-list, thenZeros}
-use Rattle.planlist_insertion.specs.Stored.{absent}
-use Rattle.walk_positions.specs.Walked.{Outcome}
-use Rattle.walk_positions.specs.declared.positions.Walked.{Walked}
+use Rattle.planlist_frontier.specs.Finished.{finished, finished-list, thenZeros}
+use Rattle.planlist_frontier.specs.Stored.{absent}
+use Rattle.walk.specs.Walked.{Outcome}
+use Rattle.walk.specs.declared.positions.Walked.{Walked}
 
 -- a buffer of the need has room for the plans
 pub outcome-room : (net : Network) {allowance : ℕ} {bs : List ℕ} {w : Walked} {size : ℕ} → Outcome net allowance bs w → positionCount net ≤ plansHeld

@@ -1,16 +1,16 @@
 // The list of plans.
-use marking_grid::grid_of;
+use crate::positions::Walked;
+use crate::positions::visit_all;
+use marking::grid::grid_of;
 use network::Shape;
 use network::Status;
 use network::capacities::CEILINGS_HELD;
 use network::capacities::LINKS_HELD;
 use network::records::HEAD_SIZE;
-use planlist_ending::clear;
-use planlist_ending::finish;
-use planlist_records::plan_size;
-use planlist_records::plan_slots;
-use walk_positions::positions::Walked;
-use walk_positions::positions::visit_all;
+use planlist_frontier::ending::clear;
+use planlist_frontier::ending::finish;
+use planlist_records::records::plan_size;
+use planlist_records::records::plan_slots;
 ghost use mathlib.Core.Path.{_≡_};
 ghost use Prim.Native.Nat.{_+_, _*_, _≤_};
 ghost use lib.ListN.{length};

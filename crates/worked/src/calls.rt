@@ -9,7 +9,7 @@ use console::line::Line;
 use console::part;
 use console::row;
 use console::text;
-use encoding_signed::signed16;
+use encoding::signed::signed16;
 use network::limits::MAX_NEED;
 use planner::best;
 use planner::fetch_links;

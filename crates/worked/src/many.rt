@@ -2,7 +2,7 @@
 use crate::yard::HEAD_MARK;
 use crate::yard::PLAN_MARK;
 use crate::yard::WIDE_PLAN_MARK;
-use encoding_writes::write_u32;
+use encoding::writes::write_u32;
 use network::limits::MAX_PLANS;
 use network::records::HEAD_SIZE;
 use network::records::NARROW_SLOTS;

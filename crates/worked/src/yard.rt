@@ -4,7 +4,7 @@ use crate::calls::call;
 use console::line::Line;
 use console::line::NUMBERS;
 use console::part;
-use encoding_writes::write_u32;
+use encoding::writes::write_u32;
 use network::limits::MAX_LINKS;
 use planner::list;
 use std::num::wrapping_add_usize;

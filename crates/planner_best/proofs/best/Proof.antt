@@ -11,7 +11,7 @@ use Rattle.network.specs.Cut.{cut-asked}
 use Rattle.network.specs.Refusals.{checkedOf}
 use Rattle.network.specs.Survey.{networkOf}
 use Rattle.network.specs.declared.Checked.the-variants.{Fine}
-use Rattle.survey.specs.Survey.{Read}
+use Rattle.survey_reading.specs.Survey.{Read}
 use Rattle.stations.specs.Stations.{plannable-stations}
 use Rattle.planner_best.specs.Best.{answer-after, asked-answer, asked-refused, asked-short, refused-after, short-after}
 use Rattle.planner_best.proofs.best.Statement.{statement}

@@ -4,7 +4,7 @@ use borrow.Author.Needs.{needs}
 use denote.Ref.{now}
 use mir.Facts.{toZ-ofZ}
 use Rattle.index_building.specs.Replies.{unfit-damaged}
-use Rattle.index_finding.specs.Finding.{looked-unfit}
+use Rattle.index_lookup.specs.Finding.{looked-unfit}
 use Rattle.planner_index.specs.Kept.{lookup-promised, says-looked}
 use Rattle.planner_index.proofs.index_lookup.Statement.{statement}
 use Rattle.planner_index.proofs.index_lookup.Tie as tie

@@ -10,7 +10,7 @@ use Rattle.network.specs.Cut.{cut-judged}
 use Rattle.network.specs.Refusals.{checkedOf}
 use Rattle.network.specs.Survey.{networkOf}
 use Rattle.network.specs.declared.Checked.the-variants.{Fine}
-use Rattle.survey.specs.Survey.{Read}
+use Rattle.survey_reading.specs.Survey.{Read}
 use Rattle.trees_drawn.specs.Drawn.{drawable}
 use Rattle.planner_judge.specs.Judge.{judged-no-tree, judged-refused, judged-tree}
 use borrow.Author.Needs.{needs}

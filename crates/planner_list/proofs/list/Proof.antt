@@ -8,7 +8,7 @@ use Rattle.network.specs.Promise.{promised}
 use Rattle.network.specs.Refusals.{checkedOf}
 use Rattle.network.specs.Survey.{networkOf}
 use Rattle.network.specs.declared.Checked.the-variants.{Fine}
-use Rattle.survey.specs.Survey.{Read}
+use Rattle.survey_reading.specs.Survey.{Read}
 use Rattle.planner_list.specs.Listing.{list-accepted, list-refused}
 use Rattle.planner_list.proofs.list.Statement.{statement}
 use Rattle.planner_list.proofs.list.Tie as tie

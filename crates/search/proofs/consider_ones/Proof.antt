@@ -4,9 +4,9 @@ use mathlib.Core.Path.{_≡_, refl, sym, _∙_}
 use native.Mathlib.Omega.{arith}
 use borrow.Author.Needs.{needs}
 use lib.ListN.{getD, length}
-use Rattle.search_best.specs.Marks.{Flagged}
-use Rattle.search_base.specs.Rest.{least-fits}
-use Rattle.search_set.specs.Trials.{Joining, one-tried}
+use Rattle.search_trials.specs.Marks.{Flagged}
+use Rattle.search_trials.specs.Rest.{least-fits}
+use Rattle.search_trials.specs.Trials.{Joining, one-tried}
 use Rattle.search.specs.Begun.{bestBy, by-loses, joining-at, turned}
 use Rattle.search.specs.Loops.{ones-end, ones-lose, ones-turn, triedOnes}
 use Rattle.search.proofs.consider_ones.Statement.{statement}

@@ -6,9 +6,9 @@ use native.Mathlib.Omega.{arith}
 use borrow.Author.Needs.{needs}
 use lib.ListN.{getD, length}
 use Rattle.network.specs.Capacities.{sumHeld}
-use Rattle.search_best.specs.Marks.{Flagged}
-use Rattle.search_base.specs.Rest.{least-fits}
-use Rattle.search_set.specs.Trials.{Joining, one-own}
+use Rattle.search_trials.specs.Marks.{Flagged}
+use Rattle.search_trials.specs.Rest.{least-fits}
+use Rattle.search_trials.specs.Trials.{Joining, one-own}
 use Rattle.search.specs.Begun.{bestBy, by-loses, competed-new, competed-old, fitting-ringless, joining-at, one-joining, turned}
 use Rattle.search.specs.Loops.{pair-left, pair-tried, pairs-end, pairs-lose, pairs-turn, withPairs}
 use Rattle.search.proofs.consider_pairs.Statement.{statement}

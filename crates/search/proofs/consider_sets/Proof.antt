@@ -6,11 +6,11 @@ use native.Mathlib.Omega.{arith}
 use borrow.Author.Needs.{needs}
 use lib.ListN.{getD, length}
 use Rattle.order.specs.Lists.{getD-mem}
-use Rattle.search_best.specs.Marks.{Flagged}
-use Rattle.search_best.specs.Sets.{sets}
-use Rattle.search_base.specs.Rest.{from-place}
-use Rattle.search_best.specs.Search.{tried}
-use Rattle.search_set.specs.Trials.{Joining, One, one-tried}
+use Rattle.search_trials.specs.Marks.{Flagged}
+use Rattle.search_trials.specs.Sets.{sets}
+use Rattle.search_trials.specs.Rest.{from-place}
+use Rattle.search_trials.specs.Search.{tried}
+use Rattle.search_trials.specs.Trials.{Joining, One, one-tried}
 use Rattle.search.specs.Begun.{begun-with, bestBy, joining-at, turned}
 use Rattle.search.specs.Loops.{admitted-tried, place-first, place-some, place-tryable, searched, sets-end, sets-start, sets-turn, withSets}
 use Rattle.search.proofs.consider_sets.Statement.{statement}

@@ -11,7 +11,7 @@ use Rattle.spanning.specs.Tree.{EndsBelow}
 use Rattle.network.specs.Capacities.{patternsHeld, stationsHeld}
 use Rattle.network.specs.Yard.{endsAt}
 use Rattle.forest.specs.Groups.{leaders-differ, leaders-equal, leaders-joined}
-use Rattle.exceptions_patterns.specs.Patterns.{patternAt}
+use Rattle.exceptions.specs.Patterns.{patternAt}
 use Rattle.exceptions.specs.Keep.{gather-end, gather-left, gather-start, gather-taken, gathered, kept-whole, keptBy, nobody, pattern-known}
 use Rattle.exceptions.specs.Select.{known-at}
 use Rattle.exceptions.proofs.keep.put_exceptions.Statement.{statement}

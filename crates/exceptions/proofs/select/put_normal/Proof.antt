@@ -5,8 +5,8 @@ use native.Mathlib.Omega.{arith}
 use borrow.Author.Needs.{needs}
 use lib.Dec.{eqb}
 use lib.ListN.{length, length-set, getD}
-use Rattle.exceptions_patterns.specs.Patterns.{normal}
-use Rattle.kruskal_usable.specs.Collect.{Collected, collect-end, collect-room, collect-start, collect-turn, one-at-most}
+use Rattle.exceptions.specs.Patterns.{normal}
+use Rattle.kruskal_order.specs.Collect.{Collected, collect-end, collect-room, collect-start, collect-turn, one-at-most}
 use Rattle.exceptions.specs.Select.{known-at}
 use Rattle.exceptions.proofs.select.put_normal.Statement.{statement}
 use Rattle.exceptions.proofs.select.put_normal.Tie as tie

@@ -12,7 +12,7 @@ use Rattle.spanning.specs.LabelList.{labelOf}
 use Rattle.spanning.specs.Tree.{EndsBelow}
 use Rattle.network.specs.Capacities.{stationsHeld}
 use Rattle.network.specs.Yard.{endsAt, sumAt}
-use Rattle.encoding_overwrite.specs.Overwrite.{length-overwrite}
+use Rattle.buffers.specs.Overwrite.{length-overwrite}
 use Rattle.forest.specs.Groups.{leaders-differ, leaders-equal, leaders-joined}
 use Rattle.kruskal.specs.Tree.{Usable, walk-usable}
 use Rattle.kruskal.specs.Basing.{Basing, basing-end, basing-full, basing-left, basing-start, basing-taken, joinable-near, taken-few}

@@ -1,2 +1,0 @@
--- the reply of a lookup as plain numbers
-pub mod Flat

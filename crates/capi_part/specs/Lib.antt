@@ -1,2 +1,0 @@
--- the part that fetching names
-pub mod Parts

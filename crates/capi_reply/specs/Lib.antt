@@ -1,2 +1,0 @@
--- replies as plain numbers
-pub mod Replies

@@ -1,4 +1,0 @@
--- bytes that hold records of one size
-pub mod Blocks
--- fields of one width, written one after the other
-pub mod Fields

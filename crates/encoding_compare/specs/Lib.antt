@@ -1,2 +1,0 @@
--- numbers compared through their bits
-pub mod Compared

@@ -1,2 +1,0 @@
--- what was written is read back
-pub mod RoundTrip

@@ -1,0 +1,17 @@
+-- `index_building::keys::raised16` meets its contract. By the definition.
+use mathlib.Core.Path.{refl}
+use native.Mathlib.Omega.{arith}
+use borrow.Author.Needs.{needs}
+use Rattle.index_building.specs.Key.{raised}
+use Rattle.index_building.proofs.keys.raised16.Statement.{statement}
+use Rattle.index_building.proofs.keys.raised16.Tie as tie
+
+add-result : tie.Need-add-result
+add-result c = search needs
+
+returns : tie.Need-returns
+unfolding raised
+returns c = (refl, omega arith)
+
+pub raised16-spec : {M : Type 1} → statement M
+raised16-spec = tie.close (tie.spec add-result returns)

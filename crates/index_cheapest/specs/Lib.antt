@@ -1,2 +1,0 @@
--- the best plan so far, in a pass through the keys
-pub mod Search

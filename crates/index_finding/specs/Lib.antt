@@ -1,2 +1,0 @@
--- a lookup by keys, and what it replies
-pub mod Finding

@@ -1,2 +1,0 @@
--- merging in place
-pub mod Merging

@@ -1,4 +1,0 @@
--- links that pass a test, collected in an array
-pub mod Collect
--- the usable links by cost, then number
-pub mod Usable

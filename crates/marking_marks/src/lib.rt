@@ -1,2 +1,0 @@
-// Marks of the walk's positions.
-pub mod mark;

@@ -1,4 +1,0 @@
--- the costs in a record
-pub mod Held
--- the orders of costs
-pub mod Orders

@@ -1,2 +1,0 @@
--- finding a plan: what the tests say
-pub mod Found

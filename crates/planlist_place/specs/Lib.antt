@@ -1,4 +1,0 @@
--- the records with a lower sum
-pub mod Lower
--- the place of a plan among records
-pub mod Place

@@ -1,2 +1,0 @@
--- the records that a plan leaves
-pub mod Pruned

@@ -1,3 +1,0 @@
-// The better of two trees.
-pub mod best;
-pub mod ties;

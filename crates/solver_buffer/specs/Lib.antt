@@ -1,2 +1,0 @@
--- the links in the caller's buffer
-pub mod Buffer

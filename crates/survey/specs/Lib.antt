@@ -1,2 +1,0 @@
--- what reading a survey gives
-pub mod Survey

@@ -1,2 +1,0 @@
--- the ceiling costs of a survey's links, written ceiling by ceiling
-pub mod Columns

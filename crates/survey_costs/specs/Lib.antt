@@ -1,2 +1,0 @@
--- the costs of absent ceilings, one after the other
-pub mod Absent

@@ -1,2 +1,0 @@
--- the layout that is found
-pub mod Found

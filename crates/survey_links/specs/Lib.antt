@@ -1,2 +1,0 @@
--- the costs of absent ceilings, read from a link record
-pub mod Read

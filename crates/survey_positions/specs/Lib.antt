@@ -1,2 +1,0 @@
--- what counting positions asks, and that they are those of a network
-pub mod Positions

@@ -1,2 +1,0 @@
--- the loop over the ranks
-pub mod Tried

@@ -1,2 +1,0 @@
--- a ceiling cost of a list of links
-pub mod Ceiling

@@ -1,2 +1,0 @@
--- one link more
-pub mod Drawing

@@ -1,2 +1,0 @@
--- the sum of a list of links
-pub mod Added

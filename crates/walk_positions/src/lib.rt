@@ -1,2 +1,0 @@
-// The threshold walk over the positions of the ceilings.
-pub mod positions;

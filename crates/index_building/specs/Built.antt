@@ -11,8 +11,8 @@ use Rattle.order.specs.Sorted.{sort}
 use Rattle.network.specs.Fetching.{headCount}
 use Rattle.network.specs.Indexing.{indexIn, indexKey, indexOf}
 use Rattle.order.specs.Columns.{numbers-alike, placesBy, tabled, tabled-at, tabled-length}
-use Rattle.index_building.specs.Key.{planKey}
-use Rattle.index_building.specs.Order.{AllBytes, earlier-by}
+use Rattle.index_keys.specs.Key.{planKey}
+use Rattle.index_keys.specs.Order.{AllBytes, earlier-by}
 use Rattle.index_building.specs.Entries.{entriesIn, entryBytes}
 
 -- columns with room for the keys and numbers of as many plans, and spare ones for half of them

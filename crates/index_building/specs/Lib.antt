@@ -1,9 +1,3 @@
--- the key of a plan, and the keys of all plans
-pub mod Key
--- keys compare as plans stand in the index
-pub mod Order
--- the keys as a loop reads them
-pub mod Reading
 -- numbers written as entries of an index
 pub mod Entries
 -- the index by the keys of plans

@@ -1,9 +1,9 @@
 // The index of a list, written into a lent buffer.
-use crate::keys::SHORT;
-use crate::keys::read_keys;
 use crate::ordering::order_numbers;
 use encoding::numbers::read_u16;
 use encoding::writes::write_u16;
+use index_keys::SHORT;
+use index_keys::read_keys;
 use network::Status;
 use network::capacities::PLANS_HELD;
 use planlist_records::records::COUNT_AT;
@@ -14,7 +14,7 @@ ghost use lib.ListN.{length};
 ghost use Rattle.network.specs.Capacities.{plansHeld};
 ghost use Rattle.network.specs.Fetching.{damaged, headCount};
 ghost use Rattle.network.specs.Indexing.{indexAfter, indexStatus};
-ghost use Rattle.index_building.specs.Key.{shortList};
+ghost use Rattle.index_keys.specs.Key.{shortList};
 ghost use Rattle.index_building.specs.Entries.{entriesIn};
 ghost use Rattle.index_building.specs.Built.{Columns};
 

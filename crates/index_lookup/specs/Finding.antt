@@ -24,8 +24,8 @@ use Rattle.network.specs.Indexing.{meets, planNumbers, planSum, unfit}
 use Rattle.network.specs.declared.Found.{Found}
 use Rattle.network.specs.declared.Found.the-variants.{Plan}
 use Rattle.order.specs.Columns.{placesBy, tabled, tabled-at, tabled-length}
-use Rattle.index_building.specs.Key.{planKey, raised16, sumIn, y1In}
-use Rattle.index_building.specs.Order.{AllBytes, meets-key, sum-key}
+use Rattle.index_keys.specs.Key.{planKey, raised16, sumIn, y1In}
+use Rattle.index_keys.specs.Order.{AllBytes, meets-key, sum-key}
 use Rattle.index_building.specs.Built.{places-index}
 use Rattle.index_lookup.specs.Known.{holdsPlaces}
 use Rattle.index_lookup.specs.Search.{cheapestBy, keyMeets, keySum}

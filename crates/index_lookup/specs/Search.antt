@@ -14,7 +14,7 @@ use Rattle.order.specs.Test.{by-test}
 use Rattle.order.specs.Lists.{numbersFrom}
 use Rattle.order.specs.Order.{orderℕ}
 use Rattle.order.specs.Least.{challenge, least, scan, scan-least}
-use Rattle.index_building.specs.Key.{sumIn, y1In}
+use Rattle.index_keys.specs.Key.{sumIn, y1In}
 
 -- ---- definitions
 

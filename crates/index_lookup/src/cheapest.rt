@@ -1,6 +1,6 @@
 // The cheapest plan whose y1 is at most a bound, by the keys of plans.
-use index_building::keys::sum_in;
-use index_building::keys::y1_in;
+use index_keys::sum_in;
+use index_keys::y1_in;
 ghost use mathlib.Core.Path.{_≡_};
 ghost use Prim.Native.Nat.{_≤_, _<_};
 ghost use lib.ListN.{length};

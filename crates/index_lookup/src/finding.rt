@@ -3,9 +3,9 @@ use crate::cheapest::cheapest_plan;
 use crate::testing::holds_index;
 use encoding::numbers::read_u16;
 use encoding::writes::bits16;
-use index_building::keys::SHORT;
-use index_building::keys::raised16;
-use index_building::keys::read_keys;
+use index_keys::SHORT;
+use index_keys::raised16;
+use index_keys::read_keys;
 use network::Found;
 use network::Refusal;
 use network::capacities::PLANS_HELD;
@@ -17,7 +17,7 @@ ghost use lib.ListN.{length};
 ghost use Rattle.network.specs.Capacities.{plansHeld};
 ghost use Rattle.network.specs.Fetching.{damaged, headCount};
 ghost use Rattle.network.specs.Indexing.{declined, lookedUp};
-ghost use Rattle.index_building.specs.Key.{shortList};
+ghost use Rattle.index_keys.specs.Key.{shortList};
 ghost use Rattle.index_lookup.specs.Finding.{foundIn};
 
 // A refusal at place 0.

@@ -9,7 +9,7 @@ use Rattle.network.specs.Bytes.{byteAt, littleEndian}
 use Rattle.network.specs.PlanList.{join}
 use Rattle.network.specs.Indexing.{entriesFrom}
 use Rattle.encoding.specs.RoundTrip.{bytes-u16}
-use Rattle.index_building.specs.Order.{AllBytes}
+use Rattle.index_keys.specs.Order.{AllBytes}
 use Rattle.index_lookup.specs.Entries.{AllBelow}
 
 -- entries behind two bytes

@@ -27,7 +27,7 @@ use Rattle.network.specs.declared.Found.{Found}
 use Rattle.network.specs.declared.Found.the-variants.{Plan}
 use Rattle.network.specs.declared.Status.{Status}
 use Rattle.planlist_fetching.specs.Found.{number-damaged, number-marked}
-use Rattle.index_building.specs.Order.{AllBytes}
+use Rattle.index_keys.specs.Order.{AllBytes}
 use Rattle.index_building.specs.Entries.{entry-length, entryBytes}
 use Rattle.index_building.specs.Replies.{built-fits, built-short, built-unfit, fit-intact}
 use Rattle.index_lookup.specs.Finding.{looked-held, looked-other, looked-short, looked-unfit}

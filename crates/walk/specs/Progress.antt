@@ -27,8 +27,8 @@ use Rattle.network.specs.NetworkFine.{NetworkFine, graph-sound, slots-few}
 use Rattle.network.specs.Network.{Network}
 use Rattle.planlist_frontier.specs.Stored.{Holds, Padded, absent, costs-absent, costs-padded, holds-inserted, holds-level, holds-none, holds-rise}
 use Rattle.marking.specs.Unmarked.{nextUnmarked, unmarked-keeps}
-use Rattle.walk.specs.Visit.{bestAt}
-use Rattle.walk.specs.Visited.{Prepared, Visited, recordsOf, slotsOf, takeRecord}
+use Rattle.walk_visit.specs.Visit.{bestAt}
+use Rattle.walk_visit.specs.Visited.{Prepared, Visited, recordsOf, slotsOf, takeRecord}
 use Rattle.walk.specs.Entries.{answered, collect-more, entries-all, entries-fewer, entries-none}
 use Rattle.walk.specs.Entries.{entries-skip, entries-solve, entriesAt, no-lower, takeAnswer}
 

@@ -12,7 +12,7 @@ use Rattle.network.specs.Walk.{passes, plans, positionCount, solvedCount}
 use Rattle.network.specs.Yard.{yard}
 use Rattle.network.specs.Network.{Network}
 use Rattle.planlist_frontier.specs.Stored.{absent, holds-count}
-use Rattle.walk.specs.Visited.{slotsOf}
+use Rattle.walk_visit.specs.Visited.{slotsOf}
 use Rattle.walk.specs.Progress.{Recorded}
 use Rattle.walk.specs.declared.positions.Walked.{Walked}
 

@@ -1,7 +1,4 @@
-// The threshold walk, and the list of plans that it leaves.
-
-// One position: its question, its marks, its plan.
-pub mod visit;
+// The threshold walk over all positions, and the list of plans that it leaves.
 
 // All positions, with the counts.
 pub mod positions;

@@ -1,7 +1,4 @@
 // The walk over all positions.
-use crate::visit::put_position;
-use crate::visit::settle;
-use crate::visit::take_in;
 use kruskal_order::usable::order_usable;
 use marking::grid::Grid;
 use marking::mark::next_unmarked;
@@ -11,12 +8,15 @@ use network::capacities::PLANS_HELD;
 use network::capacities::TREE_HELD;
 use planlist_records::records::plan_slots;
 use solver::question::solve;
+use walk_visit::put_position;
+use walk_visit::settle;
+use walk_visit::take_in;
 ghost use mathlib.Core.Path.{_≡_};
 ghost use Prim.Native.Nat.{_≤_};
 ghost use lib.ListN.{length};
 ghost use Rattle.network.specs.PlanList.{bufferNeed};
 ghost use Rattle.network.specs.Shaped.{netOf};
-ghost use Rattle.walk.specs.Visit.{Ready};
+ghost use Rattle.walk_visit.specs.Visit.{Ready};
 ghost use Rattle.walk.specs.Walked.{Outcome};
 
 // What the walk says of itself: whether it gave up, how many plans it has in the buffer, and how many positions it solved.

@@ -6,7 +6,7 @@ use mir.Facts.{toZ-ofZ}
 use mir.Syntax.{w16}
 use denote.Ref.{now}
 use Rattle.network.specs.Bytes.{bitsOf}
-use Rattle.index_building.specs.Key.{raised16}
+use Rattle.index_keys.specs.Key.{raised16}
 use Rattle.index_lookup.specs.Search.{cheapestBy, plan-none, plan-some, planOr}
 use Rattle.index_lookup.specs.Finding.{found-none, found-other, found-some}
 use Rattle.index_lookup.proofs.finding.find_in.Statement.{statement}

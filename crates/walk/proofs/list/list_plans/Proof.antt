@@ -14,7 +14,7 @@ use Rattle.network.specs.PlanList.{bufferNeed, headSize, planSize, planSlots}
 use Rattle.network.specs.Shaped.{netOf}
 use Rattle.network.specs.Walk.{positionCount}
 use Rattle.stations.specs.Stations.{plannable-stations}
-use Rattle.walk.specs.Visit.{Ready, griddable, ready-grid}
+use Rattle.walk_visit.specs.Visit.{Ready, griddable, ready-grid}
 use Rattle.walk.specs.Lent.{lent-back}
 use Rattle.walk.specs.Call.{room-reply, short-reply}
 use Rattle.walk.specs.Concluded.{concluded, outcome-room}

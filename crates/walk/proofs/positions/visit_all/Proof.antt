@@ -21,9 +21,9 @@ use Rattle.stations.specs.Stations.{plannable-stations}
 use Rattle.solver.specs.Question.{answerOf}
 use Rattle.marking.specs.Settle.{Settled}
 use Rattle.marking.specs.Unmarked.{unmarked-is}
-use Rattle.walk.specs.Answered.{Taken, Takes, settledBy}
-use Rattle.walk.specs.Visit.{asked, bestAt, locatable, reaches, settles}
-use Rattle.walk.specs.Visited.{slotsOf, takes, visited}
+use Rattle.walk_visit.specs.Answered.{Taken, Takes, settledBy}
+use Rattle.walk_visit.specs.Visit.{asked, bestAt, locatable, reaches, settles}
+use Rattle.walk_visit.specs.Visited.{slotsOf, takes, visited}
 use Rattle.walk.specs.Lent.{lent-back}
 use Rattle.walk.specs.Progress.{Progress, finish, prepared, skip-all, spent, start, step}
 use Rattle.walk.specs.Walked.{ended-outcome, spent-outcome}

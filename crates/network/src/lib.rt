@@ -1,8 +1,13 @@
 // The data model that all code shares. What the values mean, and document 01 as definitions, is in specs/.
 use crate::capacities::CEILINGS_HELD;
 
+// What arrays hold.
 pub mod capacities;
+
+// What a survey may have.
 pub mod limits;
+
+// The sizes of records.
 pub mod records;
 
 // What is small of a yard, which goes by value: n stations, of which those rest whose bits are set in `rest`, p ceilings with their ranks k, of which

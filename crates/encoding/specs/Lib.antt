@@ -6,7 +6,7 @@ pub mod RoundTrip
 pub mod Range
 -- laws of two's complement
 pub mod TwosComplement
--- what was written is read back
+-- the same of signed numbers
 pub mod SignedRoundTrip
 -- bytes that hold records of one size
 pub mod Blocks

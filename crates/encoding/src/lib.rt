@@ -6,7 +6,7 @@ pub mod numbers;
 // Signed numbers in two's complement, read.
 pub mod signed;
 
-// Numbers written.
+// Numbers written, and the bits of signed ones.
 pub mod writes;
 
 // Signed numbers compared.

@@ -1,4 +1,4 @@
-// Which links may be in a tree though they are above bounds: of each ceiling fewer than its rank.
+// Which links may be in a tree though they are above bounds: for each ceiling fewer than its rank.
 use network::capacities::PATTERNS_HELD;
 ghost use mathlib.Core.Path.{_≡_};
 ghost use mathlib.Core.List.{[], _∷_};

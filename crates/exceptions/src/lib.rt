@@ -1,4 +1,4 @@
-// Links above bounds, the exceptions: which of them a tree may have, of each ceiling fewer than its rank.
+// Links above bounds, the exceptions: which of them a tree may have, for each ceiling fewer than its rank.
 
 // Above which bounds a link lies, its pattern.
 pub mod patterns;

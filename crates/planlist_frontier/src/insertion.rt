@@ -1,4 +1,4 @@
-// The frontier of plans, kept in the list buffer as records in their order.
+// A plan taken into the frontier: those that it replaces go, and it stands in its place.
 use crate::place::free_place;
 use crate::pruning::prune;
 use buffers::moves::move_up;

@@ -1,6 +1,6 @@
 // The records of a plan list: its head, and a plan record for each plan.
 
-// Marks and sizes, and a plan record written.
+// Marks, sizes and where fields stand, and a plan record written.
 pub mod records;
 
 // The costs in a plan record, and their two orders.

@@ -1,6 +1,6 @@
 // Trials: the tree that one set of exceptions leads to, by what the base loses to it, and the better of two.
 
-// A trial, the lead, and the links of a trial as flags.
+// A trial and its links as flags, the lead, and which of two trials leads.
 pub mod best;
 
 // The first of two trees.

@@ -10,6 +10,7 @@ pub mod Filter
 pub mod Found
 -- THE THEOREM: the best tree of document 01
 pub mod Best
--- the links in the caller's buffer, and the answer
+-- what the best tree tells, with its links in the caller's buffer
 pub mod Answer
+-- the ceilings question with its answer
 pub mod Question

@@ -1,6 +1,6 @@
 // The ceilings question on a network: the best tree under bounds, with its links in the tree buffer.
 
-// Links put into the tree buffer.
+// Flags turned into links, rising, in the tree buffer.
 pub mod tree_buffer;
 
 // The best tree by patterns and ranks.

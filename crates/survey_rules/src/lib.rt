@@ -1,6 +1,6 @@
 // The rules that the records of a survey must keep: numbers 2 to 8, 15 and 18, in their order.
 
-// The first refusal of several checks.
+// A number outside its range, and the first refusal of several checks.
 pub mod checks;
 
 // The rule of ranks, number 6.

@@ -12,5 +12,5 @@ pub mod figures;
 // A yard record and a link record, written.
 pub mod records;
 
-// The whole survey, or 17.
+// 7, 8 or 17, or the whole survey.
 pub mod writer;

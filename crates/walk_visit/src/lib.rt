@@ -1,4 +1,4 @@
-// One position of the threshold walk: its question, what its answer settles, and its plan taken into the frontier.
+// One position of the threshold walk: its places and bounds, what its answer settles, and its plan taken into the frontier.
 use marking::grid::Grid;
 use marking::grid::put_places;
 use marking::mark::mark_box;

@@ -6,6 +6,7 @@ use mathlib.Core.List.{List, [], _∷_, _++_, append-nil, List·Memᴰ·cases-co
 use mathlib.Core.List.{Sublistᴰ, Sublistᴰ·slnil, Sublistᴰ·cons, Sublistᴰ·cons-cons}
 use mathlib.Core.Logic.{inl, inr, ⊎-elim}
 use mathlib.Core.Path.{_≡_, refl, sym, ap, _∙_, subst}
+use native.Mathlib.Decide.{ℕ-discrete}
 use native.Mathlib.Nat.{pow-le-pow-right}
 use native.Mathlib.Numerals.{add-one}
 use native.Mathlib.Omega.{arith}
@@ -17,11 +18,11 @@ use Rattle.order.specs.Test.{Decided, by-test, clash, decide, left, right}
 use Rattle.order.specs.Lists.{_∈_, count, filter, sublist-⊆}
 use Rattle.spanning.specs.Labelling.{Crosses→crosses, Edge, Labelling, crosses, crosses→Crosses}
 use Rattle.spanning.specs.LabelList.{labelOf}
-use Rattle.spanning.specs.Tree.{identity}
-use Rattle.network.specs.Capacities.{patternsHeld}
+use Rattle.spanning.specs.Tree.{EndsBelow, identity}
+use Rattle.network.specs.Capacities.{patternsHeld, stationsHeld}
 use Rattle.kmax.specs.Ceilings.{slackOf}
 use Rattle.kmax.specs.Digits.{admits, admits-few, marked}
-use Rattle.forest.specs.Groups.{apart, joined}
+use Rattle.forest.specs.Groups.{Led, apart, apart-led, joined, joined-led}
 use Rattle.forest.specs.declared.Forest.{Forest}
 use Rattle.network.specs.Yard.{endsAt}
 use Rattle.kruskal.specs.Base.{kept}
@@ -40,6 +41,16 @@ nobody = record { leader = [] }
 unfoldable pub separate : List Forest
 separate = replicate patternsHeld apart
 
+-- the groups of each pattern are led
+abbrev pub AllLed : List Forest → Type 0
+AllLed fs = (q : ℕ) → q < length fs → Led (getD fs q nobody)
+
+-- at the start they are
+pub alone-led : (n : ℕ) (alone : Forest) → alone ≡ apart → AllLed (replicate n alone)
+alone-led n alone e q h =
+    let known : q < n = omega (arith, length-replicate n alone) in
+    rw (getD-replicate n q alone nobody known, e) apart-led
+
 module _ (ends patterns : List ℕ) (fit : List Bool) where
   -- link e is kept: its pattern is fit for exceptions, and it joins two groups of that pattern
   abbrev pub joins : List Forest → ℕ → Bool
@@ -57,28 +68,40 @@ module _ (ends patterns : List ℕ) (fit : List Bool) where
       let rest = keptBy fs l in
       cond (joins fs e) (e ∷ more) rest
 
+  module _ (fs : List Forest) (e : ℕ) where
+    -- there are as many as before
+    after-length : length (after fs e) ≡ length fs
+    after-length = length-set fs (patternAt patterns e) (joined (getD fs (patternAt patterns e) nobody) (endsAt ends e .a) (endsAt ends e .b))
+
+    -- the groups of a pattern after a link of it, and of another pattern
+    own-after : (q : ℕ) → q < length fs → patternAt patterns e ≡ q
+        → getD (after fs e) q nobody ≡ joined (getD fs q nobody) (endsAt ends e .a) (endsAt ends e .b)
+    own-after q h w = rw w (getD-set-same fs q (joined (getD fs q nobody) (endsAt ends e .a) (endsAt ends e .b)) nobody h)
+
+    other-after : (q : ℕ) → (patternAt patterns e ≡ q → ⊥) → getD (after fs e) q nobody ≡ getD fs q nobody
+    other-after q w = getD-set-other fs (patternAt patterns e) q _ nobody (λ z. w (sym z))
+
+    -- a link between two stations leaves all of them led
+    pub after-led : EndsBelow stationsHeld (endsAt ends e) → AllLed fs → AllLed (after fs e)
+    after-led w led q h = go (ℕ-discrete (patternAt patterns e) q)
+      where
+        known : q < length fs
+        known = omega (arith, h, after-length)
+
+        go : Dec (patternAt patterns e ≡ q) → Led (getD (after fs e) q nobody)
+        go (yes p) = rw (own-after q known p) (joined-led (getD fs q nobody) (endsAt ends e .a) (endsAt ends e .b) (led q known) (w .0) (w .1))
+        go (no n) = rw (other-after q n) (led q known)
+
   -- ---- THE LAW: of one such pattern it keeps what Kruskal's method keeps of the links of that pattern alone
   module _ (q : ℕ) (fits : getD fit q false ≡ true) where
     -- a link of that pattern
     abbrev of : ℕ → Bool
     of e = eqb (patternAt patterns e) q
 
-    -- the groups of q after a link of q, and of another pattern
-    own-after : (fs : List Forest) (e : ℕ) → q < length fs → patternAt patterns e ≡ q
-        → getD (after fs e) q nobody ≡ joined (getD fs q nobody) (endsAt ends e .a) (endsAt ends e .b)
-    own-after fs e h w = rw w (getD-set-same fs q (joined (getD fs q nobody) (endsAt ends e .a) (endsAt ends e .b)) nobody h)
-
-    other-after : (fs : List Forest) (e : ℕ) → (patternAt patterns e ≡ q → ⊥) → getD (after fs e) q nobody ≡ getD fs q nobody
-    other-after fs e w = getD-set-other fs (patternAt patterns e) q _ nobody (λ z. w (sym z))
-
-    after-length : (fs : List Forest) (e : ℕ) → q < length fs → q < length (after fs e)
-    after-length fs e h =
-        omega (arith, length-set fs (patternAt patterns e) (joined (getD fs (patternAt patterns e) nobody) (endsAt ends e .a) (endsAt ends e .b)))
-
     kept-pattern : (fs : List Forest) → q < length fs → (l : List ℕ) → filter of (keptBy fs l) ≡ kept ends (getD fs q nobody) (filter of l)
     unfolding keptBy kept
     kept-pattern fs h [] = refl
-    kept-pattern fs h (e ∷ l) = go (decide (of e)) (decide (joins fs e)) (kept-pattern (after fs e) (after-length fs e h) l) (kept-pattern fs h l)
+    kept-pattern fs h (e ∷ l) = go (decide (of e)) (decide (joins fs e)) (kept-pattern (after fs e) (omega (arith, after-length fs e)) l) (kept-pattern fs h l)
       where
         go : Decided (of e) → Decided (joins fs e) → filter of (keptBy (after fs e) l) ≡ kept ends (getD (after fs e) q nobody) (filter of l)
             → filter of (keptBy fs l) ≡ kept ends (getD fs q nobody) (filter of l)
@@ -87,7 +110,7 @@ module _ (ends patterns : List ℕ) (fit : List Bool) where
             let w : patternAt patterns e ≡ q = eqb-true (patternAt patterns e) q s in
             let c : crosses (labelOf (getD fs q nobody .leader)) (endsAt ends e) ≡ true =
             right (getD fit q false) _ (subst (λ (x : ℕ). getD fit x false && crosses (labelOf (getD fs x nobody .leader)) (endsAt ends e) ≡ true) w j) in
-            rw (j, s, c) (ap (λ (r : List ℕ). e ∷ r) (more ∙ ap (λ (f : Forest). kept ends f (filter of l)) (own-after fs e h w)))
+            rw (j, s, c) (ap (λ (r : List ℕ). e ∷ r) (more ∙ ap (λ (f : Forest). kept ends f (filter of l)) (own-after fs e q h w)))
         go (inl s) (inr j) more rest =
             let w : patternAt patterns e ≡ q = eqb-true (patternAt patterns e) q s in
             let k : getD fit q false && crosses (labelOf (getD fs q nobody .leader)) (endsAt ends e) ≡ false =
@@ -95,7 +118,7 @@ module _ (ends patterns : List ℕ) (fit : List Bool) where
             let c : crosses (labelOf (getD fs q nobody .leader)) (endsAt ends e) ≡ false = rw fits at k in
             rw (j, s, c) rest
         go (inr s) (inl j) more rest =
-            rw (j, s) (more ∙ ap (λ (f : Forest). kept ends f (filter of l)) (other-after fs e (λ w. clash (eq-eqb (patternAt patterns e) q w) s)))
+            rw (j, s) (more ∙ ap (λ (f : Forest). kept ends f (filter of l)) (other-after fs e q (λ w. clash (eq-eqb (patternAt patterns e) q w) s)))
         go (inr s) (inr j) more rest = rw (j, s) rest
 
   -- from the start

@@ -38,7 +38,7 @@ pub fn put_exceptions(
             let new = groups.find(a);
             let old = groups.find(b);
             if new != old {
-                forests[pattern] = groups.led(old, new);
+                forests[pattern] = groups.join(new, old);
                 odd[n] = e;
                 n += 1;
             }

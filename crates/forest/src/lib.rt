@@ -5,7 +5,7 @@ ghost use mathlib.Core.Path.{_≡_};
 ghost use Prim.Native.Nat.{_<_};
 ghost use Rattle.network.specs.Capacities.{stationsHeld};
 ghost use Rattle.spanning.specs.LabelList.{labelOf, replaced};
-ghost use Rattle.forest.specs.Groups.{apart, ledBy};
+ghost use Rattle.forest.specs.Groups.{apart, joined};
 
 // A leader for each station: two stations with one leader are in one group.
 pub struct Forest {
@@ -73,12 +73,13 @@ impl Forest {
         self.leader[at]
     }
 
-    // The group that `old` leads, led by `new`.
-    pub fn led(self, old: u8, new: u8) -> Forest
-        ensures { λ r. ⌜ r ≡ ledBy self old new ⌝ }
+    // Joins the groups that two stations lead, and hands back the next value: the group of b goes over to a.
+    pub fn join(self, a: u8, b: u8) -> Forest
+        requires { ⌜ (labelOf (self .leader) a ≡ a) × (labelOf (self .leader) b ≡ b) ⌝ }
+        ensures { λ r. ⌜ r ≡ joined self a b ⌝ }
     {
         let leaders = self.leader;
-        let leader = relabel(leaders, old, new);
+        let leader = relabel(leaders, b, a);
         Forest { leader }
     }
 }

@@ -9,7 +9,7 @@ use native.Mathlib.Numerals.{add-one}
 use native.Mathlib.Omega.{arith}
 use lib.ListN.{length, length-append, length-map, length-set, getD, set, take, drop}
 use lib.Seq.{drop-at, drop-cons, length-take-le, take-add, take-all, take-append-le, take-suc-set}
-use Rattle.order.specs.Lists.{length-nil, map-mem, sublist-⊆}
+use Rattle.order.specs.Lists.{getD-mem, length-nil, map-mem, sublist-⊆}
 use Rattle.order.specs.Perm as perm
 use Rattle.spanning.specs.Labelling.{Edge, Labelling, crosses}
 use Rattle.spanning.specs.LabelList.{labelOf}
@@ -19,7 +19,7 @@ use Rattle.spanning.specs.Kruskal.{greedy-forest, kruskal, kruskal-greedy}
 use Rattle.network.specs.Capacities.{stationsHeld, sumHeld}
 use Rattle.network.specs.Yard.{endsAt, sumAt}
 use Rattle.buffers.specs.Overwrite.{length-overwrite, overwrite, take-overwrite, written}
-use Rattle.forest.specs.Groups.{apart, apart-labels, apart-led, joined}
+use Rattle.forest.specs.Groups.{Led, apart, apart-labels, apart-led, joined, joined-led}
 use Rattle.forest.specs.declared.Forest.{Forest}
 use Rattle.kruskal.specs.Tree.{Usable}
 use Rattle.kruskal.specs.Base.{Based, Joinable, Recorded, collect-end, collect-left, collect-start, collect-taken, collected}
@@ -100,6 +100,7 @@ module _ (ends sums links : List ℕ) where
   -- after `at` links: what was collected of them, and what will be of the others; its groups, sum and rows
   pub record Basing (f : Forest) (base history : List ℕ) (count sum at : ℕ) : Type 0 where
     pub whole : collected ends links f base count at ≡ kept ends apart links
+    pub led : Led f
     pub groups : f ≡ groupsAfter ends (take count base)
     pub total : sum ≡ perm.sum (sumAt sums) (take count base)
     pub light : sum ≤ count * sumHeld
@@ -112,6 +113,7 @@ module _ (ends sums links : List ℕ) where
   basing-start e room =
       record {
         whole = rw e (collect-start ends links apart _);
+        led = rw e apart-led;
         groups = e;
         total = refl;
         light = omega arith;
@@ -144,6 +146,7 @@ module _ (ends sums links : List ℕ) where
           → Basing f′ (set base count (getD links at 0)) history′ (count + 1) (sum + sumAt sums (getD links at 0)) (at + 1)
       basing-taken {f′} {history′} {leader} c e l size space w u =
           let x = getD links at 0 in
+          let near = joinable-near j x (getD-mem links at 0 h) in
           let fewer = b .fewer in
           let room = b .room in
           let light = b .light in
@@ -156,6 +159,7 @@ module _ (ends sums links : List ℕ) where
           let rows = recorded-more x (b .rows) size (omega arith) (l ∙ ap (λ (g : Forest). g .leader) joins) in
           record {
             whole = rw e (collect-taken ends links f base _ count at (b .whole) h (omega arith) c);
+            led = rw e (joined-led f (endsAt ends x .a) (endsAt ends x .b) (b .led) (near .0) (near .1));
             groups = rw more joins;
             total = rw more (let t = b .total in omega (arith, perm.sum-append (sumAt sums) (take count base) (x ∷ [])));
             light = omega arith;
@@ -169,6 +173,7 @@ module _ (ends sums links : List ℕ) where
           let fewer = b .fewer in
           record {
             whole = collect-left ends links f base _ count at (b .whole) h c;
+            led = b .led;
             groups = b .groups;
             total = b .total;
             light = b .light;

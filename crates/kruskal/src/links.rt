@@ -37,7 +37,7 @@ pub fn put_base(
         let new = forest.find(ends[2 * number]);
         let old = forest.find(ends[2 * number + 1]);
         if new != old {
-            forest = forest.led(old, new);
+            forest = forest.join(new, old);
             let leader = forest.leader;
             copy_in(history, count * STATIONS_HELD, &leader);
             base[count] = link;

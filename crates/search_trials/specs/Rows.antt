@@ -142,7 +142,7 @@ module _ (ends : List ℕ) where
         sym (getD-drop (k * stationsHeld) history v 0)
         ∙ sym (getD-take stationsHeld (drop (k * stationsHeld) history) v 0 s)
         ∙ ap (λ (r : List ℕ). getD r v 0) (rows .row k h)
-        ∙ getD-default (groupsAfter ends l .leader) v 0 v (omega (arith, led .size))
+        ∙ getD-default (groupsAfter ends l .leader) v 0 v (omega (arith, led .stations .size))
         ∙ ap (λ (L : Labelling). L v) (groups-labels l some-near)
 
     -- the place that joins the ends of e

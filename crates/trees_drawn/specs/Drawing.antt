@@ -5,7 +5,9 @@ use mathlib.Core.List.{List}
 use lib.Dec.{leb, ltb}
 use Rattle.spanning.specs.Labelling.{crosses}
 use Rattle.spanning.specs.LabelList.{labelOf}
-use Rattle.forest.specs.Groups.{joined}
+use Rattle.spanning.specs.Tree.{EndsBelow}
+use Rattle.forest.specs.Groups.{Led, joined, joined-led}
+use Rattle.network.specs.Capacities.{stationsHeld}
 use Rattle.network.specs.Yard.{endsAt, joinsWorking}
 use Rattle.trees_drawn.specs.declared.drawing.Drawn.{Drawn}
 
@@ -21,3 +23,9 @@ drawing rest ends m d c =
       low = c + 1;
       fine = d .fine && keeps rest ends m d c;
     }
+
+-- between two stations it leaves the groups led
+pub drawing-led : (rest : ℕ) (ends : List ℕ) (m : ℕ) (d : Drawn) (c : ℕ) → EndsBelow stationsHeld (endsAt ends c) → Led (d .groups)
+    → Led (drawing rest ends m d c .groups)
+unfolding drawing
+drawing-led rest ends m d c w led = joined-led (d .groups) (endsAt ends c .a) (endsAt ends c .b) led (w .0) (w .1)

@@ -20,14 +20,14 @@ use Rattle.spanning.specs.Count.{forest-spans}
 use Rattle.spanning.specs.Rising.{isRisingIn, isRisingIn-iff, rising-range}
 use Rattle.spanning.specs.Best.{edges-within}
 use Rattle.spanning.specs.Listing.{isListed}
-use Rattle.forest.specs.Groups.{Led, apart, apart-labels, apart-led, joined-labels, joined-led}
+use Rattle.forest.specs.Groups.{Led, apart, apart-labels, apart-led, joined-labels}
 use Rattle.network.specs.Capacities.{stationsHeld}
 use Rattle.network.specs.Resting.{joins-within, working-apart}
 use Rattle.network.specs.Shaped.{Plannable}
 use Rattle.network.specs.Yard.{endsAt, usableAt, working}
 use Rattle.network.specs.declared.Shape.{Shape}
 use Rattle.stations.specs.Stations.{Stations, plannable-stations}
-use Rattle.trees_drawn.specs.Drawing.{drawing}
+use Rattle.trees_drawn.specs.Drawing.{drawing, drawing-led}
 use Rattle.trees_drawn.specs.declared.drawing.Drawn.{Drawn}
 
 -- ---- definitions
@@ -78,7 +78,7 @@ module _ (rest : ℕ) (ends : List ℕ) (m : ℕ) where
         (λ used. by-test (crosses L (endsAt ends c))
         (λ cross.
         let w = within c in
-        draws-from (drawing rest ends m d c) ts (joined-led (d .groups) _ _ led (w .0) (w .1)) (rw (e, low, known, used, cross))
+        draws-from (drawing rest ends m d c) ts (drawing-led rest ends m d c w led) (rw (e, low, known, used, cross))
         ∙ rw (low, known, used, cross, add-one, joined-labels (d .groups) _ _ led (w .0) (w .1)))
         (λ cross. draws-fault (drawing rest ends m d c) ts (rw (e, low, known, used, cross)) ∙ rw (cross, and-false, and-false)))
         (λ used. draws-fault (drawing rest ends m d c) ts (rw (e, low, known, used)) ∙ rw (used, and-false)))

@@ -3,6 +3,7 @@ use forest::Forest;
 use stations::joins_working;
 use stations::station_at;
 ghost use mathlib.Core.Path.{_≡_};
+ghost use Rattle.forest.specs.Groups.{Led};
 ghost use Rattle.stations.specs.Stations.{Stations};
 ghost use Rattle.trees_drawn.specs.Drawing.{drawing};
 
@@ -15,7 +16,7 @@ pub struct Drawn {
 
 // One link more: it is to be above the one before, one of the m links, usable, and to join two groups.
 pub fn draw(drawn: Drawn, rest: u32, ends: &[u8], m: usize, link: u8) -> Drawn
-    requires { ⌜ Stations (now ends) ⌝ }
+    requires { ⌜ Stations (now ends) × Led (drawn .groups) ⌝ }
     ensures { λ r. ⌜ r ≡ drawing rest (now (ends .entry)) m drawn link ⌝ }
 {
     let number = link as usize;
@@ -28,7 +29,7 @@ pub fn draw(drawn: Drawn, rest: u32, ends: &[u8], m: usize, link: u8) -> Drawn
     let low = drawn.low;
     let keeps = (low <= number) & ((number < m) & (usable & (new != old)));
     Drawn {
-        groups: groups.led(old, new),
+        groups: groups.join(new, old),
         low: number + 1,
         fine: drawn.fine & keeps,
     }

@@ -10,9 +10,11 @@ use Rattle.order.specs.Lists.{getD-mem}
 use Rattle.spanning.specs.Tree.{EndsBelow}
 use Rattle.network.specs.Capacities.{patternsHeld, stationsHeld}
 use Rattle.network.specs.Yard.{endsAt}
-use Rattle.forest.specs.Groups.{leaders-differ, leaders-equal, leaders-joined}
+use Rattle.forest.specs.Groups.{Led, leaders-differ, leaders-equal, leaders-joined, leaders-lead}
+use Rattle.forest.specs.declared.Forest.{Forest}
 use Rattle.exceptions.specs.Patterns.{patternAt}
-use Rattle.exceptions.specs.Keep.{gather-end, gather-left, gather-start, gather-taken, gathered, kept-whole, keptBy, nobody, pattern-known}
+use Rattle.exceptions.specs.Keep.{AllLed, after-led, alone-led, gather-end, gather-left, gather-start, gather-taken, gathered, kept-whole, keptBy}
+use Rattle.exceptions.specs.Keep.{nobody, pattern-known}
 use Rattle.exceptions.specs.Select.{known-at}
 use Rattle.exceptions.proofs.keep.put_exceptions.Statement.{statement}
 use Rattle.exceptions.proofs.keep.put_exceptions.Tie as tie
@@ -22,6 +24,7 @@ Inv-loop ends order patterns ks odd₀ fit forests₀ n₀ k₀ k-end odd forest
     (k-end ≡ length order)
     × (length odd ≡ length odd₀)
     × (length forests ≡ patternsHeld)
+    × AllLed forests
     × (n ≤ k)
     × (k ≤ k-end)
     × (gathered ends patterns fit order forests odd n k ≡ keptBy ends patterns fit forests₀ order)
@@ -48,6 +51,17 @@ known c =
 within : (c : tie.In-loop Inv-loop μ-loop) → EndsBelow stationsHeld (endsAt (start c .args .ends .now) (link-at c))
 within c = start c .pre .1 (link-at c) (getD-mem (start c .args .order .now) (c .before .loop .k) 0 (c .loop-test .taken))
 
+-- the groups of its pattern
+abbrev groups-at : tie.In-loop Inv-loop μ-loop → Forest
+groups-at c = getD (c .before .loop .forests) (patternAt (start c .args .patterns .now) (link-at c)) nobody
+
+-- they are led
+led-at : (c : tie.In-loop Inv-loop μ-loop) → Led (groups-at c)
+led-at c =
+    let v = c .before .loop in
+    let below : patternAt (start c .args .patterns .now) (link-at c) < length (v .forests) = omega (arith, known c, v .inv .2) in
+    v .inv .3 _ below
+
 fit-patterns-requires : tie.Need-fit-patterns-requires Inv-loop μ-loop
 fit-patterns-requires c κs = search needs
 
@@ -55,7 +69,7 @@ new-requires : tie.Need-new-requires Inv-loop μ-loop
 new-requires c κs = search needs
 
 loop-holds : tie.Need-loop-holds Inv-loop μ-loop
-loop-holds c = (refl, refl, refl, omega arith, omega arith, gather-start _ _ _ _ _ _)
+loop-holds c = (refl, refl, refl, alone-led patternsHeld _ (c .new .ensures), omega arith, omega arith, gather-start _ _ _ _ _ _)
 
 shared-slice-read-e : tie.Need-shared-slice-read-e Inv-loop μ-loop
 shared-slice-read-e c = search needs
@@ -102,11 +116,13 @@ find-requires c κs = within (c .before .before .before .before .before .before)
 find-requires-2 : tie.Need-find-requires-2 Inv-loop μ-loop
 find-requires-2 c κs = within (c .before .before .before .before .before .before .before) .1
 
-led-requires : tie.Need-led-requires Inv-loop μ-loop
-led-requires c κs = search needs
+join-requires : tie.Need-join-requires Inv-loop μ-loop
+join-requires c κs =
+    let t = c .before .before .before .before .before .before .before .before .before in
+    leaders-lead (groups-at t) _ _ (c .before .before .find .ensures) (c .before .find2 .ensures) (led-at t)
 
 -- the turn that has joined the groups of its link
-abbrev turn : tie.After-led Inv-loop μ-loop → tie.In-loop Inv-loop μ-loop
+abbrev turn : tie.After-join Inv-loop μ-loop → tie.In-loop Inv-loop μ-loop
 turn c = c .before .before .before .before .before .before .before .before .before .before
 
 mul-forests : tie.Need-mul-forests Inv-loop μ-loop
@@ -135,16 +151,19 @@ loop-again c =
     let h : v .k < length (s .order .now) = omega arith in
     let m : v .n < length (v .odd) = omega (arith, start turn .pre .3 .room) in
     let e = endsAt (s .ends .now) (link-at turn) in
-    let f = getD (v .forests) (patternAt (s .patterns .now) (link-at turn)) nobody in
+    let f = groups-at turn in
+    let fit = turn .before .before .before .fit-patterns .result in
     ⊎-elim
-    (λ w. (
+    (λ w.
+    let joins = w .7 .ensures ∙ leaders-joined f (e .a) (e .b) (w .4 .ensures) (w .5 .ensures) (led-at turn) in (
       refl,
       rw (w .8) (simp length-set (v .inv .1)),
       rw (w .9) (simp length-set (v .inv .2)),
+      rw (w .9, joins) (after-led (s .ends .now) (s .patterns .now) fit (v .forests) (link-at turn) (within turn) (v .inv .3)),
       rw (w .10) (omega arith),
       omega arith,
-      rw (w .8, w .9, w .10, w .7 .ensures, leaders-joined f (e .a) (e .b) (w .4 .ensures) (w .5 .ensures))
-          (gather-taken _ _ _ _ _ _ _ _ _ (v .inv .5) h m
+      rw (w .8, w .9, w .10, joins)
+          (gather-taken _ _ _ _ _ _ _ _ _ (v .inv .6) h m
           (both (w .0 .taken) (leaders-differ f (e .a) (e .b) (w .4 .ensures) (w .5 .ensures) (w .6 .taken)))),
     ))
     (⊎-elim
@@ -152,18 +171,20 @@ loop-again c =
       refl,
       rw (w .7) (v .inv .1),
       rw (w .8) (v .inv .2),
+      rw (w .8) (v .inv .3),
       rw (w .9) (omega arith),
       omega arith,
-      rw (w .7, w .8, w .9) (gather-left _ _ _ _ _ _ _ _ _ (v .inv .5) h
+      rw (w .7, w .8, w .9) (gather-left _ _ _ _ _ _ _ _ _ (v .inv .6) h
           (rw (w .0 .taken) (leaders-equal f (e .a) (e .b) (w .4 .ensures) (w .5 .ensures) (w .6 .left)))),
     ))
     (λ w. (
       refl,
       rw (w .1) (v .inv .1),
       rw (w .2) (v .inv .2),
+      rw (w .2) (v .inv .3),
       rw (w .3) (omega arith),
       omega arith,
-      rw (w .1, w .2, w .3) (gather-left _ _ _ _ _ _ _ _ _ (v .inv .5) h (rw (w .0 .left))),
+      rw (w .1, w .2, w .3) (gather-left _ _ _ _ _ _ _ _ _ (v .inv .6) h (rw (w .0 .left))),
     )))
     (c .if1 .came)
 
@@ -176,7 +197,7 @@ returns c =
     let called = c .before .before .before .before .before .before .before .before .before in
     let h : length (called .args .order .now) ≤ v .k = omega arith in
     record {
-      links = gather-end _ _ _ _ _ _ _ _ _ (v .inv .5) h
+      links = gather-end _ _ _ _ _ _ _ _ _ (v .inv .6) h
           ∙ kept-whole _ _ _ _ _ _ (c .before .before .before .fit-patterns .ensures) (c .before .before .new .ensures);
       few = omega (arith, called .pre .3 .room);
     }
@@ -204,7 +225,7 @@ put-exceptions-spec =
     array-copy-out-groups
     find-requires
     find-requires-2
-    led-requires
+    join-requires
     mul-forests
     array-set-from-forests
     slice-write-odd

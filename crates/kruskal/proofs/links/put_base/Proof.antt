@@ -13,7 +13,7 @@ use Rattle.spanning.specs.Tree.{EndsBelow}
 use Rattle.network.specs.Capacities.{stationsHeld}
 use Rattle.network.specs.Yard.{endsAt, sumAt}
 use Rattle.buffers.specs.Overwrite.{length-overwrite}
-use Rattle.forest.specs.Groups.{leaders-differ, leaders-equal, leaders-joined}
+use Rattle.forest.specs.Groups.{leaders-differ, leaders-equal, leaders-joined, leaders-lead}
 use Rattle.kruskal.specs.Tree.{Usable, walk-usable}
 use Rattle.kruskal.specs.Basing.{Basing, basing-end, basing-full, basing-left, basing-start, basing-taken, joinable-near, taken-few}
 use Rattle.kruskal.proofs.links.put_base.Statement.{statement}
@@ -78,12 +78,15 @@ shared-slice-read-find-2 c = let u = usable (c .before .before .before .before) 
 find-requires-2 : tie.Need-find-requires-2 Inv-loop μ-loop
 find-requires-2 c κs = within (c .before .before .before .before) .1
 
-led-requires : tie.Need-led-requires Inv-loop μ-loop
-led-requires c κs = search needs
-
 -- the turn that has found the leaders of its link
 abbrev turn : tie.After-find2 Inv-loop μ-loop → tie.In-loop Inv-loop μ-loop
 turn c = c .before .before .before .before .before
+
+join-requires : tie.Need-join-requires Inv-loop μ-loop
+join-requires c κs =
+    let found = c .before in
+    let v = turn found .before .loop in
+    leaders-lead (v .forest) _ _ (found .before .before .find .ensures) (found .find2 .ensures) (v .inv .4 .led)
 
 -- the link joins two groups, and so there is room for it
 crossing : (c : tie.Then1 Inv-loop μ-loop) → crosses (labelOf (turn (c .before) .before .loop .forest .leader)) (ends-at (turn (c .before))) ≡ true
@@ -105,7 +108,7 @@ turn-of c = turn (joining c .before)
 -- the arrays with the link and its row
 more : (c : tie.After-shared-slice-known7 Inv-loop μ-loop) → Basing
     (start (turn-of c) .args .ends .now) (start (turn-of c) .args .sums .now) (start (turn-of c) .args .links .now)
-    (c .before .before .before .before .before .before .before .led .result)
+    (c .before .before .before .before .before .before .before .join .result)
     (set (turn-of c .before .loop .base) (turn-of c .before .loop .count) (link-at (turn-of c)))
     (c .before .before .before .copy-in .last .0)
     (turn-of c .before .loop .count + 1)
@@ -115,11 +118,11 @@ more c =
     let j = joining c in
     let t = turn-of c in
     let v = t .before .loop in
-    let led = c .before .before .before .before .before .before .before .led in
-    let size : length (led .result .leader) ≡ stationsHeld = search needs in
+    let join = c .before .before .before .before .before .before .before .join in
+    let size : length (join .result .leader) ≡ stationsHeld = search needs in
     let space : start t .args .goal * stationsHeld ≤ length (v .history) = omega arith in
     basing-taken _ _ _ (start t .pre .2) (v .inv .4) (t .loop-test .taken) (crossing j)
-    (led .ensures ∙ leaders-joined _ _ _ (j .before .before .before .find .ensures) (j .before .find2 .ensures)) refl size space
+    (join .ensures ∙ leaders-joined _ _ _ (j .before .before .before .find .ensures) (j .before .find2 .ensures) (v .inv .4 .led)) refl size space
     (c .before .before .before .copy-in .ensures) (usable t)
 
 -- the rows stay where they are
@@ -128,7 +131,7 @@ history-size : (c : tie.After-shared-slice-known7 Inv-loop μ-loop)
 history-size c =
     let j = joining c in
     let v = turn-of c .before .loop in
-    let leader = c .before .before .before .before .before .before .before .led .result .leader in
+    let leader = c .before .before .before .before .before .before .before .join .result .leader in
     let size : length leader ≡ stationsHeld = search needs in
     let fits : v .count * stationsHeld + length leader ≤ length (v .history) = omega (arith, roomy j) in
     ap length (c .before .before .before .copy-in .ensures) ∙ length-overwrite (v .history) (v .count * stationsHeld) leader fits ∙ v .inv .3
@@ -144,7 +147,7 @@ slice-aggregate-copy-in c = search needs
 copy-in-requires : tie.Need-copy-in-requires Inv-loop μ-loop
 copy-in-requires c κs =
     let j = c .before .before .before .before in
-    let size : length (c .before .before .before .led .result .leader) ≡ stationsHeld = search needs in
+    let size : length (c .before .before .before .join .result .leader) ≡ stationsHeld = search needs in
     omega (arith, roomy j)
 
 slice-write-base : tie.Need-slice-write-base Inv-loop μ-loop
@@ -194,7 +197,7 @@ loop-again c =
           before = record {
             before = record {
               before = record {
-                before = record { before = record { before = record { before = c .before; if1 = w .0 }; led = w .1 }; leader = w .2 };
+                before = record { before = record { before = record { before = c .before; if1 = w .0 }; join = w .1 }; leader = w .2 };
                 copy-in-arg = w .3;
               };
               leader2 = w .4;
@@ -248,7 +251,7 @@ put-base-spec =
     add-find
     shared-slice-read-find-2
     find-requires-2
-    led-requires
+    join-requires
     mul-copy-in
     slice-aggregate-copy-in
     copy-in-requires

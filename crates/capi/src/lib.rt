@@ -10,6 +10,7 @@ use network::YardFigures;
 ghost use mathlib.Core.List.{[], _∷_};
 ghost use mathlib.Core.Path.{_≡_};
 ghost use lib.ListN.{length};
+ghost use Rattle.network.specs.AnswerPromise.{BestPromised, JudgePromised};
 ghost use Rattle.network.specs.Calls.{asked, judged, listAfter, listStatus, treeAfter};
 ghost use Rattle.network.specs.Cut.{CutNoticed};
 ghost use Rattle.network.specs.Indexing.{indexAfter, indexStatus, lookupReply};
@@ -19,7 +20,7 @@ ghost use Rattle.network.specs.Writing.{figuresFrom, writeAfter, writeStatus};
 ghost use Rattle.network.specs.WritingPromise.{WritePromised};
 ghost use Rattle.capi_replies.specs.Flat.{FoundPromised, flatFound};
 ghost use Rattle.capi_replies.specs.Parts.{PartOf, partOf};
-ghost use Rattle.capi_replies.specs.Replies.{flatReply};
+ghost use Rattle.capi_replies.specs.Replies.{flatReply, flatValues};
 ghost use Rattle.capi.specs.Version.{version};
 
 // The version of these calls: it changes whenever a struct, a call or the meaning of a reply does.
@@ -37,6 +38,7 @@ pub extern "C" fn ranqustei_version() -> u32
 #[no_mangle]
 pub extern "C" fn ranqustei_judge(survey: &[u8], drawn: &[u8]) -> Reply
     ensures reply { λ r. ⌜ r ≡ flatReply (judged (now (survey .entry)) (now (drawn .entry))) ⌝ }
+    ensures promised { λ r. ⌜ JudgePromised (now (survey .entry)) (now (drawn .entry)) (r .number) (flatValues r) ⌝ }
     ensures noticed { λ r. ⌜ CutNoticed (now (survey .entry)) (r .number) (r .place) ⌝ }
 {
     flat(planner::judge(survey, drawn))
@@ -47,6 +49,7 @@ pub extern "C" fn ranqustei_judge(survey: &[u8], drawn: &[u8]) -> Reply
 pub extern "C" fn ranqustei_best(survey: &[u8], b1: i16, b2: i16, b3: i16, tree: &mut [u8]) -> Reply
     ensures reply { λ r. ⌜ r ≡ flatReply (asked (now (survey .entry)) (b1 ∷ b2 ∷ b3 ∷ []) (length (now (tree .entry)))) ⌝ }
     ensures leaves { λ _. ⌜ now (tree .exit) ≡ treeAfter (now (survey .entry)) (b1 ∷ b2 ∷ b3 ∷ []) (now (tree .entry)) ⌝ }
+    ensures promised { λ r. ⌜ BestPromised (now (survey .entry)) (b1 ∷ b2 ∷ b3 ∷ []) (now (tree .entry)) (r .number) (flatValues r) (now (tree .exit)) ⌝ }
     ensures noticed { λ r. ⌜ CutNoticed (now (survey .entry)) (r .number) (r .place) ⌝ }
 {
     flat(planner::best(survey, [b1, b2, b3], tree))

@@ -46,7 +46,8 @@ pub mod Alike
 pub mod SameYard
 pub mod Count
 pub mod Cut
--- demand 3, and what callers rely on in an index and in a survey that is written
+-- demands 2 and 3, and what callers rely on in an index and in a survey that is written
+pub mod AnswerPromise
 pub mod Promise
 pub mod IndexPromise
 pub mod WritingPromise

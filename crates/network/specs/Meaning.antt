@@ -41,6 +41,13 @@ dominates-iff v w = (
   λ h. both (h .0) (rw (fails (same orderℤ v w) (λ e. h .1 (equal→≡ (dictionary orderℤ) v w e)))),
 )
 
+-- the best tree under ceilings: a tree that fits, of the least sum among those that fit, and of these the first
+pub record Best (net : Network) (bs : List ℤ) (ts : List ℕ) : Type 0 where
+  pub tree : Tree net ts
+  pub fitting : fits net bs ts ≡ true
+  pub least : (us : List ℕ) → Tree net us → fits net bs us ≡ true → leZ (treeSum net ts) (treeSum net us) ≡ true
+  pub foremost : (us : List ℕ) → Tree net us → fits net bs us ≡ true → leZ (treeSum net us) (treeSum net ts) ≡ true → dictionaryLe orderℕ ts us ≡ true
+
 module _ (net : Network) (sound : Sound (graph net)) where
   -- `trees` has the trees, all of them,
   pub trees-iff : (ts : List ℕ) → (ts ∈ trees net) ↔ Tree net ts
@@ -83,14 +90,8 @@ module _ (net : Network) (sound : Sound (graph net)) where
     λ t. isListed-iff (ends net) (stations net) (net .m) (usable net) ts .1 (trees-iff ts .1 t),
   )
 
-  -- the best tree under ceilings: a tree that fits, of the least sum among those that fit, and of these the first
-  pub record Best (bs : List ℤ) (ts : List ℕ) : Type 0 where
-    pub tree : Tree net ts
-    pub fitting : fits net bs ts ≡ true
-    pub least : (us : List ℕ) → Tree net us → fits net bs us ≡ true → leZ (treeSum net ts) (treeSum net us) ≡ true
-    pub foremost : (us : List ℕ) → Tree net us → fits net bs us ≡ true → leZ (treeSum net us) (treeSum net ts) ≡ true → dictionaryLe orderℕ ts us ≡ true
-
-  pub best-found : (bs : List ℤ) (ts : List ℕ) → best net bs ≡ some ts → Best bs ts
+  -- the definition finds it,
+  pub best-found : (bs : List ℤ) (ts : List ℕ) → best net bs ≡ some ts → Best net bs ts
   best-found bs ts e =
       let b = best-some (yard net) bs ts e in
       record {
@@ -111,7 +112,7 @@ module _ (net : Network) (sound : Sound (graph net)) where
           (both (best-some (yard net) bs ts e .passes) (le-refl orderℤ (treeSum net ts)))
           (λ us k. (left (fits net bs us) (leZ (treeSum net us) (treeSum net ts)) k, right (fits net bs us) (leZ (treeSum net us) (treeSum net ts)) k))
 
-  -- none is reported only if no tree fits
+  -- and finds none only if no tree fits
   pub best-missing : (bs : List ℤ) → best net bs ≡ none → (ts : List ℕ) → Tree net ts → fits net bs ts ≡ false
   best-missing bs e ts t = best-none (yard net) bs e (trees-iff ts .1 t)
 

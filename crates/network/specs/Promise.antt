@@ -4,7 +4,7 @@ use mathlib.Core.Bool.{cond, true, false}
 use mathlib.Core.List.{List, [], _∷_, _++_, List·Memᴰ·head as here, List·Memᴰ·not-nil}
 use mathlib.Core.Logic.{_↔_}
 use mathlib.Core.Path.{_≡_, refl, _∙_}
-use Prim.Native.Nat.{ℕ, _≤_}
+use Prim.Native.Nat.{ℕ, _≤_, _<_}
 use native.Mathlib.Omega.{arith}
 use lib.Dec.{ltb}
 use lib.IntN.{ℤ}
@@ -22,7 +22,8 @@ use Rattle.network.specs.Limits.{maxPlans}
 use Rattle.network.specs.Yard.{Tree, dominates, graph, trees, vector, yard}
 use Rattle.network.specs.Walk.{plans, positionCount, solvedCount, values, walked}
 use Rattle.network.specs.Survey.{networkOf}
-use Rattle.network.specs.PlanList.{bufferNeed, filled, listBytes, maxNeed}
+use Rattle.network.specs.PlanList.{bufferNeed, costsAt, costsOf, filled, listBytes, maxNeed}
+use Rattle.network.specs.Fetching.{fetchLinks, headCount, headSlots, planStart}
 use Rattle.network.specs.Checked.{refuseIf, _orElse_}
 use Rattle.network.specs.Refusals.{checkedOf}
 use Rattle.network.specs.Calls.{ifFine, listAfter, listChecked, listStatus, plansAfter, plansChecked, roomChecked, status}
@@ -102,6 +103,11 @@ module _ (net : Network) (sound : Sound (graph net)) where
         count = omega (arith, solved-length (yard net), positions-length (values net));
       }
 
+-- Record r of a list has the costs of a tree, as `costsAt` reads them, and its links, as fetching hands them out.
+pub record Reads (list : List ℕ) (r : ℕ) (net : Network) (ts : List ℕ) : Type 0 where
+  pub costs : costsAt (headSlots list) list (planStart list r) ≡ costsOf net ts
+  pub links : fetchLinks list r ≡ ts
+
 -- What a list call on survey s that replied r and left these bytes in a buffer of `size` bytes has delivered.
 pub record Delivered (s : List ℕ) (size : ℕ) (r : Status) (left : List ℕ) : Type 0 where
   -- it succeeds
@@ -110,25 +116,14 @@ pub record Delivered (s : List ℕ) (size : ℕ) (r : Status) (left : List ℕ) 
   pub bytes : left ≡ filled (networkOf s) size
   -- the list is what the user relies on
   pub list : Complete (networkOf s)
+  -- and the bytes say it: the head counts the plans, and record r is that of plan r
+  pub counted : headCount left ≡ length (plans (networkOf s))
+  pub records : (r : ℕ) → r < length (plans (networkOf s)) → Reads left r (networkOf s) (getD (plans (networkOf s)) r [])
 
 -- DEMAND 3: for every accepted survey, every buffer long enough, whatever it held before, and every allowance that is at least M.
 pub record Promised (s : List ℕ) (allowance : ℕ) (buffer : List ℕ) (r : Status) (left : List ℕ) : Type 0 where
   pub delivers : checkedOf s ≡ Fine → bufferNeed (networkOf s) ≤ length buffer → positionCount (networkOf s) ≤ allowance
       → Delivered s (length buffer) r left
-
--- a reply and bytes that are those of the list call's definitions keep the promise
-pub promised : (s : List ℕ) (allowance : ℕ) (buffer : List ℕ) {r : Status} {left : List ℕ} → r ≡ listStatus s allowance (length buffer)
-    → left ≡ listAfter s allowance buffer → Promised s allowance buffer r left
-unfolding listStatus listChecked roomChecked plansChecked plansAfter listAfter ifFine status refuseIf _orElse_
-promised s allowance buffer e f =
-    record {
-      delivers = λ fine room enough.
-          let list = complete (networkOf s) (survey-sound s fine) in
-          let few : solvedCount (networkOf s) ≤ allowance = omega (arith, list .count) in
-          let short = le-ltb (length buffer) (bufferNeed (networkOf s)) room in
-          let within = le-ltb allowance (solvedCount (networkOf s)) few in
-          record { succeeds = e ∙ rw (fine, short, within); bytes = f ∙ rw (fine, short, within); list = list };
-    }
 
 -- ---- the archive
 

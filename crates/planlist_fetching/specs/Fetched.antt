@@ -18,15 +18,16 @@ use Rattle.network.specs.Capacities.{ceilingsHeld}
 use Rattle.network.specs.Limits.{maxCeilings, maxPlans, maxTree}
 use Rattle.network.specs.Bytes.{bitsOf, byteAt, littleEndian, markAt}
 use Rattle.network.specs.Tabulate.{tabulate-length}
-use Rattle.network.specs.PlanList.{ceilingBytes, costsOf, headBytes, headMark, headSize, join, listBytes, planBytes, planMark, planSize, planSlots, recordOf}
+use Rattle.network.specs.PlanList.{ceilingBytes, costsAt, costsOf, headBytes, headMark, headSize, join, listBytes, planBytes, planMark, planSize, planSlots, recordOf}
 use Rattle.network.specs.Yard.{ceilingCosts, treeSize}
 use Rattle.network.specs.Walk.{plans, solvedCount}
 use Rattle.network.specs.NetworkFine.{slots-few}
-use Rattle.network.specs.Fetching.{headCount, damaged, fetchLinks, fetchNumber, fetchStart, linksStart, planStart, headTreeSize}
+use Rattle.network.specs.Fetching.{headCount, damaged, fetchLinks, fetchNumber, fetchStart, headSlots, linksStart, planStart, headTreeSize}
 use Rattle.network.specs.declared.Costs.{Costs}
 use Rattle.network.specs.Network.{Network}
 use Rattle.encoding.specs.RoundTrip.{u16-bytes}
 use Rattle.encoding.specs.Blocks.{Sized, join-at, length-join}
+use Rattle.planlist_records.specs.Held.{Writable, costs-block, costs-encoded}
 use Rattle.planlist_records.specs.Records.{encode, length-mark, length-plan}
 use Rattle.planlist_fetching.specs.Found.{number-marked, number-none}
 
@@ -151,6 +152,17 @@ module _ {S : Type 0} (costs : S → Costs) (links : S → List ℕ) (solved t p
         ∙ links-behind (planSlots p) (costs s) (links s) later (enough s))
         ∙ take-at (links s) later t (full s (getD-mem plans r d below))
 
+    -- and its own costs
+    fetched-costs : Writable (planSlots p) (costs (getD plans r d))
+        → costsAt (planSlots p) (listed costs links solved t p plans rest) (headSize + r * size) ≡ costs (getD plans r d)
+    unfolding bytes
+    fetched-costs w =
+        let s = getD plans r d in
+        let own = length-plan (planSlots p) (costs s) (links s) (enough s) ∙ ap (planSize (planSlots p)) (full s (getD-mem plans r d below)) in
+        sym (costs-block bytes (headSize + r * size) size (planSlots p) (omega arith))
+        ∙ ap (λ (b : List ℕ). costsAt (planSlots p) b 0) (ap (take size) record-at ∙ take-at (plan s) later size own)
+        ∙ costs-encoded (planSlots p) (costs s) (links s) w
+
   -- past the last plan
   past : (r : ℕ) → length plans ≤ r → fetchNumber (listed costs links solved t p plans rest) r ≡ 13
   unfolding bytes
@@ -176,8 +188,21 @@ module _ (net : Network) (rest : List ℕ) (full : (ts : List ℕ) → ts ∈ pl
     fetched-links (costsOf net) (λ ts. ts) (solvedCount net) (treeSize net) (net .p) (plans net) rest full enough few short flat r h [],
   )
 
+  -- its costs are read back where its record can hold them
+  pub listed-costs : r < length (plans net) → Writable (planSlots (net .p)) (costsOf net (getD (plans net) r []))
+      → costsAt (headSlots (listBytes net ++ rest)) (listBytes net ++ rest) (planStart (listBytes net ++ rest) r) ≡ costsOf net (getD (plans net) r [])
+  listed-costs h w =
+      ap (λ (l : List ℕ). costsAt (headSlots l) l (planStart l r)) in-parts
+      ∙ fetched-costs (costsOf net) (λ ts. ts) (solvedCount net) (treeSize net) (net .p) (plans net) rest full enough few short flat r h [] w
+
   beyond : length (plans net) ≤ r → fetchNumber parts r ≡ 13
   beyond h = past (costsOf net) (λ ts. ts) (solvedCount net) (treeSize net) (net .p) (plans net) rest full enough few short flat r h
+
+  -- its head counts the plans
+  pub listed-count : headCount (listBytes net ++ rest) ≡ length (plans net)
+  unfolding bytes
+  listed-count =
+      ap headCount in-parts ∙ count (costsOf net) (λ ts. ts) (solvedCount net) (treeSize net) (net .p) (plans net) rest full enough few short flat
 
   -- every plan of it is found, and none past the last
   pub listed-number : fetchNumber (listBytes net ++ rest) r ≡ cond (ltb r (length (plans net))) 0 13

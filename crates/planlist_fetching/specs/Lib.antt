@@ -2,3 +2,5 @@
 pub mod Found
 -- the tests of fetching, and fetching from a written list
 pub mod Fetched
+-- the list of an accepted survey: its plans are found, and its records read
+pub mod Listable

@@ -9,6 +9,7 @@ use solver::question::solve;
 use survey_reading::reader::read_survey;
 ghost use mathlib.Core.Path.{_≡_};
 ghost use lib.ListN.{length};
+ghost use Rattle.network.specs.AnswerPromise.{BestPromised};
 ghost use Rattle.network.specs.Calls.{asked, says, treeAfter};
 ghost use Rattle.network.specs.Cut.{CutNoticed};
 
@@ -17,6 +18,7 @@ ghost use Rattle.network.specs.Cut.{CutNoticed};
 pub fn best(survey: &[u8], given: [i16; CEILINGS_HELD], tree: &mut [u8]) -> Answer
     ensures reply { λ r. ⌜ says r ≡ asked (now (survey .entry)) given (length (now (tree .entry))) ⌝ }
     ensures leaves { λ _. ⌜ now (tree .exit) ≡ treeAfter (now (survey .entry)) given (now (tree .entry)) ⌝ }
+    ensures promised { λ r. ⌜ BestPromised (now (survey .entry)) given (now (tree .entry)) (says r .number) (says r .values) (now (tree .exit)) ⌝ }
     ensures noticed { λ r. ⌜ CutNoticed (now (survey .entry)) (says r .number) (says r .place) ⌝ }
 {
     let mut ends = [0u8; 2 * LINKS_HELD];

@@ -8,12 +8,14 @@ use survey_reading::reader::read_survey;
 use trees_costs::costs::tree_costs;
 use trees_drawn::drawn::is_tree;
 ghost use mathlib.Core.Path.{_≡_};
+ghost use Rattle.network.specs.AnswerPromise.{JudgePromised};
 ghost use Rattle.network.specs.Calls.{judged, says};
 ghost use Rattle.network.specs.Cut.{CutNoticed};
 
 // The judge of a drawn tree: its costs, or the refusal. `drawn` holds its link numbers, one byte each.
 pub fn judge(survey: &[u8], drawn: &[u8]) -> Answer
     ensures reply { λ r. ⌜ says r ≡ judged (now (survey .entry)) (now (drawn .entry)) ⌝ }
+    ensures promised { λ r. ⌜ JudgePromised (now (survey .entry)) (now (drawn .entry)) (says r .number) (says r .values) ⌝ }
     ensures noticed { λ r. ⌜ CutNoticed (now (survey .entry)) (says r .number) (says r .place) ⌝ }
 {
     let mut ends = [0u8; 2 * LINKS_HELD];

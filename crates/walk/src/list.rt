@@ -19,6 +19,7 @@ ghost use Rattle.network.specs.Capacities.{plansHeld};
 ghost use Rattle.network.specs.Checked.{refuseIf};
 ghost use Rattle.network.specs.PlanList.{headSize, planSize, planSlots};
 ghost use Rattle.network.specs.Shaped.{Plannable, netOf};
+ghost use Rattle.walk.specs.Call.{CostsHeld};
 ghost use Rattle.walk.specs.Concluded.{concluded};
 
 // What a list buffer needs, by the numbers of positions, of links of a tree and of ceilings.
@@ -59,10 +60,11 @@ pub fn list_plans(
     out: &mut [u8],
 ) -> Status
     requires { ⌜ Plannable shape (now ends) (now sums) (now costs) ⌝ }
-    ensures { λ r. ⌜
-        (r ≡ status (plansChecked (netOf shape (now (ends .entry)) (now (sums .entry)) (now (costs .entry))) allowance (length (now (out .entry)))))
-        × (now (out .exit)
-        ≡ plansAfter (netOf shape (now (ends .entry)) (now (sums .entry)) (now (costs .entry))) allowance (now (out .entry))) ⌝ }
+    ensures reply { λ r. ⌜
+        r ≡ status (plansChecked (netOf shape (now (ends .entry)) (now (sums .entry)) (now (costs .entry))) allowance (length (now (out .entry)))) ⌝ }
+    ensures leaves { λ _. ⌜ now (out .exit)
+        ≡ plansAfter (netOf shape (now (ends .entry)) (now (sums .entry)) (now (costs .entry))) allowance (now (out .entry)) ⌝ }
+    ensures held { λ r. ⌜ CostsHeld (netOf shape (now (ends .entry)) (now (sums .entry)) (now (costs .entry))) r ⌝ }
 {
     let size = costs.len();
     let mut values = [0i16; CEILINGS_HELD * LINKS_HELD];

@@ -7,6 +7,7 @@ use denote.Ref.{now}
 use lib.ListN.{length}
 use lib.Seq.{length-take-le}
 use Rattle.network.specs.Capacities.{ceilingsHeld}
+use Rattle.network.specs.AnswerPromise.{best-promised}
 use Rattle.network.specs.Cut.{cut-asked}
 use Rattle.network.specs.Refusals.{checkedOf}
 use Rattle.network.specs.Survey.{networkOf}
@@ -73,7 +74,8 @@ returns c =
     let read = network told in
     let t = read .plannable .tree in
     let e = asked-short _ _ tree (accepted told) _ (read .network) (omega arith) in
-    (e, (short-after _ _ tree (accepted told) _ (read .network) (omega arith), cut-asked _ _ _ e))
+    let f = short-after _ _ tree (accepted told) _ (read .network) (omega arith) in
+    (e, (f, (best-promised _ _ tree e f, cut-asked _ _ _ e)))
 
 cast-p : tie.Need-cast-p
 cast-p c = search needs
@@ -147,7 +149,8 @@ returns-2 c =
     let refused = sym (c .before .before .before .before .before .before .before .read-survey .ensures .checked) ∙ c .before .checked .given .1 in
     let tree = now (c .before .before .before .before .before .before .before .before .before .before .before .before .before .args .tree) in
     let e = asked-refused _ _ tree _ refused in
-    (e, (refused-after _ _ tree _ refused, cut-asked _ _ _ e))
+    let f = refused-after _ _ tree _ refused in
+    (e, (f, (best-promised _ _ tree e f, cut-asked _ _ _ e)))
 
 same-length : tie.Need-same-length
 same-length c = search needs
@@ -162,7 +165,8 @@ returns-3 c =
     let room = ordered .before .before .before .before .if1 .left in
     let solved = c .before .before .solve .ensures in
     let e = asked-answer _ _ tree (accepted (told ordered)) _ (read .network) _ (omega arith) (solved .0) in
-    (e, (answer-after _ _ tree (accepted (told ordered)) _ (read .network) _ (omega arith) (solved .1), cut-asked _ _ _ e))
+    let f = answer-after _ _ tree (accepted (told ordered)) _ (read .network) _ (omega arith) (solved .1) in
+    (e, (f, (best-promised _ _ tree e f, cut-asked _ _ _ e)))
 
 pub best-spec : {M : Type 1} → statement M
 best-spec =

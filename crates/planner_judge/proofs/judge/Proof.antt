@@ -6,6 +6,7 @@ use Prim.Native.Nat.{ℕ}
 use denote.Ref.{now}
 use native.Mathlib.Omega.{arith}
 use Rattle.network.specs.Calls.{apart}
+use Rattle.network.specs.AnswerPromise.{judge-promised}
 use Rattle.network.specs.Cut.{cut-judged}
 use Rattle.network.specs.Refusals.{checkedOf}
 use Rattle.network.specs.Survey.{networkOf}
@@ -91,7 +92,7 @@ returns : tie.Need-returns
 returns c =
     let read = c .before .before .before .before .before .before .before in
     let e = judged-refused _ _ _ (sym (read .read-survey .ensures .checked) ∙ c .before .checked .given .1) in
-    (e, cut-judged _ _ e)
+    (e, (judge-promised _ _ e, cut-judged _ _ e))
 
 returns-2 : tie.Need-returns-2
 returns-2 c =
@@ -101,13 +102,13 @@ returns-2 c =
     let tree = sym (tested .before .is-tree .ensures) ∙ tested .if1 .taken in
     let costs = c .tree-costs .ensures ∙ ap apart (costs-net _ _ _ _ (read .plannable) _) in
     let e = judged-tree _ _ (accepted told) _ (read .network) _ tree costs in
-    (e, cut-judged _ _ e)
+    (e, (judge-promised _ _ e, cut-judged _ _ e))
 
 returns-3 : tie.Need-returns-3
 returns-3 c =
     let told = c .before .before .before .before in
     let e = judged-no-tree _ _ (accepted told) _ (network told .network) (sym (c .before .is-tree .ensures) ∙ c .if1 .left) in
-    (e, cut-judged _ _ e)
+    (e, (judge-promised _ _ e, cut-judged _ _ e))
 
 pub judge-spec : {M : Type 1} → statement M
 judge-spec =

@@ -1,14 +1,16 @@
 -- The survey's check, then the walk on its network.
-use mathlib.Core.Path.{_≡_, sym, _∙_}
+use mathlib.Core.Path.{_≡_, subst, sym, _∙_}
 use native.Mathlib.Omega.{arith}
 use borrow.Author.Needs.{needs}
 use denote.Ref.{now}
 use Rattle.network.specs.Cut.{cut-listed}
-use Rattle.network.specs.Promise.{promised}
+use Rattle.network.specs.Network.{Network}
 use Rattle.network.specs.Refusals.{checkedOf}
 use Rattle.network.specs.Survey.{networkOf}
 use Rattle.network.specs.declared.Checked.the-variants.{Fine}
 use Rattle.survey_reading.specs.Survey.{Read}
+use Rattle.walk.specs.Call.{CostsHeld}
+use Rattle.planner_list.specs.Delivery.{promised, refused-held}
 use Rattle.planner_list.specs.Listing.{list-accepted, list-refused}
 use Rattle.planner_list.proofs.list.Statement.{statement}
 use Rattle.planner_list.proofs.list.Tie as tie
@@ -82,7 +84,7 @@ returns : tie.Need-returns
 returns c =
     let refused = sym (c .before .before .before .before .before .before .before .read-survey .ensures .checked) ∙ c .before .checked .given .1 in
     let e = list-refused _ _ _ _ refused in
-    (e .0, (e .1, (promised _ _ _ (e .0) (e .1), cut-listed _ _ _ (e .0))))
+    (e .0, (e .1, (promised _ _ _ (e .0) (e .1) (refused-held _ refused), cut-listed _ _ _ (e .0))))
 
 same-length : tie.Need-same-length
 same-length c = search needs
@@ -91,8 +93,9 @@ returns-2 : tie.Need-returns-2
 returns-2 c =
     let told = c .before .before .before .before .before .before .before .before in
     let left = c .before .before .list-plans .ensures in
-    let e = list-accepted _ _ _ (accepted told) _ (network told .network) _ _ (left .0) (left .1) in
-    (e .0, (e .1, (promised _ _ _ (e .0) (e .1), cut-listed _ _ _ (e .0))))
+    let e = list-accepted _ _ _ (accepted told) _ (network told .network) _ _ (left .0) (left .1 .0) in
+    let held = subst (λ (w : Network). CostsHeld w (c .before .before .list-plans .result)) (network told .network) (left .1 .1) in
+    (e .0, (e .1, (promised _ _ _ (e .0) (e .1) (λ fine. held), cut-listed _ _ _ (e .0))))
 
 pub list-spec : {M : Type 1} → statement M
 list-spec =

@@ -16,7 +16,7 @@ use Rattle.network.specs.Walk.{positionCount}
 use Rattle.stations.specs.Stations.{plannable-stations}
 use Rattle.walk_visit.specs.Visit.{Ready, griddable, ready-grid}
 use Rattle.walk.specs.Lent.{lent-back}
-use Rattle.walk.specs.Call.{room-reply, short-reply}
+use Rattle.walk.specs.Call.{none-held, room-reply, short-reply, walk-held}
 use Rattle.walk.specs.Concluded.{concluded, outcome-room}
 use Rattle.walk.proofs.list.list_plans.Statement.{statement}
 use Rattle.walk.proofs.list.list_plans.Tie as tie
@@ -80,7 +80,11 @@ need-requires c κs =
     omega (arith, ready known .gridded .total, start known .pre .fine .few-positions)
 
 returns : tie.Need-returns
-returns c = let e = need-known (c .before) in short-reply _ _ _ (omega arith)
+returns c =
+    let e = need-known (c .before) in
+    let s = start (grown (c .before)) in
+    let short = short-reply (network s) (s .args .allowance) (s .args .out .now) (omega arith) in
+    (short .0, (short .1, none-held (network s) (λ z. let nine : _≡_ {A = ℕ} 9 0 = z in absurd (omega arith))))
 
 array-share-prefix-values : tie.Need-array-share-prefix-values
 array-share-prefix-values c = front (grown (c .before)) .2
@@ -114,8 +118,11 @@ returns-2 c =
     let end = c .before .before .conclude .ensures in
     let after = walked .visit-all .last .1 .1 .1 .1 .1 .1 .1 .0 in
     let bytes = end .1 ∙ ap (λ (t : ℕ). concluded (walked .visit-all .result) t (s .args .shape .p) after) (s .pre .tree) in
-    room-reply (network s) (s .args .allowance) (s .args .out .now) (omega (arith, need-known known, walked .before .before .before .if1 .left))
-    (walked .visit-all .ensures) (walked .visit-all .kept .1 .1 .1 .1 .1 .1 .1 .0) (end .0) bytes
+    let room : bufferNeed (network s) ≤ length (s .args .out .now) = omega (arith, need-known known, walked .before .before .before .if1 .left) in
+    let kept =
+    room-reply (network s) (s .args .allowance) (s .args .out .now) room (walked .visit-all .ensures) (walked .visit-all .kept .1 .1 .1 .1 .1 .1 .1 .0) (end .0)
+    bytes in
+    (kept .0, (kept .1, walk-held (network s) (walked .visit-all .ensures) (end .0)))
 
 pub list-plans-spec : {M : Type 1} → statement M
 list-plans-spec =

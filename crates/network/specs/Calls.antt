@@ -24,7 +24,8 @@ use Rattle.network.specs.declared.Status.{Status}
 
 -- ---- replies
 
--- A reply in document 01's terms: the number and place of a refusal and no values, or 0, 0 and the plan's sum, y1, y2, y3.
+-- A reply in document 01's terms: the number and place of a refusal and no values, or 0, 0 and the values: a plan's sum, y1, y2 and y3, or of a lookup the
+-- number of the plan.
 pub record Reply : Type 0 where
   pub number : ℕ
   pub place : ℕ

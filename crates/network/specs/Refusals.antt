@@ -40,11 +40,11 @@ badRest n rest = not (eqb (rest / 2 ^ n) 0) || eqb (length (working n rest)) 0
 abbrev pub badCeilings : Layout → ℕ → Bool
 badCeilings l p = outside p (l .fewest) (l .slots)
 
--- 6, of a present k, with n working stations: it is 1 to 3 and never above t, so below n
+-- 6, of a present k, with n working stations: it is not 1 to 3, or it is above t, so not below n
 abbrev pub badPresent : ℕ → ℕ → Bool
 badPresent n k = outside k 1 maxRank || leb n k
 
--- 6, of the k of ceiling j, from 0: a present one keeps its rule, an absent one is 0
+-- 6, of the k of ceiling j, from 0: a present one is against its rule, or an absent one is not 0
 abbrev pub badRank : ℕ → ℕ → ℕ → ℕ → Bool
 badRank n p j k = (ltb j p && badPresent n k) || (leb p j && not (eqb k 0))
 

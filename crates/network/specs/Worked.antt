@@ -60,7 +60,7 @@ pub data Row : Type 0 where
   accepts : (p n : ℕ) (passed : List (List ℕ)) → Row
   -- bits of a sum cost, the numbers that they mean, and which of them number 8 lets pass
   prices : (bits : List ℕ) (meant passed : List ℤ) → Row
-  -- a survey, and the number and place that decline it in every call; 0 and 0 if it is accepted
+  -- a survey, and the number and place that it alone decides (`checkedOf`); 0 and 0 if it is accepted
   checks : (survey : List ℕ) → Status → Row
   -- fetching plan r of a list: the number, and the links
   fetches : (list : List ℕ) (r number : ℕ) (links : List ℕ) → Row

@@ -24,7 +24,7 @@ ghost use Rattle.capi_replies.specs.Replies.{flatReply, flatValues};
 ghost use Rattle.capi.specs.Version.{version};
 
 // The version of these calls: it changes whenever a struct, a call or the meaning of a reply does.
-pub const VERSION: u32 = 7;
+pub const VERSION: u32 = 8;
 
 // The version of the calls that this archive has.
 #[no_mangle]

@@ -109,7 +109,7 @@ Right (prints input output) = printed input ≡ output
 -- P23 in three on a survey that is cut off, P24 on where 15 stands among the numbers, P25 on lengths and marks. Then plan lists
 -- have an index: P26 in four rows on that of A's list, P27 in four on signs and ties, P28 in two without ceilings, P29 in eight on equal sums, on
 -- indexes and lists that are declined, and on the empty list. Then surveys are written: P30 in two rows, A with either yard record; P31 in three, sum
--- costs below 0, a yard without links, and ceiling costs below 0; P32 in seven on the order of the numbers; P33 in four on columns and an output that
+-- costs below 0, a yard without links, and ceiling costs below 0; P32 in seven on the order of the numbers; P33 in seven on columns and an output that
 -- are too short. Then stations may rest: P34 in six rows on A with a station that rests; P35 in two, A with none at rest; P36 in two on one working station,
 -- P37 on no usable link, P38 on bits of both kinds in each of the three bytes; P39 in seven on the bits and where 18 stands among the numbers, P40 in four on
 -- unusable links that are tested all the same and on ranks by working stations. Then there may be three ceilings: P41 in two rows on A with second and
@@ -195,7 +195,10 @@ table =
     ∷ writes 0x5944 (figures 3 1 1 0) (0 ∷ 1 ∷ 1 ∷ 1 ∷ []) (two (pos 4) (pos 3)) (two (pos 7) (pos 1)) output42 (replied 8 1) output42
     ∷ writes 0x5944 (figures 3 1 1 0) (take 5 endsA) sumsA costsA (take 41 output42) (replied 7 3) (take 41 output42)
     ∷ writes 0x5944 (figures 2 0 0 0) (two 0 1) (one (pos 5)) [] (replicate 18 0xFF) (replied 0 0) (yard 2 0 0 0 (one (link 0 1 5 0 0)))
-    ∷ writes 0x5944 (figures 3 1 1 0) endsA sumsA (take 4 costsA) output42 (replied 0 0) (yard 3 1 1 0 (link 0 1 4 7 0 ∷ link 1 2 3 2 0 ∷ link 0 2 1 0 0 ∷ []))
+    ∷ writes 0x5944 (figures 3 1 1 0) endsA sumsA (take 5 costsA) output42 (replied 0 0) (A 1)
+    ∷ writes 0x5944 (figures 3 1 1 0) endsA sumsA (take 4 costsA) output42 (replied 8 3) output42
+    ∷ writes 0x5944 (figures 2 2 1 1) (two 1 0) (one (pos 5)) (one (negsuc 32_767)) (replicate 18 0xFF) (replied 8 1) (replicate 18 0xFF)
+    ∷ writes 0x5944 (figures 3 1 1 0) (take 5 endsA) sumsA (take 4 costsA) output42 (replied 7 3) output42
     ∷ writes 0x5944 (figures 3 1 1 0) endsA sumsA costsA (take 41 output42) (replied 17 0) (take 41 output42)
     ∷ lists (winter 1) (two (two 2 3) (two 0 2)) 3 46 listWinter
     ∷ prints (winter 1) outputWinter
@@ -303,7 +306,7 @@ table-right = every Right (
     ▸ refl ▸ refl ▸ refl ▸ refl ▸ (refl, refl) ▸ (refl, refl) ▸ (refl, refl) ▸ refl
     ▸ (refl, refl) ▸ (refl, refl) ▸ (refl, refl) ▸ (refl, refl) ▸ (refl, refl) ▸ (refl, refl) ▸ (refl, refl)
     ▸ (refl, refl) ▸ (refl, refl) ▸ (refl, refl) ▸ (refl, refl) ▸ (refl, refl) ▸ (refl, refl) ▸ (refl, refl)
-    ▸ (refl, refl) ▸ (refl, refl)
+    ▸ (refl, refl) ▸ (refl, refl) ▸ (refl, refl) ▸ (refl, refl) ▸ (refl, refl)
     ▸ record { promised = refl; by-walk = refl; counted = refl; needed = refl; succeeds = refl; bytes = refl }
     ▸ refl ▸ (refl, refl) ▸ (refl, refl) ▸ refl ▸ refl
     ▸ record { promised = refl; by-walk = refl; counted = refl; needed = refl; succeeds = refl; bytes = refl }

@@ -1,9 +1,9 @@
 -- Document 02, "Write surveys as well as read them": the figures of a survey, the survey that they make as bytes, and writing it, with the reader's
 -- numbers on figures and 17.
-use mathlib.Core.Bool.{Bool, cond, not}
+use mathlib.Core.Bool.{Bool, cond, not, _&&_, _||_}
 use mathlib.Core.List.{List, [], _∷_, _++_, map}
 use Prim.Native.Nat.{ℕ, _+_, _*_}
-use lib.Dec.{eqb, ltb}
+use lib.Dec.{eqb, leb, ltb}
 use lib.IntN.{ℤ, pos}
 use lib.ListN.{drop, getD, length}
 use mir.Syntax.{w16, w32}
@@ -148,13 +148,26 @@ writeAfter kind f output = ifFine (writeChecked kind f (length output)) (surveyA
 abbrev pub noStation : ℕ
 noStation = 255
 
--- link i of columns with two ends, a sum cost and two ceiling costs for each link; an end that is not there is no station, and a cost is 0
-abbrev pub linkFrom : List ℕ → List ℤ → List ℤ → ℕ → Link
-linkFrom ends sums costs i =
+-- what stands for the sum cost of a link that lacks a ceiling cost: no sum cost of any link, so that number 8 refuses the link
+abbrev pub noSum : ℤ
+noSum = pos 2_147_483_647
+
+-- in a column of `given` ceiling costs link i lacks c1 or c2, though its ceiling is one of p: they are the entries 2 * i and 2 * i + 1
+abbrev pub lacksCost : ℕ → ℕ → ℕ → Bool
+lacksCost p given i = (ltb 0 p && leb given (2 * i)) || (ltb 1 p && leb given (2 * i + 1))
+
+-- the sum cost of link i beside a column of `given` ceiling costs, in a yard with p ceilings
+abbrev pub sumFrom : ℕ → List ℤ → ℕ → ℕ → ℤ
+sumFrom p sums given i = cond (lacksCost p given i) noSum (getD sums i (pos 0))
+
+-- link i of columns with two ends, a sum cost and two ceiling costs for each link, in a yard with p ceilings. An end that is not handed in is no station,
+-- and such a cost of an absent ceiling is 0; a link that lacks the cost of a present ceiling has no sum cost
+abbrev pub linkFrom : ℕ → List ℕ → List ℤ → List ℤ → ℕ → Link
+linkFrom p ends sums costs i =
     record {
       first = getD ends (2 * i) noStation;
       second = getD ends (2 * i + 1) noStation;
-      sum = getD sums i (pos 0);
+      sum = sumFrom p sums (length costs) i;
       c1 = getD costs (2 * i) (pos 0);
       c2 = getD costs (2 * i + 1) (pos 0);
     }
@@ -176,4 +189,4 @@ costColumn (x ∷ xs) = x .c1 ∷ x .c2 ∷ costColumn xs
 
 -- the figures of a yard and of columns: as many links as sum costs. All figures come so, by the columns of their links (`columns-say`)
 unfoldable pub figuresFrom : YardFigures → List ℕ → List ℤ → List ℤ → Figures
-figuresFrom y ends sums costs = record { yard = y; links = map (linkFrom ends sums costs) (numbersFrom (length sums) 0) }
+figuresFrom y ends sums costs = record { yard = y; links = map (linkFrom (y .p) ends sums costs) (numbersFrom (length sums) 0) }

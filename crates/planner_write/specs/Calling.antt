@@ -1,12 +1,12 @@
 -- The ways that the call goes: a kind that is not known, a yard that is refused, and the rest by full columns.
 use mathlib.Core.Bool.{true, false, not, _&&_}
 use mathlib.Core.List.{List}
-use mathlib.Core.Path.{_≡_, sym, ap, ap₂, subst, _∙_}
+use mathlib.Core.Path.{_≡_, sym, ap, subst, _∙_}
 use Prim.Native.Nat.{ℕ, _*_, _≤_}
 use borrow.Author.Tests.{eq-eqb, leb-true, ltb-false, ne-eqb}
 use lib.Dec.{leb}
 use lib.IntN.{ℤ}
-use lib.ListN.{length}
+use lib.ListN.{length, take}
 use Rattle.order.specs.Test.{clash, left, right}
 use Rattle.network.specs.Limits.{maxLinks}
 use Rattle.network.specs.Checked.{fine-both, refuse-fine, refuseIf, _orElse_}
@@ -19,7 +19,7 @@ use Rattle.network.specs.declared.Layout.{Layout}
 use Rattle.network.specs.declared.Refusal.{Refusal}
 use Rattle.network.specs.declared.Status.{Status}
 use Rattle.network.specs.declared.YardFigures.{YardFigures}
-use Rattle.survey_roundtrip.specs.Columns.{Full, full-figures, fullCosts, fullEnds, link-many, made-full, refused-fine}
+use Rattle.survey_roundtrip.specs.Columns.{Full, full-figures, fullCosts, fullEnds, fullSums, link-many, made-full, refused-fine}
 use Rattle.survey_roundtrip.specs.Fields.{Met}
 use Rattle.survey_writing.specs.Filled.{fullAfter, fullChecked, fullStatus}
 use Rattle.planner_write.specs.Promised.{promised}
@@ -96,17 +96,22 @@ module _ (kind : ℕ) (y : YardFigures) (ends : List ℕ) (sums costs : List ℤ
         (q ∙ ap (λ (l : Layout). fullAfter l f output) layout ∙ rw (named, yard, e))
 
     -- the same by columns that were made full
-    pub by-full : {l : Layout} {all : List ℕ} {each : List ℤ} → l ≡ layoutFor kind → all ≡ fullEnds ends → each ≡ fullCosts costs
-        → yardFiguresChecked y (length sums) ≡ Fine → {r : Status} {left : List ℕ} → r ≡ fullStatus l (figuresFrom y all sums each) (length output)
-        → left ≡ fullAfter l (figuresFrom y all sums each) output → Met (figuresFrom y all sums each) → Kept kind f output r left
-    by-full {l} layout a b e p q met =
-        let same = ap₂ (λ (u : List ℕ) (v : List ℤ). figuresFrom y u sums v) a b ∙ full-figures ends sums costs (few-links y (length sums) e) y in
+    pub by-full : {l : Layout} {all : List ℕ} {sum each : List ℤ} → l ≡ layoutFor kind → all ≡ fullEnds ends
+        → sum ≡ fullSums (y .p) sums (length costs) → each ≡ fullCosts costs
+        → yardFiguresChecked y (length sums) ≡ Fine → {r : Status} {left : List ℕ}
+        → r ≡ fullStatus l (figuresFrom y all (take (length sums) sum) each) (length output)
+        → left ≡ fullAfter l (figuresFrom y all (take (length sums) sum) each) output
+        → Met (figuresFrom y all (take (length sums) sum) each) → Kept kind f output r left
+    by-full {l} layout a b d e p q met =
+        let same =
+        (λ k. figuresFrom y (a k) (take (length sums) (b k)) (d k)) ∙ full-figures y ends sums costs (few-links y (length sums) e) in
         by-links layout e
         (p ∙ ap (λ (g : Figures). fullStatus l g (length output)) same)
         (q ∙ ap (λ (g : Figures). fullAfter l g output) same)
         (subst Met same met)
 
 -- columns made full are full
-pub filled : {all : List ℕ} {each : List ℤ} (y : YardFigures) (ends : List ℕ) (sums costs : List ℤ) → all ≡ fullEnds ends → each ≡ fullCosts costs
-    → yardFiguresChecked y (length sums) ≡ Fine → Full all sums each
-filled y ends sums costs a b e = rw (a, b) (made-full ends sums costs (few-links y (length sums) e))
+pub filled : {all : List ℕ} {sum each : List ℤ} (y : YardFigures) (ends : List ℕ) (sums costs : List ℤ) → all ≡ fullEnds ends
+    → sum ≡ fullSums (y .p) sums (length costs) → each ≡ fullCosts costs
+    → yardFiguresChecked y (length sums) ≡ Fine → Full all (take (length sums) sum) each
+filled y ends sums costs a b d e = rw (a, b, d) (made-full y ends sums costs (few-links y (length sums) e))

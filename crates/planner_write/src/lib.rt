@@ -7,6 +7,7 @@ use survey_writing::kinds::kind_of;
 use survey_writing::kinds::layout_for;
 use survey_writing::padding::full_costs;
 use survey_writing::padding::full_ends;
+use survey_writing::padding::full_sums;
 use survey_writing::writer::write_full;
 ghost use mathlib.Core.Path.{_≡_};
 ghost use lib.ListN.{length};
@@ -14,7 +15,8 @@ ghost use Rattle.network.specs.Writing.{figuresFrom, writeAfter, writeStatus};
 ghost use Rattle.network.specs.WritingPromise.{WritePromised};
 
 // The survey of the figures, with the kind of yard record asked for, into the output, whose bytes past it stay: number 0 and place 0, or the refusal.
-// There are as many links as sum costs, with two ends and two ceiling costs each; an end that is not handed in is no station, and a cost is 0.
+// There are as many links as sum costs, with two ends and two ceiling costs each. An end that is not handed in is no station, and such a cost of an
+// absent ceiling is 0; a link that lacks the cost of a present ceiling is number 8.
 pub fn write_survey(
     kind: u32,
     yard: YardFigures,
@@ -44,13 +46,15 @@ pub fn write_survey(
             place: refusal.place,
         },
         Checked::Fine => {
-            let entries = 2 * sums.len();
+            let m = sums.len();
+            let entries = 2 * m;
             if (entries <= ends.len()) & (entries <= costs.len()) {
                 return write_full(l, yard, ends, sums, costs, survey);
             }
             let all_ends = full_ends(ends);
+            let all_sums = full_sums(yard.p, sums, costs.len());
             let all_costs = full_costs(costs);
-            write_full(l, yard, &all_ends, sums, &all_costs, survey)
+            write_full(l, yard, &all_ends, &all_sums[..m], &all_costs, survey)
         }
     }
 }

@@ -8,6 +8,7 @@ use lib.IntN.{pos}
 use lib.ListN.{getD, length}
 use Rattle.order.specs.Lists.{numbersFrom}
 use Rattle.network.specs.Writing.{Figures, Link, costColumn, endColumn, figuresFrom, linkFrom, noLink, noStation, sumColumn}
+use Rattle.survey_roundtrip.specs.Columns.{link-whole}
 use Rattle.survey_roundtrip.specs.ReadBack.{map-numbers}
 
 -- as many sum costs as links
@@ -15,8 +16,13 @@ sums-many : (xs : List Link) → length (sumColumn xs) ≡ length xs
 sums-many [] = refl
 sums-many (x ∷ xs) = ap suc (sums-many xs)
 
+-- two ceiling costs for each
+costs-many : (xs : List Link) → length (costColumn xs) ≡ 2 * length xs
+costs-many [] = refl
+costs-many (x ∷ xs) = let e = costs-many xs in omega arith
+
 -- link i of the columns of links is link i
-column-link : (xs : List Link) (i : ℕ) → i < length xs → linkFrom (endColumn xs) (sumColumn xs) (costColumn xs) i ≡ getD xs i noLink
+column-link : (xs : List Link) (i : ℕ) → i < length xs → linkFrom 0 (endColumn xs) (sumColumn xs) (costColumn xs) i ≡ getD xs i noLink
 column-link [] i h = absurd (omega arith)
 column-link (x ∷ xs) zero h = refl
 column-link (x ∷ xs) (suc i) h = step ∙ column-link xs i (omega arith)
@@ -27,7 +33,7 @@ column-link (x ∷ xs) (suc i) h = step ∙ column-link xs i (omega arith)
     after : 2 * suc i + 1 ≡ suc (suc (2 * i + 1))
     after = omega arith
 
-    step : linkFrom (endColumn (x ∷ xs)) (sumColumn (x ∷ xs)) (costColumn (x ∷ xs)) (suc i) ≡ linkFrom (endColumn xs) (sumColumn xs) (costColumn xs) i
+    step : linkFrom 0 (endColumn (x ∷ xs)) (sumColumn (x ∷ xs)) (costColumn (x ∷ xs)) (suc i) ≡ linkFrom 0 (endColumn xs) (sumColumn xs) (costColumn xs) i
     step =
         λ k.
         record {
@@ -43,6 +49,8 @@ pub columns-say : (f : Figures) → figuresFrom (f .yard) (endColumn (f .links))
 unfolding figuresFrom
 columns-say f =
     let xs : List Link = f .links in
-    let link : ℕ → Link = linkFrom (endColumn xs) (sumColumn xs) (costColumn xs) in
-    let links = ap (λ (n : ℕ). map link (numbersFrom n 0)) (sums-many xs) ∙ map-numbers link noLink xs 0 (λ i h. rw (zero-add i) (column-link xs i h)) in
+    let link : ℕ → Link = linkFrom (f .yard .p) (endColumn xs) (sumColumn xs) (costColumn xs) in
+    let each : (i : ℕ) → i < length xs → link i ≡ getD xs i noLink =
+    λ i h. link-whole (f .yard .p) (endColumn xs) (sumColumn xs) (costColumn xs) i (omega (arith, costs-many xs)) ∙ column-link xs i h in
+    let links = ap (λ (n : ℕ). map link (numbersFrom n 0)) (sums-many xs) ∙ map-numbers link noLink xs 0 (λ i h. rw (zero-add i) (each i h)) in
     λ k. record { yard = f .yard; links = links k }

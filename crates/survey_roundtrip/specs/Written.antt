@@ -21,6 +21,7 @@ use Rattle.network.specs.declared.YardFigures.{YardFigures}
 use Rattle.buffers.specs.Overwrite.{overwrite, overwrite-chain, overwrite-nothing}
 use Rattle.survey_roundtrip.specs.Layouts.{Writable, writtenLink, writtenYard}
 use Rattle.survey_roundtrip.specs.Fields.{length-link}
+use Rattle.survey_roundtrip.specs.Columns.{Full, map-agree, whole}
 
 -- ---- one record
 
@@ -99,9 +100,9 @@ join-more g (suc n) k =
     ∙ sym (append-assoc (g k) (join (map g (numbersFrom n (suc k)))) (g (k + suc n)))
 
 module _ (mark : List ℕ) (ends : List ℕ) (sums costs : List ℤ) where
-  -- the bytes of link i
+  -- the bytes of link i, which is the same for any number of ceilings where it lacks no cost
   abbrev bytesOf : ℕ → List ℕ
-  bytesOf i = linkBytes mark (linkFrom ends sums costs i)
+  bytesOf i = linkBytes mark (linkFrom 0 ends sums costs i)
 
   -- the records of the first i links
   unfoldable pub recordsTo : ℕ → List ℕ
@@ -112,7 +113,7 @@ module _ (mark : List ℕ) (ends : List ℕ) (sums costs : List ℤ) where
   records-length two zero = refl
   records-length two (suc i) =
       let last = length-append (recordsTo i) (bytesOf (0 + i)) in
-      let size = length-link mark (linkFrom ends sums costs (0 + i)) two in
+      let size = length-link mark (linkFrom 0 ends sums costs (0 + i)) two in
       let ih = records-length two i in
       ap length (join-more bytesOf i 0) ∙ omega arith
 
@@ -130,7 +131,11 @@ module _ (mark : List ℕ) (ends : List ℕ) (sums costs : List ℤ) where
   unfolding recordsTo numbersFrom
   records-none d first = overwrite-nothing d first
 
-  -- all records are those of the figures
-  pub records-all : (y : YardFigures) → recordsTo (length sums) ≡ join (map (linkBytes mark) (figuresFrom y ends sums costs .links))
+  -- all records of full columns are those of the figures
+  pub records-all : Full ends sums costs → (y : YardFigures) → recordsTo (length sums) ≡ join (map (linkBytes mark) (figuresFrom y ends sums costs .links))
   unfolding recordsTo figuresFrom
-  records-all y = ap join (sym (map-map (linkBytes mark) (linkFrom ends sums costs) (numbersFrom (length sums) 0)))
+  records-all full y =
+      ap join
+      (map-agree bytesOf (λ i. linkBytes mark (linkFrom (y .p) ends sums costs i)) (length sums) 0 (λ i h.
+      ap (linkBytes mark) (sym (whole y ends sums costs full i (omega arith))))
+      ∙ sym (map-map (linkBytes mark) (linkFrom (y .p) ends sums costs) (numbersFrom (length sums) 0)))

@@ -19,7 +19,7 @@ use Rattle.network.specs.declared.Refusal.{Refusal}
 use Rattle.network.specs.declared.Status.{Status}
 use Rattle.network.specs.declared.YardFigures.{YardFigures}
 use Rattle.buffers.specs.Overwrite.{overwrite, overwrite-chain}
-use Rattle.survey_roundtrip.specs.Columns.{columnsChecked, link-many, links-checked}
+use Rattle.survey_roundtrip.specs.Columns.{Full, columnsChecked, link-many, links-checked}
 use Rattle.survey_roundtrip.specs.Fields.{survey-length, yard-length}
 use Rattle.survey_roundtrip.specs.Layouts.{Writable, writtenLink}
 use Rattle.survey_roundtrip.specs.Written.{records-all, recordsTo}
@@ -41,14 +41,14 @@ module _ (l : Layout) (w : Writable l) (y : YardFigures) (ends : List ℕ) (sums
   f = figuresFrom y ends sums costs
 
   -- the yard record and then the link records, written, are the survey
-  pub survey-written : (d : List ℕ) {o o′ : List ℕ} → o ≡ overwrite d 0 (yardBytes l y (length sums))
+  pub survey-written : Full ends sums costs → (d : List ℕ) {o o′ : List ℕ} → o ≡ overwrite d 0 (yardBytes l y (length sums))
       → o′ ≡ overwrite o (l .yard .size) (recordsTo (l .link .mark) ends sums costs (length sums)) → o′ ≡ surveyAtFront (surveyIn l f) d
   unfolding surveyIn surveyAtFront overwrite figuresFrom
-  survey-written d e q =
+  survey-written full d e q =
       let yard = yardBytes l y (length sums) in
       let records = recordsTo (l .link .mark) ends sums costs (length sums) in
       let whole : yard ++ records ≡ surveyIn l f =
-      ap₂ (λ (m : ℕ) (r : List ℕ). yardBytes l y m ++ r) (sym (link-many y ends sums costs)) (records-all (l .link .mark) ends sums costs y) in
+      ap₂ (λ (m : ℕ) (r : List ℕ). yardBytes l y m ++ r) (sym (link-many y ends sums costs)) (records-all (l .link .mark) ends sums costs full y) in
       overwrite-chain d 0 yard (l .yard .size) records q e (sym (zero-add (length yard) ∙ yard-length l w y (length sums))) (omega arith)
       ∙ ap (λ (s : List ℕ). s ++ drop (0 + length s) d) whole
       ∙ ap (λ (k : ℕ). surveyIn l f ++ drop k d) (zero-add (length (surveyIn l f)))

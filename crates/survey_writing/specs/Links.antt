@@ -27,7 +27,7 @@ module _ (mark ends : List ℕ) (sums costs : List ℤ) (first : ℕ) (before : 
       record { written = records-none mark ends sums costs before first; behind = omega arith; few = omega arith; kept = refl; room = room; each = e }
 
   pub links-turn : (size : ℕ) (now : List ℕ) (at i : ℕ) {after : List ℕ} → LinksWritten size now at i → i < length sums → length mark ≡ 2
-      → Full ends sums costs → Fitting (linkFrom ends sums costs i) → after ≡ overwrite now at (linkBytes mark (linkRead ends sums costs i))
+      → Full ends sums costs → Fitting (linkFrom 0 ends sums costs i) → after ≡ overwrite now at (linkBytes mark (linkRead ends sums costs i))
       → length after ≡ length now → LinksWritten size after (at + size) (i + 1)
   links-turn size now at i so-far h two full fits e same =
       let link = e ∙ ap (λ (x : Link). overwrite now at (linkBytes mark x)) (link-read ends sums costs full i h fits) in

@@ -14,7 +14,7 @@ use Rattle.survey_writing.proofs.figures.check_links.Tie as tie
 
 abbrev Inv-loop : tie.InvT-loop
 Inv-loop y ends sums costs i₀ i =
-    (i ≤ length sums) × (columnsChecked y ends sums costs i ≡ Fine) × ((j : ℕ) → j < i → Fitting (linkFrom ends sums costs j))
+    (i ≤ length sums) × (columnsChecked y ends sums costs i ≡ Fine) × ((j : ℕ) → j < i → Fitting (linkFrom 0 ends sums costs j))
 
 abbrev μ-loop : tie.MeasureT-loop
 μ-loop y ends sums costs i₀ i = length sums - i
@@ -108,7 +108,8 @@ loop-again c =
 returns-2 : tie.Need-returns-2 Inv-loop μ-loop
 returns-2 c =
     let so-far = c .before .loop .inv in
-    (sym (so-far .1) ∙ ap (columnsChecked _ _ _ _) (omega arith), met-all _ _ _ _ (λ j h. so-far .2 j (omega (arith, c .loop-test .left))))
+    let all = met-all _ _ _ _ (c .before .before .before .pre) (λ j h. so-far .2 j (omega (arith, c .loop-test .left))) in
+    (sym (so-far .1) ∙ ap (columnsChecked _ _ _ _) (omega arith), all)
 
 pub check-links-spec : {M : Type 1} → statement M
 check-links-spec =

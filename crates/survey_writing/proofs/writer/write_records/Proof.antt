@@ -18,7 +18,7 @@ returns c =
     let links = c .before .before in
     let yard = links .before .before .before .before in
     let start = yard .before .before .before .before in
-    survey-written (start .args .l) (start .pre .0) (start .args .y) _ _ _ _ (yard .write-yard .ensures) (links .write-links .ensures)
+    survey-written (start .args .l) (start .pre .0) (start .args .y) _ _ _ (start .pre .1) _ (yard .write-yard .ensures) (links .write-links .ensures)
 
 pub write-records-spec : {M : Type 1} → statement M
 write-records-spec =

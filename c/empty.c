@@ -19,12 +19,12 @@ static const uint8_t single[] = {0x59, 0x44, 1, 0, 0, 0};
 static const uint8_t resting[] = {0x59, 0x46, 2, 0, 0, 0, 1, 2, 0, 0, 0x4C, 0x4B, 0, 1, 5, 0, 0, 0, 0, 0, 0, 0};
 static const uint8_t triple[] = {0x59, 0x47, 2, 3, 1, 1, 1, 1, 0, 0, 0, 0x4C, 0x4D, 0, 1, 5, 0, 0, 0, 3, 0, 4, 0, 6, 0};
 
-/* The figures of one link between two stations under a ceiling, and its survey where the costs are not handed in. */
-static const ranqustei_yard yard = {2, 1, 1, 0}, single_yard = {1, 0, 0, 0};
+/* The figures of one link between two stations, under a ceiling and under none, and its survey under none. */
+static const ranqustei_yard yard = {2, 1, 1, 0}, open_yard = {2, 0, 0, 0}, single_yard = {1, 0, 0, 0};
 static const uint8_t ends[] = {0, 1};
 static const int32_t sums[] = {5};
 static const int16_t costs[] = {3, 0};
-static const uint8_t without_costs[] = {0x59, 0x44, 2, 1, 1, 0, 0x4C, 0x4B, 0, 1, 5, 0, 0, 0, 0, 0, 0, 0};
+static const uint8_t without_costs[] = {0x59, 0x44, 2, 0, 0, 0, 0x4C, 0x4B, 0, 1, 5, 0, 0, 0, 0, 0, 0, 0};
 
 /* A plan list of one plan, one of one plan with three ceilings, and one of none. */
 static const uint8_t one_plan[] = {0x50, 0x48, 1, 0, 1, 0, 0, 0, 1, 1, 0x50, 0x4C, 5, 0, 0, 0, 3, 0, 0, 0, 0};
@@ -135,6 +135,10 @@ static void decline_to_write(void)
     ranqustei_status status = ranqustei_write_survey(kind, yard, NULL, 0, sums, 1, costs, 2, lent, LENT);
 
     check("write, no ends", status.number == RANQUSTEI_BAD_ENDS && status.place == 1);
+    status = ranqustei_write_survey(kind, yard, ends, 2, sums, 1, NULL, 0, lent, LENT);
+    check("write, no costs", status.number == RANQUSTEI_BAD_COSTS && status.place == 1);
+    status = ranqustei_write_survey(kind, yard, NULL, 0, sums, 1, NULL, 0, NULL, 0);
+    check("write, sums alone", status.number == RANQUSTEI_BAD_ENDS && status.place == 1);
     status = ranqustei_write_survey(kind, yard, ends, 2, sums, 1, costs, 2, NULL, 0);
     check("write, no output", bare_status(status, RANQUSTEI_SHORT_OUTPUT));
     status = ranqustei_write_survey(kind, single_yard, NULL, 0, NULL, 0, NULL, 0, NULL, 0);
@@ -147,9 +151,9 @@ static void write_survey(void)
 {
     const uint32_t kind = RANQUSTEI_YARD_PLAIN;
     uint8_t written[sizeof without_costs];
-    ranqustei_status status = ranqustei_write_survey(kind, yard, ends, 2, sums, 1, NULL, 0, written, sizeof written);
+    ranqustei_status status = ranqustei_write_survey(kind, open_yard, ends, 2, sums, 1, NULL, 0, written, sizeof written);
 
-    check("write, no costs", bare_status(status, RANQUSTEI_OK));
+    check("write, no costs under no ceiling", bare_status(status, RANQUSTEI_OK));
     check("write, costs of 0", memcmp(written, without_costs, sizeof written) == 0);
     status = ranqustei_write_survey(kind, single_yard, ends, 2, NULL, 0, costs, 2, written, sizeof written);
     check("write, no sums", bare_status(status, RANQUSTEI_OK));

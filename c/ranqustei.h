@@ -152,7 +152,8 @@ enum {
     RANQUSTEI_BAD_RANK = 6,
     /* An end of a link (place) is no station, or both its ends are the same. */
     RANQUSTEI_BAD_ENDS = 7,
-    /* The sum cost of a link (place) is outside -1,000,000 to 1,000,000, or its cost of an absent ceiling is not 0. */
+    /* The sum cost of a link (place) is outside -1,000,000 to 1,000,000, its cost of an absent ceiling is not 0, or its cost of a present ceiling is
+       missing among the figures to be written. */
     RANQUSTEI_BAD_COSTS = 8,
     /* The tree buffer has fewer than t bytes, or the list buffer fewer than 10 + M * (10 + t); with three ceilings put 12 + t for 10 + t. */
     RANQUSTEI_SHORT_BUFFER = 9,
@@ -185,7 +186,7 @@ enum {
 };
 
 /* The version of what this header declares: it changes whenever a struct, a call or the meaning of a reply changes. */
-enum { RANQUSTEI_VERSION = 7 };
+enum { RANQUSTEI_VERSION = 8 };
 
 /* The figures of a yard record that is written: the stations, the ceilings and their ranks. */
 typedef struct {
@@ -283,8 +284,8 @@ ranqustei_found ranqustei_index_lookup(const uint8_t *list, size_t list_length, 
  * The survey of a yard and its links, with the yard record of `kind`, RANQUSTEI_YARD_PLAIN or RANQUSTEI_YARD_COUNTED. There are as many links as `sums`
  * has entries. Of link i, counted from 0, the ends are the entries 2 * i and 2 * i + 1 of `ends`, the sum cost is entry i of `sums`, and the costs of
  * ceiling 1 and ceiling 2 are the entries 2 * i and 2 * i + 1 of `costs`, 0 for an absent ceiling. Where `ends` has no such entry, that end is no
- * station; where `costs` has none, that cost is 0. Entries after those of the last link are not looked at. RANQUSTEI_SURVEY_BYTES are always enough for
- * `survey`.
+ * station. Where `costs` has none, the cost of an absent ceiling is 0; for a present ceiling the reply is RANQUSTEI_BAD_COSTS at that link. Entries after
+ * those of the last link are not looked at. RANQUSTEI_SURVEY_BYTES are always enough for `survey`.
  * On success the survey stands at the front of `survey`, 6 + 12 * m bytes of it, or with the counted yard record 7 + 12 * m, and the bytes after it are
  * as they were. On a refusal all of `survey` is as it was.
  * A survey that is written is accepted, and its fields are the figures that were handed in. The figures of an accepted survey with one of these two yard

@@ -1,5 +1,6 @@
 //! A survey in the making: any field can hold any value, legal or not.
 
+use crate::link_figures::{costs_of, ends_of};
 use peer::records::{YardRecord, MAX_CEILINGS};
 use peer::rest::REST_BYTES;
 use peer::Figures;
@@ -52,9 +53,9 @@ impl Draft {
     pub fn of(figures: &Figures, record: YardRecord) -> Draft {
         let link = |(number, &sum): (usize, &i32)| LinkDraft {
             mark: record.link.mark,
-            ends: pair_at(number, figures.ends, u8::MAX),
+            ends: ends_of(figures, number).map(|end| end.unwrap_or(u8::MAX)),
             sum,
-            costs: with_third(pair_at(number, figures.costs, 0)),
+            costs: with_third(costs_of(figures, number).map(Option::unwrap_or_default)),
         };
         Draft {
             mark: record.mark,
@@ -95,10 +96,4 @@ impl Draft {
 /// Ranks or costs of two ceilings, with that of a third that is absent.
 fn with_third<T: Default>([first, second]: [T; 2]) -> [T; MAX_CEILINGS] {
     [first, second, T::default()]
-}
-
-/// The two entries of a link in a column, or what stands for one that is not there.
-fn pair_at<T: Copy>(link: usize, column: &[T], missing: T) -> [T; 2] {
-    let entry = |at: usize| column.get(at).copied().unwrap_or(missing);
-    [entry(2 * link), entry(2 * link + 1)]
 }

@@ -46,6 +46,14 @@ pub fn each_head(draft: &Draft) -> Vec<Draft> {
     drafts
 }
 
+/// The drafts that differ from one in their number of ceilings, and that one.
+pub fn each_ceiling_count(draft: &Draft) -> Vec<Draft> {
+    let counts = 0..=draft.room;
+    counts
+        .map(|ceilings| with_ceilings(draft, ceilings))
+        .collect()
+}
+
 /// All drafts that have the links of one over and over, and so too many of them.
 pub fn each_link_count(draft: &Draft) -> Vec<Draft> {
     let links = draft.links.iter().copied().cycle();
@@ -73,6 +81,13 @@ pub fn each_link(draft: &Draft, rng: &mut Rng) -> Vec<Draft> {
 
 /// Gives a link a cost for a ceiling that the yard then does not have.
 fn absent_cost(draft: &mut Draft, link: usize, [ceilings, ceiling]: [usize; 2], rng: &mut Rng) {
+    *draft = with_ceilings(draft, ceilings);
+    draft.links[link].costs[ceiling] = rng.pick(&COSTS_NOT_0);
+}
+
+/// The draft with so many ceilings; one that it did not have is of rank 1, with costs of 0.
+fn with_ceilings(draft: &Draft, ceilings: usize) -> Draft {
+    let mut draft = draft.clone();
     draft.ceilings = ceilings as u8;
     for (i, rank) in draft.ranks.iter_mut().enumerate() {
         *rank = if i < ceilings { (*rank).max(1) } else { 0 };
@@ -80,5 +95,5 @@ fn absent_cost(draft: &mut Draft, link: usize, [ceilings, ceiling]: [usize; 2], 
     for link in &mut draft.links {
         link.costs[ceilings..].fill(0);
     }
-    draft.links[link].costs[ceiling] = rng.pick(&COSTS_NOT_0);
+    draft
 }

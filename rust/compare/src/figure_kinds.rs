@@ -4,14 +4,16 @@ use crate::columns::Columns;
 use crate::comparison::{Comparison, Difference};
 use crate::damage::{damaged_in_pairs, sums_at_limits};
 use crate::draft::Draft;
-use crate::figure_damage::{each_head, each_link, each_link_count};
+use crate::figure_damage::{each_ceiling_count, each_head, each_link, each_link_count};
 use crate::kinds::{hard, small};
 use crate::rng::Rng;
 use crate::values::Values::{self, Different, Extreme, Free};
-use crate::writing::{cut_calls, few_write_calls, write_calls};
+use crate::writing::{cost_cut_calls, cut_calls, few_write_calls, write_calls};
 use crate::yards::Layout::{Any, Connected};
 use crate::yards::Recipe;
-use Damage::{EachCut, EachHead, EachLink, EachLinkCount, EachPair, EachSum, Whole};
+use Damage::{
+    EachCut, EachHead, EachLink, EachLinkAndCut, EachLinkCount, EachPair, EachSum, Whole,
+};
 
 /// A kind of figures.
 pub struct FigureKind {
@@ -29,7 +31,7 @@ pub struct FigureKind {
 enum Damage {
     /// Nothing.
     Whole,
-    /// Each cut of the ends and of the costs in turn.
+    /// Each number of ceilings in turn, and then each cut of the ends and of the costs.
     EachCut,
     /// Other stations, ceilings and ranks, many of them in turn.
     EachHead,
@@ -39,12 +41,14 @@ enum Damage {
     EachLink,
     /// A sum cost at or past a limit on each link in turn.
     EachSum,
+    /// What `EachLink` and `EachSum` do in turn, and then each cut of the costs.
+    EachLinkAndCut,
     /// Two things, each pair of them in turn.
     EachPair,
 }
 
 /// All kinds, legal figures first.
-pub const FIGURE_KINDS: [FigureKind; 13] = [
+pub const FIGURE_KINDS: [FigureKind; 14] = [
     kind(51, "small", 1000, small(Any, Free), Whole),
     kind(52, "any size", 2000, any_size(Free), Whole),
     kind(53, "any size, extreme", 1000, any_size(Extreme), Whole),
@@ -69,6 +73,13 @@ pub const FIGURE_KINDS: [FigureKind; 13] = [
         20,
         hard(40, Free),
         EachPair,
+    ),
+    kind(
+        64,
+        "wrong links, costs cut",
+        40,
+        small(Connected, Free),
+        EachLinkAndCut,
     ),
 ];
 
@@ -101,11 +112,13 @@ impl FigureKind {
     pub fn drafts(&self, rng: &mut Rng) -> Vec<Draft> {
         let draft = self.recipe.draft(rng);
         match self.damage {
-            Whole | EachCut => vec![draft],
+            Whole => vec![draft],
+            EachCut => each_ceiling_count(&draft),
             EachHead => each_head(&draft),
             EachLinkCount => each_link_count(&draft),
             EachLink => each_link(&draft, rng),
             EachSum => sums_at_limits(&draft),
+            EachLinkAndCut => [each_link(&draft, rng), sums_at_limits(&draft)].concat(),
             EachPair => damaged_in_pairs(&draft, rng),
         }
     }
@@ -120,6 +133,7 @@ impl FigureKind {
         match self.damage {
             Whole => write_calls(c, columns, rng),
             EachCut => cut_calls(c, columns, rng),
+            EachLinkAndCut => cost_cut_calls(c, columns, rng),
             EachHead | EachLinkCount | EachLink | EachSum | EachPair => {
                 few_write_calls(c, columns, rng)
             }

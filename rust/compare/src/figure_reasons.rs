@@ -1,5 +1,6 @@
 //! The ways in which figures break the rules of a survey.
 
+use crate::link_figures::{costs_of, ends_of};
 use crate::sums::{HIGHEST, LOWEST};
 use peer::Figures;
 
@@ -52,22 +53,28 @@ fn has_ranks(figures: &Figures, ceilings: u8, ranks: [u8; 2]) -> bool {
 }
 
 /// Why figures are refused at a link.
-pub const LINK_REASONS: [LinkReason; 14] = [
+pub const LINK_REASONS: [LinkReason; 17] = [
     ("first end n", 7, |f, link| {
-        end(f, link, 0) == Some(f.stations)
+        ends_of(f, link)[0] == Some(f.stations)
     }),
     ("second end n", 7, |f, link| {
-        end(f, link, 1) == Some(f.stations)
+        ends_of(f, link)[1] == Some(f.stations)
     }),
-    ("first end 255", 7, |f, link| end(f, link, 0) == Some(255)),
-    ("second end 255", 7, |f, link| end(f, link, 1) == Some(255)),
+    ("first end 255", 7, |f, link| {
+        ends_of(f, link)[0] == Some(255)
+    }),
+    ("second end 255", 7, |f, link| {
+        ends_of(f, link)[1] == Some(255)
+    }),
     ("equal ends", 7, |f, link| {
-        end(f, link, 0).is_some_and(|first| first < f.stations)
-            && end(f, link, 0) == end(f, link, 1)
+        let [first, second] = ends_of(f, link);
+        first.is_some_and(|first| first < f.stations) && first == second
     }),
-    ("both ends missing", 7, |f, link| end(f, link, 0).is_none()),
+    ("both ends missing", 7, |f, link| {
+        ends_of(f, link) == [None; 2]
+    }),
     ("second end missing", 7, |f, link| {
-        end(f, link, 0).is_some() && end(f, link, 1).is_none()
+        matches!(ends_of(f, link), [Some(_), None])
     }),
     ("s one below its range", 8, |f, link| {
         f.sums[link] == LOWEST - 1
@@ -90,15 +97,24 @@ pub const LINK_REASONS: [LinkReason; 14] = [
     ("p = 1, c2 not 0", 8, |f, link| {
         f.ceilings == 1 && has_cost(f, link, 1)
     }),
+    ("p = 1, c1 missing", 8, |f, link| {
+        f.ceilings == 1 && costs_of(f, link)[0].is_none()
+    }),
+    ("p = 2, both costs missing", 8, |f, link| {
+        f.ceilings == 2 && costs_of(f, link) == [None; 2]
+    }),
+    ("p = 2, c2 missing", 8, |f, link| {
+        f.ceilings == 2 && matches!(costs_of(f, link), [Some(_), None])
+    }),
 ];
-
-/// An end of a link, if it is handed in.
-fn end(figures: &Figures, link: usize, which: usize) -> Option<u8> {
-    figures.ends.get(2 * link + which).copied()
-}
 
 /// Whether a link has a cost for a ceiling that is not 0.
 fn has_cost(figures: &Figures, link: usize, ceiling: usize) -> bool {
-    let cost = figures.costs.get(2 * link + ceiling);
-    cost.is_some_and(|&cost| cost != 0)
+    costs_of(figures, link)[ceiling].is_some_and(|cost| cost != 0)
+}
+
+/// Whether a link breaks a rule of some number.
+pub fn breaks(number: u8, figures: &Figures, link: usize) -> bool {
+    let mut reasons = LINK_REASONS.iter().filter(|reason| reason.1 == number);
+    reasons.any(|(_, _, has)| has(figures, link))
 }

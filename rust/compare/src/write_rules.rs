@@ -2,6 +2,7 @@
 
 use crate::comparison::Outcome;
 use crate::draft::Draft;
+use crate::link_figures::first_without_cost;
 use crate::records::kind_of;
 use peer::records::{YardRecord, PLAIN, WRITTEN_RECORDS};
 use peer::survey::Yard;
@@ -29,20 +30,30 @@ impl Request<'_> {
         record.bytes + record.link.bytes * self.figures.sums.len()
     }
 
-    /// Whether a reader takes the figures.
+    /// Whether the figures are legal.
     pub fn is_legal(&self) -> bool {
-        Yard::read(&Draft::of(&self.figures, PLAIN).bytes()).is_ok()
+        self.survey_with(PLAIN).is_ok()
     }
 
     /// The survey that is due in an output of `room` bytes, or the refusal.
     pub fn due(&self, room: usize) -> Result<Vec<u8>, Refusal> {
         let record = self.record().ok_or(Refusal::whole(2))?;
-        let survey = Draft::of(&self.figures, record).bytes();
-        Yard::read(&survey)?;
+        let survey = self.survey_with(record)?;
         match survey.len() <= room {
             true => Ok(survey),
             false => Err(Refusal::whole(17)),
         }
+    }
+
+    /// The survey with a yard record, or the refusal: of that by a reader and that for a missing
+    /// cost, the one at the earlier place, and at the same place the one of the lower number.
+    fn survey_with(&self, record: YardRecord) -> Result<Vec<u8>, Refusal> {
+        let survey = Draft::of(&self.figures, record).bytes();
+        let by_reader = Yard::read(&survey).err();
+        let for_cost = first_without_cost(&self.figures).map(|link| Refusal::at_link(link, 8));
+        let refusals = by_reader.into_iter().chain(for_cost);
+        let first = refusals.min_by_key(|refusal| (refusal.place, refusal.number));
+        first.map_or(Ok(survey), Err)
     }
 }
 

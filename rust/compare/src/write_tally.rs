@@ -1,6 +1,8 @@
 //! Which figures were written, and why others were refused.
 
 use crate::figure_reasons::{LINK_REASONS, YARD_REASONS};
+use crate::link_figures::{lacks_cost, lacks_end};
+use crate::missing_costs::MissingTally;
 use crate::ranks::RANKS;
 use crate::sums::Refused;
 use crate::tally::NUMBERS;
@@ -22,6 +24,9 @@ pub const LENGTHS: [Length; 6] = [
     ("one longer", |whole| whole + 1),
     ("much longer", |whole| whole + 500),
 ];
+
+/// Whether a link lacks an entry of a column.
+type Lacks = fn(&Figures, usize) -> bool;
 
 /// A sort of yards: its name, and whether a yard is of it.
 type Sort = (&'static str, fn(&Yard) -> bool);
@@ -84,8 +89,10 @@ pub struct WriteTally {
     pub outputs: [[[u64; 2]; WRITTEN_RECORDS.len()]; LENGTHS.len()],
     /// Calls with ends of each of `LENGTHS` that wrote, and that were refused for a missing end.
     pub ends: [[u64; 2]; LENGTHS.len()],
-    /// Calls with costs of each of `LENGTHS` that wrote.
-    pub costs: [u64; LENGTHS.len()],
+    /// Calls with costs of each of `LENGTHS` that wrote, and that were refused for a missing cost.
+    pub costs: [[u64; 2]; LENGTHS.len()],
+    /// What was replied where costs were missing.
+    pub missing: MissingTally,
     /// Calls refused for each of `YARD_REASONS`.
     pub yards: [u64; YARD_REASONS.len()],
     /// Calls refused for each of `LINK_REASONS`.
@@ -116,7 +123,8 @@ impl WriteTally {
     pub fn count(&mut self, request: &Request, room: usize, reply: Result<(), Refusal>) {
         self.count_unknown(request);
         self.count_output(request, room, reply);
-        self.count_columns(request, reply);
+        self.count_columns(&request.figures, reply);
+        self.missing.count(request, room, reply);
         if let Err(refusal) = reply {
             self.count_yard_reasons(request, room, refusal);
             self.count_link_reasons(request, refusal);
@@ -143,26 +151,25 @@ impl WriteTally {
         }
     }
 
-    fn count_columns(&mut self, request: &Request, reply: Result<(), Refusal>) {
-        let Figures {
-            ends, sums, costs, ..
-        } = request.figures;
+    fn count_columns(&mut self, figures: &Figures, reply: Result<(), Refusal>) {
         // With fewer links some of the lengths are the same.
-        let entries = 2 * sums.len();
+        let entries = 2 * figures.sums.len();
         if entries < 4 {
             return;
         }
-        let is_missing = reply.is_err_and(|Refusal { number, place }| {
-            number == 7 && ends.len() < 2 * usize::from(place)
-        });
-        if reply.is_ok() || is_missing {
-            for i in lengths(entries, ends.len()) {
-                self.ends[i][usize::from(is_missing)] += 1;
-            }
-        }
-        if reply.is_ok() {
-            for i in lengths(entries, costs.len()) {
-                self.costs[i] += 1;
+        let (ends, costs) = (figures.ends.len(), figures.costs.len());
+        for (counts, length, number, lacks) in [
+            (&mut self.ends, ends, 7, lacks_end as Lacks),
+            (&mut self.costs, costs, 8, lacks_cost),
+        ] {
+            let is_missing = reply.is_err_and(|refusal| {
+                let link = refusal.place.checked_sub(1);
+                refusal.number == number && link.is_some_and(|link| lacks(figures, link.into()))
+            });
+            if reply.is_ok() || is_missing {
+                for i in lengths(entries, length) {
+                    counts[i][usize::from(is_missing)] += 1;
+                }
             }
         }
     }
@@ -220,6 +227,7 @@ impl WriteTally {
     pub fn add(&mut self, other: &WriteTally) {
         self.round_trips += other.round_trips;
         self.not_written += other.not_written;
+        self.missing.add(&other.missing);
         self.stations = self.stations.or(other.stations);
         self.link_counts = self.link_counts.or(other.link_counts);
         for (refused, more) in self.links.iter_mut().zip(&other.links) {
@@ -241,7 +249,7 @@ impl WriteTally {
             self.unknown.as_flattened_mut(),
             self.outputs.as_flattened_mut().as_flattened_mut(),
             self.ends.as_flattened_mut(),
-            &mut self.costs,
+            self.costs.as_flattened_mut(),
             &mut self.yards,
             self.before.as_flattened_mut(),
             self.before_later.as_flattened_mut(),

@@ -16,9 +16,7 @@ const SPARE: usize = 512;
 /// asks for unknown kinds.
 pub fn write_calls(c: &mut Comparison, columns: &Columns, rng: &mut Rng) -> Result<(), Difference> {
     for record in WRITTEN_RECORDS {
-        for length in 0..LENGTHS.len() {
-            write(c, kind_of(record), columns.figures(), length, rng)?;
-        }
+        write_in_each(c, kind_of(record), columns.figures(), rng)?;
     }
     for kind in UNKNOWN_KINDS.into_iter().chain([longer_kind(rng)]) {
         write_in_any(c, kind, columns.figures(), rng)?;
@@ -26,7 +24,8 @@ pub fn write_calls(c: &mut Comparison, columns: &Columns, rng: &mut Rng) -> Resu
     column_calls(c, columns, rng)
 }
 
-/// Writes figures with either yard record, and asks for two unknown kinds.
+/// Writes figures with either yard record, asks for two unknown kinds, and writes without some of
+/// the costs.
 pub fn few_write_calls(
     c: &mut Comparison,
     columns: &Columns,
@@ -36,7 +35,8 @@ pub fn few_write_calls(
     for kind in WRITTEN_RECORDS.map(kind_of).into_iter().chain(unknown) {
         write_in_any(c, kind, columns.figures(), rng)?;
     }
-    Ok(())
+    let length = rng.below(columns.costs.len() + 1);
+    write_in_any(c, known_kind(rng), with_costs(columns, length), rng)
 }
 
 fn known_kind(rng: &mut Rng) -> u32 {
@@ -49,15 +49,36 @@ fn longer_kind(rng: &mut Rng) -> u32 {
     high << 16 | known_kind(rng)
 }
 
-/// Writes figures whose ends or costs are cut, at each place.
+/// The figures with the first of their costs alone, as many as are asked for.
+fn with_costs(columns: &Columns, length: usize) -> Figures<'_> {
+    Figures {
+        costs: &columns.costs[..length],
+        ..columns.figures()
+    }
+}
+
+/// Writes figures whose ends are cut, at each place; and such whose costs are, in outputs of all
+/// lengths.
 pub fn cut_calls(c: &mut Comparison, columns: &Columns, rng: &mut Rng) -> Result<(), Difference> {
     let figures = columns.figures();
     for length in 0..columns.ends.len() {
         let ends = &columns.ends[..length];
-        let costs = &columns.costs[..length];
-        for figures in [Figures { ends, ..figures }, Figures { costs, ..figures }] {
-            write_in_any(c, known_kind(rng), figures, rng)?;
-        }
+        write_in_any(c, known_kind(rng), Figures { ends, ..figures }, rng)?;
+    }
+    for length in 0..columns.costs.len() {
+        write_in_each(c, known_kind(rng), with_costs(columns, length), rng)?;
+    }
+    Ok(())
+}
+
+/// Writes figures whose costs are cut, at each place.
+pub fn cost_cut_calls(
+    c: &mut Comparison,
+    columns: &Columns,
+    rng: &mut Rng,
+) -> Result<(), Difference> {
+    for length in 0..columns.costs.len() {
+        write_in_any(c, known_kind(rng), with_costs(columns, length), rng)?;
     }
     Ok(())
 }
@@ -83,6 +104,19 @@ fn column_calls(c: &mut Comparison, columns: &Columns, rng: &mut Rng) -> Result<
         ] {
             write_in_any(c, known_kind(rng), figures, rng)?;
         }
+    }
+    Ok(())
+}
+
+/// Writes in outputs of all `LENGTHS`.
+fn write_in_each(
+    c: &mut Comparison,
+    kind: u32,
+    figures: Figures,
+    rng: &mut Rng,
+) -> Result<(), Difference> {
+    for length in 0..LENGTHS.len() {
+        write(c, kind, figures, length, rng)?;
     }
     Ok(())
 }

@@ -18,7 +18,8 @@ pub struct Figures<'a> {
     pub ends: &'a [u8],
     /// The sum costs, one a link: there are as many links as sums.
     pub sums: &'a [i32],
-    /// The ceiling costs, c1 and c2 of each link. One that is missing is 0.
+    /// The ceiling costs, c1 and c2 of each link. One that is missing is 0 if its ceiling is
+    /// absent, and illegal if it is present.
     pub costs: &'a [i16],
 }
 
@@ -69,6 +70,7 @@ impl Figures<'_> {
         let mut checked = 0;
         for (ends, sum, costs) in self.links(costs) {
             check_link(stations, ceilings, ends, sum, costs)
+                .and_then(|()| self.check_costs_of(checked))
                 .map_err(|number| Refusal::at_link(checked, number))?;
             checked += 1;
         }
@@ -77,6 +79,16 @@ impl Figures<'_> {
             return Err(Refusal::at_link(checked, 7));
         }
         Ok(())
+    }
+
+    /// Gives the number of the refusal, if a link lacks the cost of a present ceiling.
+    fn check_costs_of(&self, link: u8) -> Result<(), u8> {
+        let first = 2 * usize::from(link);
+        let mut present = first..first + usize::from(self.ceilings);
+        match present.any(|entry| entry >= self.costs.len()) {
+            true => Err(8),
+            false => Ok(()),
+        }
     }
 
     /// The ceiling costs by link, 0 where they are missing.

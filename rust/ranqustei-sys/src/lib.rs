@@ -5,7 +5,7 @@
 #![allow(unsafe_code)]
 
 /// The version of what is declared here; [`ranqustei_version`] is the archive's own.
-pub const VERSION: u32 = 7;
+pub const VERSION: u32 = 8;
 
 /// The figures of a yard record that is written.
 #[repr(C)]

@@ -140,8 +140,9 @@ pub fn index_lookup(list: &[u8], index: &[u8], value: i16) -> Result<u16, Refusa
 ///
 /// # Errors
 /// 2 if the kind is neither the plain nor the counted yard record's; 3 to 8 for the figures, as a
-/// survey of them would be declined, 7 and 8 at the place of a link; 17 if `survey` has no room for
-/// the survey. `survey` then stays as it was.
+/// survey of them would be declined, 7 and 8 at the place of a link; 7 also for an end that is left
+/// out, and 8 for a left out cost of a present ceiling; 17 if `survey` has no room for the survey.
+/// `survey` then stays as it was.
 pub fn write_survey(kind: u32, figures: &Figures, survey: &mut [u8]) -> Result<(), Refusal> {
     let Figures {
         stations,

@@ -25,6 +25,13 @@
 /// let wrong = Figures { ends: &[0, 1, 1, 2], ..figures };
 /// let refusal = write_survey(YardRecord::Counted.kind(), &wrong, &mut survey).unwrap_err();
 /// assert_eq!((refusal.cause(), refusal.link()), (Cause::Ends, Some(1)));
+///
+/// // Link 1 has no cost for the ceiling; that it has none for the absent one does not matter.
+/// let short = Figures { costs: &[7, 0], ..figures };
+/// let refusal = write_survey(YardRecord::Counted.kind(), &short, &mut survey).unwrap_err();
+/// assert_eq!((refusal.cause(), refusal.link()), (Cause::Figures, Some(1)));
+/// let enough = Figures { costs: &[7, 0, 2], ..figures };
+/// write_survey(YardRecord::Counted.kind(), &enough, &mut survey)?;
 /// # Ok::<(), ranqustei::Refusal>(())
 /// ```
 #[derive(Clone, Copy, Debug)]
@@ -39,6 +46,7 @@ pub struct Figures<'a> {
     pub ends: &'a [u8],
     /// The sum cost of each link.
     pub sums: &'a [i32],
-    /// The costs of each link for both ceilings, 0 for an absent one. One that is left out is 0.
+    /// The costs of each link for both ceilings, 0 for an absent one. One that is left out is 0 for
+    /// an absent ceiling; for a present one the link is declined.
     pub costs: &'a [i16],
 }

@@ -38,7 +38,8 @@ pub enum Cause {
     Rank,
     /// 7: a link end is no station, or both ends are equal.
     Ends,
-    /// 8: a sum is outside -1,000,000 to 1,000,000, or an absent ceiling has a cost.
+    /// 8: a sum is outside -1,000,000 to 1,000,000, an absent ceiling has a cost, or the cost of a
+    /// present one is left out of the figures to be written.
     Figures,
     /// 9: the list buffer or the tree buffer is too short.
     Buffer,
@@ -130,7 +131,7 @@ impl Cause {
             }
             Cause::Figures => {
                 "has a sum outside -1,000,000 to 1,000,000, \
-                 or a cost for a ceiling that the yard does not have"
+                 a cost for a ceiling that the yard does not have, or none for one that it has"
             }
             Cause::Buffer => "the buffer is too short",
             Cause::Allowance => "the walk would solve more positions than the allowance",

@@ -5,6 +5,7 @@ use compare::index_damage::INDEX_DAMAGES;
 use compare::index_tally::{IndexTally, LIST_SORTS};
 use compare::kinds::Kind;
 use compare::list_damage::LIST_DAMAGES;
+use compare::missing_costs::{MissingTally, SHORT_SORTS};
 use compare::positions::{PositionTally, AFTER, BEFORE, POSITION_REASONS, POSITION_SORTS};
 use compare::ranks::{RANKS, TRIPLE_RANKS};
 use compare::records::{marks, COUNTING_RECORDS};
@@ -162,6 +163,7 @@ pub fn unreached_figures(total: &Tally) -> Vec<String> {
         missing.push("figures with every number of stations and of links".to_string());
     }
     missing.extend(unreached_lengths(tally));
+    missing.extend(unreached_short(&tally.missing));
     missing.extend(unreached_reasons(tally));
     missing.extend(unreached_order(tally));
     missing
@@ -177,11 +179,26 @@ fn unreached_lengths(tally: &WriteTally) -> Vec<String> {
             ("an output for the plain record", plain),
             ("an output for the counted record", counted),
             ("ends", tally.ends[i][reply]),
-            ("costs", tally.costs[i]),
+            ("costs", tally.costs[i][reply]),
+            ("costs that are enough", tally.costs[i][0]),
         ]
         .map(|(lent, count)| (format!("{lent}, {name}"), count))
     });
     lacking(due)
+}
+
+/// The short columns of costs that there were not, and the replies that none of them had.
+fn unreached_short(tally: &MissingTally) -> Vec<String> {
+    let sorts = SHORT_SORTS.iter().zip(tally.sorts);
+    let sorts = sorts.flat_map(|((name, due, _), counts)| {
+        let due = due.iter();
+        due.map(move |&ceilings| (format!("{name}, p = {ceilings}"), counts[ceilings]))
+    });
+    let lengths = [(
+        "40 links with every number of costs that is too low, for each number of ceilings".into(),
+        tally.has_all_lengths().into(),
+    )];
+    lacking(sorts.chain(lengths))
 }
 
 /// The reasons for which nothing was refused, or not on every link.

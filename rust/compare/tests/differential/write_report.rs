@@ -1,6 +1,7 @@
 //! The tables of what was written from figures, and of what was refused.
 
 use compare::figure_reasons::{LINK_REASONS, YARD_REASONS};
+use compare::missing_costs::{MissingTally, SHORT_SORTS};
 use compare::ranks::RANKS;
 use compare::records::marks;
 use compare::sums::SORTS;
@@ -12,6 +13,7 @@ use peer::records::WRITTEN_RECORDS;
 pub fn print_writes(total: &Tally) {
     print_legal(total);
     print_lengths(&total.writes);
+    print_missing(&total.writes.missing);
     print_unknown(&total.writes);
     print_reasons(&total.writes);
     print_order(&total.writes);
@@ -40,14 +42,33 @@ fn print_lengths(tally: &WriteTally) {
     let records =
         marks(WRITTEN_RECORDS).map(|mark| format!("output, {mark}: written | refused by 17"));
     let records = records.join(" | ");
-    println!("\n| length | {records} | ends: written | refused by 7 | costs: written |");
-    println!("|---|---|---|---|---|---|---|---|");
+    println!(
+        "\n| length | {records} | ends: written | refused by 7 | costs: written | refused by 8 |"
+    );
+    println!("|---|---|---|---|---|---|---|---|---|");
     for (i, (name, _)) in LENGTHS.iter().enumerate() {
         let counts = tally.outputs[i].as_flattened().iter();
-        let counts = counts.chain(&tally.ends[i]).chain([&tally.costs[i]]);
+        let counts = counts.chain(&tally.ends[i]).chain(&tally.costs[i]);
         let counts: Vec<String> = counts.map(u64::to_string).collect();
         println!("| {name} | {} |", counts.join(" | "));
     }
+}
+
+/// What was replied where costs were missing, by the number of ceilings.
+fn print_missing(tally: &MissingTally) {
+    println!("\n| costs missing | p = 0 | p = 1 | p = 2 |\n|---|---|---|---|");
+    for ((name, due, _), counts) in SHORT_SORTS.iter().zip(tally.sorts) {
+        let counts = (0..counts.len()).map(|ceilings| match due.contains(&ceilings) {
+            true => counts[ceilings].to_string(),
+            false => String::new(),
+        });
+        println!("| {name} | {} |", counts.collect::<Vec<_>>().join(" | "));
+    }
+    let lengths = tally.lengths().map(|count| count.to_string());
+    println!(
+        "| different lengths for 40 links | {} |",
+        lengths.join(" | ")
+    );
 }
 
 /// The kinds that are refused by 2.

@@ -163,7 +163,7 @@ pub const LINKS_TAKEN: [(&str, Taking); 9] = [
 ];
 
 /// Columns taken for others.
-pub const COLUMNS_TAKEN: [(&str, Taking); 9] = [
+pub const COLUMNS_TAKEN: [(&str, Taking); 14] = [
     (
         "as many links as the ends are for",
         Taking(|_, yard| yard.sums.resize(yard.ends.len() / 2, 0)),
@@ -180,11 +180,28 @@ pub const COLUMNS_TAKEN: [(&str, Taking); 9] = [
         }),
     ),
     (
+        "missing costs taken for 0",
+        Taking(|_, yard| fill_costs(yard, 0)),
+    ),
+    (
         "missing costs taken for 1",
+        Taking(|_, yard| fill_costs(yard, 1)),
+    ),
+    (
+        "a missing c2 taken for 0",
         Taking(|_, yard| {
-            let entries = yard.costs.len().max(2 * yard.sums.len());
-            yard.costs.resize(entries, 1);
+            if yard.costs.len() % 2 == 1 {
+                yard.costs.push(0);
+            }
         }),
+    ),
+    (
+        "missing costs refused without ceilings",
+        Taking(|_, yard| refuse_missing_costs(yard, 0)),
+    ),
+    (
+        "a missing c2 refused under one ceiling",
+        Taking(|_, yard| refuse_missing_costs(yard, 1)),
     ),
     (
         "longer ends refused",
@@ -196,6 +213,14 @@ pub const COLUMNS_TAKEN: [(&str, Taking); 9] = [
     ),
     (
         "longer costs taken for 0",
+        Taking(|_, yard| {
+            if yard.costs.len() > 2 * yard.sums.len() {
+                yard.costs.fill(0);
+            }
+        }),
+    ),
+    (
+        "longer costs refused",
         Taking(|_, yard| {
             if yard.costs.len() > 2 * yard.sums.len() {
                 yard.costs.clear();
@@ -233,6 +258,20 @@ fn replace<T: PartialEq>(value: &mut T, before: T, after: T) {
 fn is_refused_by(number: u8, columns: &Columns) -> bool {
     let reply = peer::write_survey(kind_of(PLAIN), &columns.figures(), &mut []);
     reply.is_err_and(|refusal| refusal.number == number)
+}
+
+/// Puts a cost in the place of each that is missing.
+pub fn fill_costs(columns: &mut Columns, cost: i16) {
+    let entries = columns.costs.len().max(2 * columns.sums.len());
+    columns.costs.resize(entries, cost);
+}
+
+/// Makes the first link that lacks a cost, if only for an absent ceiling, one that is refused by 8.
+fn refuse_missing_costs(columns: &mut Columns, ceilings: u8) {
+    let link = columns.costs.len() / 2;
+    if let (true, Some(sum)) = (columns.ceilings == ceilings, columns.sums.get_mut(link)) {
+        *sum = i32::MAX;
+    }
 }
 
 fn in_sums(columns: &mut Columns, taken: fn(i32) -> i32) {

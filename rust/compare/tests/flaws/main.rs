@@ -2,6 +2,7 @@
 //! that the proved planner is held to.
 
 mod any_yard;
+mod cost_refusals;
 mod figures;
 mod indexes;
 mod link_counts;

@@ -1,5 +1,6 @@
 //! Flaws of written surveys, told by the figures that the proved planner is held to.
 
+use crate::cost_refusals::COST_REFUSALS;
 use crate::figures::{Taking, COLUMNS_TAKEN, KINDS_TAKEN, LINKS_TAKEN, YARDS_TAKEN};
 use crate::outputs::{Spoiling, TouchedBy, SPOILS, TOUCHES};
 use crate::write_refusals::{Refusing, WRITE_REFUSALS};
@@ -87,4 +88,5 @@ fn flaws_of_columns_are_noticed() {
 #[test]
 fn flawed_refusals_are_noticed() {
     assert_each_noticed(is_noticed, &WRITE_REFUSALS);
+    assert_each_noticed(is_noticed, &COST_REFUSALS);
 }

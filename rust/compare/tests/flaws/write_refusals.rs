@@ -1,6 +1,6 @@
 //! Planners that refuse figures rightly, but by another number or at another place.
 
-use compare::figure_reasons::LINK_REASONS;
+use compare::figure_reasons::breaks;
 use compare::planner::Planner;
 use compare::records::kind_of;
 use compare::write_rules::Request;
@@ -74,7 +74,7 @@ pub const WRITE_REFUSALS: [(&str, Refusing); 12] = [
     (
         "7 after 8",
         Refusing(|request, _, refusal| match refusal.number {
-            7 if breaks(8, request, refusal.place) => Refusal {
+            7 if breaks_at(refusal.place, 8, request) => Refusal {
                 number: 8,
                 ..refusal
             },
@@ -87,7 +87,7 @@ pub const WRITE_REFUSALS: [(&str, Refusing); 12] = [
             let mut later = refusal.place..=request.figures.sums.len() as u8;
             match refusal.number {
                 8 => {
-                    let place = later.find(|&place| breaks(7, request, place));
+                    let place = later.find(|&place| breaks_at(place, 7, request));
                     place.map_or(refusal, |place| Refusal { number: 7, place })
                 }
                 _ => refusal,
@@ -125,14 +125,12 @@ pub const WRITE_REFUSALS: [(&str, Refusing); 12] = [
 ];
 
 /// The refusal of figures by a number of the reader, if there is one.
-fn refusal_of(figures: &Figures) -> Option<Refusal> {
+pub fn refusal_of(figures: &Figures) -> Option<Refusal> {
     let refusal = peer::write_survey(kind_of(PLAIN), figures, &mut []).err();
     refusal.filter(|refusal| refusal.number != 17)
 }
 
-/// Whether the link of a place has a reason for a number.
-fn breaks(number: u8, request: &Request, place: u8) -> bool {
-    let link = usize::from(place) - 1;
-    let mut reasons = LINK_REASONS.iter().filter(|reason| reason.1 == number);
-    reasons.any(|(_, _, has)| has(&request.figures, link))
+/// Whether the link of a place breaks a rule of some number.
+fn breaks_at(place: u8, number: u8, request: &Request) -> bool {
+    breaks(number, &request.figures, usize::from(place) - 1)
 }

@@ -1,4 +1,5 @@
-//! Random figures: they are written if and only if a survey of them is accepted.
+//! Random figures: they are written if and only if a survey of them is accepted and no cost of a
+//! present ceiling is missing.
 
 use crate::random::Random;
 use crate::samples::told;
@@ -130,4 +131,54 @@ fn figures_are_declined_as_their_surveys_are() {
         accepted += usize::from(plain);
     }
     assert!((6_000..14_000).contains(&accepted), "{accepted}");
+}
+
+/// The refusal at the first link that lacks the cost of a present ceiling. More than 40 links are
+/// declined before it.
+fn refusal_for_costs(figures: &Figures) -> Option<(u8, u8)> {
+    let present = usize::from(figures.ceilings).min(2);
+    let lacks = |&link: &usize| {
+        let mut entries = 2 * link..2 * link + present;
+        entries.any(|entry| entry >= figures.costs.len())
+    };
+    let link = (0..figures.sums.len().min(40)).find(lacks)?;
+    Some((8, link as u8 + 1))
+}
+
+/// Holds what is written from figures without some of their costs against what a survey with 0 for
+/// these is read as; gives the refusal.
+fn check_short(kind: u32, whole: &Figures, length: usize) -> Option<(u8, u8)> {
+    let mut filled = whole.costs.to_vec();
+    filled[length..].fill(0);
+    let costs = &whole.costs[..length];
+    let short = Figures { costs, ..*whole };
+    let costs = &filled;
+    let survey = encoded(kind, &Figures { costs, ..*whole });
+    let read = Survey::new(survey.clone()).err().map(told);
+    let refusals = read.into_iter().chain(refusal_for_costs(&short));
+    let first = refusals.min_by_key(|&(number, place)| (place, number));
+    let due = first.map_or(Ok(survey.clone()), Err);
+    assert_eq!(written(kind, &short, survey.len()), due);
+    first
+}
+
+#[test]
+fn figures_without_some_costs() {
+    let mut random = Random(11);
+    let mut counts = [0; 3];
+    for round in 0..20_000 {
+        let mut draft = Draft::legal(&mut random);
+        for _ in 0..round % 3 {
+            draft.change(&mut random);
+        }
+        let length = random.below(draft.costs.len() + 1);
+        let [plain, counted] = KINDS.map(|kind| check_short(kind, &draft.figures(), length));
+        assert_eq!(plain, counted);
+        counts[match plain {
+            None => 0,
+            Some((8, _)) => 1,
+            Some(_) => 2,
+        }] += 1;
+    }
+    assert!(counts.iter().all(|&count| count > 2_000), "{counts:?}");
 }

@@ -217,7 +217,7 @@ fn numbers_of_links() {
 }
 
 #[test]
-fn columns_of_other_lengths() {
+fn ends_of_other_lengths() {
     let a = figures_a();
     for length in 0..6 {
         let short = Figures {
@@ -227,24 +227,90 @@ fn columns_of_other_lengths() {
         let place = length as u8 / 2 + 1;
         assert_eq!(declined(&short), Some((7, place)));
     }
-    for length in 0..9 {
-        let costs = [7, 0, 2, 0, 9, 0, 5, 5, 5];
-        let other = Figures {
-            ends: &[0, 1, 1, 2, 0, 2, 9, 9, 9],
-            costs: &costs[..length],
-            ..a
-        };
-        let mut filled = costs;
-        filled[length..].fill(0);
-        let whole = Figures {
-            costs: &filled,
-            ..a
-        };
-        for kind in KINDS {
-            let survey = encoded(kind, &whole);
-            assert_eq!(written(kind, &other, survey.len()), Ok(survey));
-        }
+    let longer = Figures {
+        ends: &[0, 1, 1, 2, 0, 2, 9, 9, 9],
+        ..a
+    };
+    assert_eq!(written(PLAIN, &longer, 42), Ok(encoded(PLAIN, &a)));
+}
+
+/// The figures of survey A with so many ceilings; for absent ones the costs are 0.
+fn with_ceilings(ceilings: u8) -> Figures<'static> {
+    let (ranks, costs) = match ceilings {
+        0 => ([0, 0], &[0; 6]),
+        1 => ([1, 0], &[7, 0, 2, 0, 9, 0]),
+        _ => ([1, 1], &[7, 1, 2, 6, 9, 3]),
+    };
+    Figures {
+        ceilings,
+        ranks,
+        costs,
+        ..figures_a()
     }
+}
+
+/// The place of the first link that lacks the cost of a present ceiling, by the number of ceilings
+/// and that of the costs.
+const LACKING: [[Option<u8>; 7]; 3] = [
+    [None; 7],
+    [Some(1), Some(2), Some(2), Some(3), Some(3), None, None],
+    [Some(1), Some(1), Some(2), Some(2), Some(3), Some(3), None],
+];
+
+#[test]
+fn costs_of_other_lengths() {
+    for (ceilings, places) in (0..).zip(LACKING) {
+        let whole = with_ceilings(ceilings);
+        for (length, place) in places.into_iter().enumerate() {
+            let costs = &whole.costs[..length];
+            let short = Figures { costs, ..whole };
+            if place.is_some() {
+                assert_eq!(declined(&short), place.map(|place| (8, place)));
+                continue;
+            }
+            for kind in KINDS {
+                let survey = encoded(kind, &whole);
+                assert_eq!(written(kind, &short, survey.len()), Ok(survey));
+                assert_eq!(written(kind, &short, 41), Err((17, 0)));
+            }
+        }
+        let costs = [whole.costs, &[5; 3]].concat();
+        let longer = Figures {
+            costs: &costs,
+            ..whole
+        };
+        assert_eq!(written(PLAIN, &longer, 42), Ok(encoded(PLAIN, &whole)));
+    }
+}
+
+/// A cost that is missing at link 1, beside faults of that link, of the one before and of the one
+/// after.
+#[test]
+fn a_missing_cost_beside_other_faults() {
+    let short = Figures {
+        costs: &[7, 0],
+        ..figures_a()
+    };
+    for (ends, sums, refusal) in [
+        ([0, 1, 1, 1, 0, 2], [4, 3, 1], (7, 2)),
+        ([0, 0, 1, 2, 0, 2], [4, 3, 1], (7, 1)),
+        ([0, 1, 1, 2, 0, 2], [2_000_000, 3, 1], (8, 1)),
+        ([0, 1, 1, 2, 2, 2], [4, 3, 2_000_000], (8, 2)),
+        ([0, 1, 1, 2, 0, 2], [4, 2_000_000, 1], (8, 2)),
+    ] {
+        let figures = Figures {
+            ends: &ends,
+            sums: &sums,
+            ..short
+        };
+        assert_eq!(declined(&figures), Some(refusal));
+    }
+    let bad_rank = Figures {
+        ranks: [3, 0],
+        ..short
+    };
+    assert_eq!(declined(&bad_rank), Some((6, 0)));
+    assert_eq!(written(RESTING, &short, 42), Err((2, 0)));
 }
 
 #[test]

@@ -42,7 +42,8 @@ flat-best s given tree left a h =
     record {
       answers = λ fine room.
           let w = h .answers fine room in
-          record { either = w .either; found = w .found; costs = λ e. flat-costs (networkOf s) (take (treeSize (networkOf s)) left) a (w .costs e); none = w .none };
+          let links = take (treeSize (networkOf s)) left in
+          record { either = w .either; found = w .found; costs = λ e. flat-costs (networkOf s) links a (w .costs e); none = w .none };
     }
 
 -- and of the judge

@@ -17,7 +17,8 @@ use Rattle.network.specs.Survey.{networkOf}
 use Rattle.network.specs.PlanList.{costsOf}
 use Rattle.network.specs.Checked.{refuseIf, _orElse_}
 use Rattle.network.specs.Refusals.{checkedOf}
-use Rattle.network.specs.Calls.{Reply, asked, askedChecked, bestTree, costValues, drawnChecked, ifFine, isNone, judged, linksOf, reply, treeAfter, treeWith}
+use Rattle.network.specs.Calls.{Reply, asked, askedChecked, bestTree, costValues, drawnChecked, ifFine}
+use Rattle.network.specs.Calls.{isNone, judged, linksOf, reply, treeAfter, treeWith}
 use Rattle.network.specs.Meaning.{Best, best-found, best-missing, isTree-iff, tree-size}
 use Rattle.network.specs.NetworkFine.{survey-sound}
 use Rattle.network.specs.Network.{Network}

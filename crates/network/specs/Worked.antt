@@ -103,140 +103,170 @@ Right (writes kind y ends sums costs output r after) =
     let f = figuresFrom y ends sums costs in (writeStatus kind f (length output) ≡ r) × (writeAfter kind f output ≡ after)
 Right (prints input output) = printed input ≡ output
 
--- P1 to P12, in their order; P1 is two rows (the list in the 46 bytes that the buffer needs, and the whole output), and P12 is two. Then both
--- ranks may be 2: P13, P14 whose tree has one link above both bounds, P15 whose tree has two, one above each, and P16 in three rows. Then sum costs
--- may be negative: P17 in two rows, P18 to P20, and P21 on the sum costs that pass. Then yard records may write their link count: P22 in two rows,
--- P23 in three on a survey that is cut off, P24 on where 15 stands among the numbers, P25 on lengths and marks. Then plan lists
--- have an index: P26 in four rows on that of A's list, P27 in four on signs and ties, P28 in two without ceilings, P29 in eight on equal sums, on
--- indexes and lists that are declined, and on the empty list. Then surveys are written: P30 in two rows, A with either yard record; P31 in three, sum
--- costs below 0, a yard without links, and ceiling costs below 0; P32 in seven on the order of the numbers; P33 in seven on columns and an output that
--- are too short. Then stations may rest: P34 in six rows on A with a station that rests; P35 in two, A with none at rest; P36 in two on one working station,
--- P37 on no usable link, P38 on bits of both kinds in each of the three bytes; P39 in seven on the bits and where 18 stands among the numbers, P40 in four on
--- unusable links that are tested all the same and on ranks by working stations. Then there may be three ceilings: P41 in two rows on A with second and
--- third costs, P42 in two with ranks above 1, P43 in four on the third bound and the third rank, P44 in three on the ranks that pass; P45 in eleven on
--- p, marks, lengths, the link count and the writer; P46 in nine on M at 1,600, at 1,610 and above, and where 19 stands among the numbers; P47 in seven
--- on fetching from such lists, P48 in three on their index, which does not look at y3
-pub table : List Row
+-- A yard worked through: its P number, and its rows.
+pub record Work : Type 0 where
+  pub number : ℕ
+  pub rows : List Row
+
+-- P n with these rows
+abbrev P : ℕ → List Row → Work
+P n rows = record { number = n; rows = rows }
+
+-- P1 to P48, in their order, each with its rows. P1 to P12 are document 01's; in P13 to P16 both ranks may be 2, P14's tree has one link above both
+-- bounds and P15's two, one above each; in P17 to P21 sum costs may be negative; P22 to P25 have a link count, P24 on where 15 stands among the
+-- numbers and P25 on lengths and marks; P26 to P29 are on the index, with signs and ties, without ceilings, and where it is declined; P30 to P33 are
+-- on writing, P32 on the order of the numbers and P33 on columns and an output that are too short; in P34 to P40 stations may rest, P38 with bits of
+-- both kinds in each of the three bytes, P39 on where 18 stands; in P41 to P48 there may be three ceilings, P44 on the ranks that pass, P45 on p,
+-- marks and lengths, P46 on M and where 19 stands, P47 on fetching and P48 on the index
+pub table : List Work
 table =
+    P 1 (
     lists (A 1) (two (two 1 2) (two 0 1)) 3 46 listA
-    ∷ prints (A 1) outputA
-    ∷ lists (A 2) (one (two 1 2)) 1 46 (list 1 1 2 1 (one (plan 4 2 0 (two 1 2))))
-    ∷ lists (A₂ 1 1) (two 1 2 ∷ two 0 2 ∷ two 0 1 ∷ []) 6 118 (list 3 6 2 2 (plan 4 9 6 (two 1 2) ∷ plan 5 9 3 (two 0 2) ∷ plan 7 7 6 (two 0 1) ∷ []))
-    ∷ lists (pair 3 8) (one (one 0)) 1 32 (list 1 1 1 1 (one (plan 5 3 0 (one 0))))
-    ∷ lists (pair 8 3) (one (one 1)) 2 32 (list 1 2 1 1 (one (plan 5 3 0 (one 1))))
-    ∷ lists single (one []) 1 20 (list 1 1 0 0 (one (plan 0 0 0 [])))
-    ∷ lists bare [] 0 10 (list 0 0 1 1 [])
-    ∷ asks (A 1) (three (pos 8) (pos 0) (pos 0)) (two 0xFF 0xFF) (costs (pos 7) (pos 7) (pos 0)) (two 0 1)
-    ∷ asks (A 1) (three (pos 6) (pos 0) (pos 0)) (two 0xFF 0xFF) (refused 14 0) (two 0xFF 0xFF)
-    ∷ draws (A 1) (two 0 2) (costs (pos 5) (pos 9) (pos 0))
-    ∷ ranks 2 (pos 5 ∷ negsuc 2 ∷ pos 5 ∷ []) (pos 5)
-    ∷ allows (A 1) 3 46 (replied 0 0) (listA ++ replicate 12 0)
-    ∷ allows (A 1) 2 46 (replied 10 0) (replicate 46 0)
-    ∷ lists (A₂ 2 2) (two 1 2 ∷ two 0 2 ∷ two 0 1 ∷ []) 3 118 (list 3 3 2 2 (plan 4 2 3 (two 1 2) ∷ plan 5 7 1 (two 0 2) ∷ plan 7 2 1 (two 0 1) ∷ []))
-    ∷ asks (A₂ 2 2) (three (pos 8) (pos 2) (pos 0)) (two 0xFF 0xFF) (costs (pos 5) (pos 7) (pos 1)) (two 0 2)
-    ∷ asks (A₂ 2 2) (three (pos 8) (pos 3) (pos 0)) (two 0xFF 0xFF) (costs (pos 4) (pos 2) (pos 3)) (two 1 2)
-    ∷ accepts 2 2 (one (two 1 1))
+    ∷ prints (A 1) outputA ∷ [])
+    ∷ P 2 (one (lists (A 2) (one (two 1 2)) 1 46 (list 1 1 2 1 (one (plan 4 2 0 (two 1 2))))))
+    ∷ P 3 (one (lists (A₂ 1 1) (two 1 2 ∷ two 0 2 ∷ two 0 1 ∷ []) 6 118
+    (list 3 6 2 2 (plan 4 9 6 (two 1 2) ∷ plan 5 9 3 (two 0 2) ∷ plan 7 7 6 (two 0 1) ∷ []))))
+    ∷ P 4 (one (lists (pair 3 8) (one (one 0)) 1 32 (list 1 1 1 1 (one (plan 5 3 0 (one 0))))))
+    ∷ P 5 (one (lists (pair 8 3) (one (one 1)) 2 32 (list 1 2 1 1 (one (plan 5 3 0 (one 1))))))
+    ∷ P 6 (one (lists single (one []) 1 20 (list 1 1 0 0 (one (plan 0 0 0 [])))))
+    ∷ P 7 (one (lists bare [] 0 10 (list 0 0 1 1 [])))
+    ∷ P 8 (one (asks (A 1) (three (pos 8) (pos 0) (pos 0)) (two 0xFF 0xFF) (costs (pos 7) (pos 7) (pos 0)) (two 0 1)))
+    ∷ P 9 (one (asks (A 1) (three (pos 6) (pos 0) (pos 0)) (two 0xFF 0xFF) (refused 14 0) (two 0xFF 0xFF)))
+    ∷ P 10 (one (draws (A 1) (two 0 2) (costs (pos 5) (pos 9) (pos 0))))
+    ∷ P 11 (one (ranks 2 (pos 5 ∷ negsuc 2 ∷ pos 5 ∷ []) (pos 5)))
+    ∷ P 12 (
+    allows (A 1) 3 46 (replied 0 0) (listA ++ replicate 12 0)
+    ∷ allows (A 1) 2 46 (replied 10 0) (replicate 46 0) ∷ [])
+    ∷ P 13 (one (lists (A₂ 2 2) (two 1 2 ∷ two 0 2 ∷ two 0 1 ∷ []) 3 118
+    (list 3 3 2 2 (plan 4 2 3 (two 1 2) ∷ plan 5 7 1 (two 0 2) ∷ plan 7 2 1 (two 0 1) ∷ []))))
+    ∷ P 14 (one (asks (A₂ 2 2) (three (pos 8) (pos 2) (pos 0)) (two 0xFF 0xFF) (costs (pos 5) (pos 7) (pos 1)) (two 0 2)))
+    ∷ P 15 (one (asks (A₂ 2 2) (three (pos 8) (pos 3) (pos 0)) (two 0xFF 0xFF) (costs (pos 4) (pos 2) (pos 3)) (two 1 2)))
+    ∷ P 16 (
+    accepts 2 2 (one (two 1 1))
     ∷ accepts 2 3 (two 1 1 ∷ two 1 2 ∷ two 2 1 ∷ two 2 2 ∷ [])
-    ∷ accepts 2 4 (two 1 1 ∷ two 1 2 ∷ two 1 3 ∷ two 2 1 ∷ two 2 2 ∷ two 3 1 ∷ [])
-    ∷ lists solar (two (two 0 2) (two 1 2)) 3 46 (list 2 3 2 1 (two (plan (minus 2) 9 0 (two 0 2)) (plan 5 7 0 (two 1 2))))
-    ∷ prints solar outputSolar
-    ∷ lists panels (one (one 1)) 2 32 (list 1 2 1 1 (one (plan (minus 5) 3 0 (one 1))))
-    ∷ asks sunny (three (pos 5) (pos 0) (pos 0)) (two 0xFF 0xFF) (costs (negsuc 6) (pos 2) (pos 0)) (two 0 1)
-    ∷ draws solar (two 0 1) (costs (negsuc 0) (pos 9) (pos 0))
-    ∷ prices sumBits
+    ∷ accepts 2 4 (two 1 1 ∷ two 1 2 ∷ two 1 3 ∷ two 2 1 ∷ two 2 2 ∷ two 3 1 ∷ []) ∷ [])
+    ∷ P 17 (
+    lists solar (two (two 0 2) (two 1 2)) 3 46 (list 2 3 2 1 (two (plan (minus 2) 9 0 (two 0 2)) (plan 5 7 0 (two 1 2))))
+    ∷ prints solar outputSolar ∷ [])
+    ∷ P 18 (one (lists panels (one (one 1)) 2 32 (list 1 2 1 1 (one (plan (minus 5) 3 0 (one 1))))))
+    ∷ P 19 (one (asks sunny (three (pos 5) (pos 0) (pos 0)) (two 0xFF 0xFF) (costs (negsuc 6) (pos 2) (pos 0)) (two 0 1)))
+    ∷ P 20 (one (draws solar (two 0 1) (costs (negsuc 0) (pos 9) (pos 0))))
+    ∷ P 21 (one (prices sumBits
     (negsuc 2_147_483_647 ∷ negsuc 1_000_000 ∷ negsuc 999_999 ∷ negsuc 0 ∷ pos 0 ∷ pos 1_000_000 ∷ pos 1_000_001 ∷ pos 2_147_483_647 ∷ [])
-    (negsuc 999_999 ∷ negsuc 0 ∷ pos 0 ∷ pos 1_000_000 ∷ [])
-    ∷ lists countedA (two (two 1 2) (two 0 1)) 3 46 listA
-    ∷ prints countedA outputA
-    ∷ allows cutA 3 46 (replied 15 0) (replicate 46 0xFF)
+    (negsuc 999_999 ∷ negsuc 0 ∷ pos 0 ∷ pos 1_000_000 ∷ [])))
+    ∷ P 22 (
+    lists countedA (two (two 1 2) (two 0 1)) 3 46 listA
+    ∷ prints countedA outputA ∷ [])
+    ∷ P 23 (
+    allows cutA 3 46 (replied 15 0) (replicate 46 0xFF)
     ∷ asks cutA (three (pos 8) (pos 0) (pos 0)) (two 0xFF 0xFF) (refused 15 0) (two 0xFF 0xFF)
-    ∷ draws cutA (two 0 1) (refused 15 0)
-    ∷ checks (tallied 3 1 1 0 4 linksA) (replied 15 0)
+    ∷ draws cutA (two 0 1) (refused 15 0) ∷ [])
+    ∷ P 24 (
+    checks (tallied 3 1 1 0 4 linksA) (replied 15 0)
     ∷ checks (tallied 3 1 1 0 2 linksA) (replied 15 0)
     ∷ checks (tallied 25 1 1 0 4 linksA) (replied 3 0)
     ∷ checks (tallied 3 1 1 0 40 links41) (replied 4 0)
     ∷ checks (tallied 3 3 1 0 4 linksA) (replied 15 0)
-    ∷ checks (tallied 3 3 1 0 3 linksA) (replied 5 0)
-    ∷ checks (tallied 1 0 0 0 0 []) (replied 0 0)
+    ∷ checks (tallied 3 3 1 0 3 linksA) (replied 5 0) ∷ [])
+    ∷ P 25 (
+    checks (tallied 1 0 0 0 0 []) (replied 0 0)
     ∷ checks (take 6 countedA) (replied 1 0)
     ∷ checks (take 1 countedA) (replied 1 0)
     ∷ checks (0x59 ∷ 0x48 ∷ 3 ∷ 1 ∷ 1 ∷ 0 ∷ []) (replied 2 0)
-    ∷ checks (0x59 ∷ 0x48 ∷ 3 ∷ 1 ∷ 1 ∷ 0 ∷ 0 ∷ []) (replied 1 0)
-    ∷ builds listA (replicate 4 0xFF) (replied 0 0) (entries (two 1 0))
+    ∷ checks (0x59 ∷ 0x48 ∷ 3 ∷ 1 ∷ 1 ∷ 0 ∷ 0 ∷ []) (replied 1 0) ∷ [])
+    ∷ P 26 (
+    builds listA (replicate 4 0xFF) (replied 0 0) (entries (two 1 0))
     ∷ looks listA (entries (two 1 0)) (pos 9) (looked 0)
     ∷ looks listA (entries (two 1 0)) (pos 8) (looked 1)
-    ∷ looks listA (entries (two 1 0)) (pos 6) (refused 13 0)
-    ∷ builds (mixed 2) (replicate 12 0xFF) (replied 0 0) (entries (1 ∷ 2 ∷ 3 ∷ 0 ∷ 4 ∷ []) ++ two 0xFF 0xFF)
+    ∷ looks listA (entries (two 1 0)) (pos 6) (refused 13 0) ∷ [])
+    ∷ P 27 (
+    builds (mixed 2) (replicate 12 0xFF) (replied 0 0) (entries (1 ∷ 2 ∷ 3 ∷ 0 ∷ 4 ∷ []) ++ two 0xFF 0xFF)
     ∷ looks (mixed 2) (entries (1 ∷ 2 ∷ 3 ∷ 0 ∷ 4 ∷ []) ++ two 0xFF 0xFF) (pos 3) (looked 2)
     ∷ looks (mixed 2) (entries (1 ∷ 2 ∷ 3 ∷ 0 ∷ 4 ∷ [])) (pos 2) (looked 1)
-    ∷ looks (mixed 2) (entries (1 ∷ 2 ∷ 3 ∷ 0 ∷ 4 ∷ [])) (negsuc 2) (refused 13 0)
-    ∷ builds (mixed 0) (replicate 10 0xFF) (replied 0 0) (entries (2 ∷ 0 ∷ 1 ∷ 3 ∷ 4 ∷ []))
-    ∷ looks (mixed 0) (entries (2 ∷ 0 ∷ 1 ∷ 3 ∷ 4 ∷ [])) (negsuc 32_767) (looked 2)
-    ∷ looks tied (entries (two 1 0)) (pos 3) (looked 0)
+    ∷ looks (mixed 2) (entries (1 ∷ 2 ∷ 3 ∷ 0 ∷ 4 ∷ [])) (negsuc 2) (refused 13 0) ∷ [])
+    ∷ P 28 (
+    builds (mixed 0) (replicate 10 0xFF) (replied 0 0) (entries (2 ∷ 0 ∷ 1 ∷ 3 ∷ 4 ∷ []))
+    ∷ looks (mixed 0) (entries (2 ∷ 0 ∷ 1 ∷ 3 ∷ 4 ∷ [])) (negsuc 32_767) (looked 2) ∷ [])
+    ∷ P 29 (
+    looks tied (entries (two 1 0)) (pos 3) (looked 0)
     ∷ looks tied (entries (two 0 1)) (pos 3) (refused 12 0)
     ∷ looks tied (entries (two 1 1)) (pos 3) (refused 12 0)
     ∷ looks tied (take 3 (entries (two 1 0))) (pos 3) (refused 16 0)
     ∷ builds tied (replicate 3 0xFF) (replied 16 0) (replicate 3 0xFF)
     ∷ builds unmarked (replicate 3 0xFF) (replied 12 0) (replicate 3 0xFF)
     ∷ builds (list 0 0 0 1 []) [] (replied 0 0) []
-    ∷ looks (list 0 0 0 1 []) [] (pos 3) (refused 13 0)
-    ∷ writes 0x5945 (figures 3 1 1 0) endsA sumsA costsA (replicate 46 0xFF) (replied 0 0) (countedA ++ replicate 3 0xFF)
-    ∷ writes 0x5944 (figures 3 1 1 0) endsA sumsA costsA output42 (replied 0 0) (A 1)
-    ∷ writes 0x5944 (figures 3 1 2 0) endsA (negsuc 3 ∷ negsuc 2 ∷ negsuc 0 ∷ []) costsA output42 (replied 0 0) sunny
+    ∷ looks (list 0 0 0 1 []) [] (pos 3) (refused 13 0) ∷ [])
+    ∷ P 30 (
+    writes 0x5945 (figures 3 1 1 0) endsA sumsA costsA (replicate 46 0xFF) (replied 0 0) (countedA ++ replicate 3 0xFF)
+    ∷ writes 0x5944 (figures 3 1 1 0) endsA sumsA costsA output42 (replied 0 0) (A 1) ∷ [])
+    ∷ P 31 (
+    writes 0x5944 (figures 3 1 2 0) endsA (negsuc 3 ∷ negsuc 2 ∷ negsuc 0 ∷ []) costsA output42 (replied 0 0) sunny
     ∷ writes 0x5945 (figures 1 0 0 0) [] [] [] (replicate 7 0xFF) (replied 0 0) (tallied 1 0 0 0 0 [])
     ∷ writes 0x5944 (figures 2 2 1 1) (two 1 0) (one (pos 5)) (two (negsuc 32_767) (negsuc 0)) (replicate 18 0xFF) (replied 0 0)
-    (yard 2 2 1 1 (one (link 1 0 5 0x8000 0xFFFF)))
-    ∷ writes 0x5946 (figures 25 1 1 0) endsA sumsA costsA output42 (replied 2 0) output42
+    (yard 2 2 1 1 (one (link 1 0 5 0x8000 0xFFFF))) ∷ [])
+    ∷ P 32 (
+    writes 0x5946 (figures 25 1 1 0) endsA sumsA costsA output42 (replied 2 0) output42
     ∷ writes 0x5944 (figures 25 1 1 0) endsA (replicate 41 (pos 1)) costsA output42 (replied 3 0) output42
     ∷ writes 0x5944 (figures 3 3 1 0) endsA (replicate 41 (pos 1)) costsA output42 (replied 4 0) output42
     ∷ writes 0x5944 (figures 3 3 4 0) endsA sumsA costsA output42 (replied 5 0) output42
     ∷ writes 0x5944 (figures 3 1 3 0) (two 0 0) (one (pos 4)) (two (pos 7) (pos 0)) output42 (replied 6 0) output42
     ∷ writes 0x5944 (figures 3 1 1 0) (0 ∷ 1 ∷ 1 ∷ 3 ∷ []) (two (pos 4) (pos 1_000_001)) costsA output42 (replied 7 2) output42
-    ∷ writes 0x5944 (figures 3 1 1 0) (0 ∷ 1 ∷ 1 ∷ 1 ∷ []) (two (pos 4) (pos 3)) (two (pos 7) (pos 1)) output42 (replied 8 1) output42
-    ∷ writes 0x5944 (figures 3 1 1 0) (take 5 endsA) sumsA costsA (take 41 output42) (replied 7 3) (take 41 output42)
+    ∷ writes 0x5944 (figures 3 1 1 0) (0 ∷ 1 ∷ 1 ∷ 1 ∷ []) (two (pos 4) (pos 3)) (two (pos 7) (pos 1)) output42 (replied 8 1) output42 ∷ [])
+    ∷ P 33 (
+    writes 0x5944 (figures 3 1 1 0) (take 5 endsA) sumsA costsA (take 41 output42) (replied 7 3) (take 41 output42)
     ∷ writes 0x5944 (figures 2 0 0 0) (two 0 1) (one (pos 5)) [] (replicate 18 0xFF) (replied 0 0) (yard 2 0 0 0 (one (link 0 1 5 0 0)))
     ∷ writes 0x5944 (figures 3 1 1 0) endsA sumsA (take 5 costsA) output42 (replied 0 0) (A 1)
     ∷ writes 0x5944 (figures 3 1 1 0) endsA sumsA (take 4 costsA) output42 (replied 8 3) output42
     ∷ writes 0x5944 (figures 2 2 1 1) (two 1 0) (one (pos 5)) (one (negsuc 32_767)) (replicate 18 0xFF) (replied 8 1) (replicate 18 0xFF)
     ∷ writes 0x5944 (figures 3 1 1 0) (take 5 endsA) sumsA (take 4 costsA) output42 (replied 7 3) output42
-    ∷ writes 0x5944 (figures 3 1 1 0) endsA sumsA costsA (take 41 output42) (replied 17 0) (take 41 output42)
-    ∷ lists (winter 1) (two (two 2 3) (two 0 2)) 3 46 listWinter
+    ∷ writes 0x5944 (figures 3 1 1 0) endsA sumsA costsA (take 41 output42) (replied 17 0) (take 41 output42) ∷ [])
+    ∷ P 34 (
+    lists (winter 1) (two (two 2 3) (two 0 2)) 3 46 listWinter
     ∷ prints (winter 1) outputWinter
     ∷ asks (winter 1) (three (pos 8) (pos 0) (pos 0)) (replicate 3 0xFF) (costs (pos 7) (pos 7) (pos 0)) (0 ∷ 2 ∷ 0xFF ∷ [])
     ∷ asks (winter 1) (three (pos 8) (pos 0) (pos 0)) (one 0xFF) (refused 9 0) (one 0xFF)
     ∷ draws (winter 1) (two 0 3) (costs (pos 5) (pos 9) (pos 0))
-    ∷ draws (winter 1) (two 1 2) (refused 11 0)
-    ∷ lists (resting 3 1 1 0 3 0 linksA) (two (two 1 2) (two 0 1)) 3 46 listA
-    ∷ prints (resting 3 1 1 0 3 0 linksA) outputA
-    ∷ lists (resting 2 0 0 0 1 1 (one (link 0 1 5 0 0))) (one []) 1 20 (list 1 1 0 0 (one (plan 0 0 0 [])))
-    ∷ checks (resting 2 1 1 0 1 1 (one (link 0 1 5 3 0))) (replied 6 0)
-    ∷ lists (resting 3 1 1 0 2 2 (two (link 0 1 4 7 0) (link 1 2 3 2 0))) [] 0 10 (list 0 0 1 1 [])
-    ∷ lists apart (one (two 2 3)) 1 22 (list 1 1 2 0 (one (plan 7 0 0 (two 2 3))))
-    ∷ checks (resting 3 1 1 0 3 8 linksA) (replied 18 0)
+    ∷ draws (winter 1) (two 1 2) (refused 11 0) ∷ [])
+    ∷ P 35 (
+    lists (resting 3 1 1 0 3 0 linksA) (two (two 1 2) (two 0 1)) 3 46 listA
+    ∷ prints (resting 3 1 1 0 3 0 linksA) outputA ∷ [])
+    ∷ P 36 (
+    lists (resting 2 0 0 0 1 1 (one (link 0 1 5 0 0))) (one []) 1 20 (list 1 1 0 0 (one (plan 0 0 0 [])))
+    ∷ checks (resting 2 1 1 0 1 1 (one (link 0 1 5 3 0))) (replied 6 0) ∷ [])
+    ∷ P 37 (one (lists (resting 3 1 1 0 2 2 (two (link 0 1 4 7 0) (link 1 2 3 2 0))) [] 0 10 (list 0 0 1 1 [])))
+    ∷ P 38 (one (lists apart (one (two 2 3)) 1 22 (list 1 1 2 0 (one (plan 7 0 0 (two 2 3))))))
+    ∷ P 39 (
+    checks (resting 3 1 1 0 3 8 linksA) (replied 18 0)
     ∷ checks (resting 23 0 0 0 0 0x800000 []) (replied 18 0)
     ∷ checks (resting 24 0 0 0 0 0xFFFFFF []) (replied 18 0)
     ∷ checks (resting 24 0 0 0 0 0x7FFFFF []) (replied 0 0)
     ∷ checks (resting 3 3 1 0 4 7 linksA) (replied 15 0)
     ∷ checks (resting 3 3 1 0 3 7 linksA) (replied 18 0)
-    ∷ checks (take 9 (winter 1)) (replied 1 0)
-    ∷ checks (resting 3 1 1 0 1 4 (one (link 2 2 4 7 0))) (replied 7 1)
+    ∷ checks (take 9 (winter 1)) (replied 1 0) ∷ [])
+    ∷ P 40 (
+    checks (resting 3 1 1 0 1 4 (one (link 2 2 4 7 0))) (replied 7 1)
     ∷ checks (resting 3 1 1 0 1 4 (one (link 0 2 1_000_001 7 0))) (replied 8 1)
     ∷ checks (winter 2) (replied 0 0)
-    ∷ checks (winter 3) (replied 6 0)
-    ∷ lists (A₃ (three 1 1 1)) (two 1 2 ∷ two 0 2 ∷ two 0 1 ∷ []) 9 388 listA₃
-    ∷ prints (A₃ (three 1 1 1)) outputA₃
-    ∷ lists (A₃ (three 2 2 1)) (two 1 2 ∷ two 0 2 ∷ two 0 1 ∷ []) 6 388
+    ∷ checks (winter 3) (replied 6 0) ∷ [])
+    ∷ P 41 (
+    lists (A₃ (three 1 1 1)) (two 1 2 ∷ two 0 2 ∷ two 0 1 ∷ []) 9 388 listA₃
+    ∷ prints (A₃ (three 1 1 1)) outputA₃ ∷ [])
+    ∷ P 42 (
+    lists (A₃ (three 2 2 1)) (two 1 2 ∷ two 0 2 ∷ two 0 1 ∷ []) 6 388
     (list 3 6 2 3 (plan₃ 4 2 3 8 (two 1 2) ∷ plan₃ 5 7 1 5 (two 0 2) ∷ plan₃ 7 2 1 8 (two 0 1) ∷ []))
-    ∷ lists (A₃ (three 2 1 2)) (two (two 1 2) (two 0 2)) 4 388 (list 2 4 2 3 (two (plan₃ 4 2 6 4 (two 1 2)) (plan₃ 5 7 3 4 (two 0 2))))
-    ∷ asks (A₃ (three 1 1 1)) (three (pos 9) (pos 6) (pos 8)) (two 0xFF 0xFF) (costs₃ (pos 4) (pos 9) (pos 6) (pos 8)) (two 1 2)
+    ∷ lists (A₃ (three 2 1 2)) (two (two 1 2) (two 0 2)) 4 388 (list 2 4 2 3 (two (plan₃ 4 2 6 4 (two 1 2)) (plan₃ 5 7 3 4 (two 0 2)))) ∷ [])
+    ∷ P 43 (
+    asks (A₃ (three 1 1 1)) (three (pos 9) (pos 6) (pos 8)) (two 0xFF 0xFF) (costs₃ (pos 4) (pos 9) (pos 6) (pos 8)) (two 1 2)
     ∷ asks (A₃ (three 1 1 1)) (three (pos 9) (pos 6) (pos 7)) (two 0xFF 0xFF) (costs₃ (pos 5) (pos 9) (pos 3) (pos 5)) (two 0 2)
     ∷ asks (A₃ (three 1 1 1)) (three (pos 9) (pos 6) (pos 4)) (two 0xFF 0xFF) (refused 14 0) (two 0xFF 0xFF)
-    ∷ draws (A₃ (three 2 1 2)) (two 0 1) (costs₃ (pos 7) (pos 2) (pos 6) (pos 5))
-    ∷ accepts 3 2 (one (three 1 1 1))
+    ∷ draws (A₃ (three 2 1 2)) (two 0 1) (costs₃ (pos 7) (pos 2) (pos 6) (pos 5)) ∷ [])
+    ∷ P 44 (
+    accepts 3 2 (one (three 1 1 1))
     ∷ accepts 3 3 (three 1 1 1 ∷ three 1 1 2 ∷ three 1 2 1 ∷ three 1 2 2 ∷ three 2 1 1 ∷ three 2 1 2 ∷ three 2 2 1 ∷ [])
     ∷ accepts 3 4
-    (three 1 1 1 ∷ three 1 1 2 ∷ three 1 1 3 ∷ three 1 2 1 ∷ three 1 2 2 ∷ three 1 3 1 ∷ three 2 1 1 ∷ three 2 1 2 ∷ three 2 2 1 ∷ three 3 1 1 ∷ [])
-    ∷ checks (tripled 3 2 (three 1 1 0) 1 0 (one (link₃ 0 1 4 7 1 0))) (replied 5 0)
+    (three 1 1 1 ∷ three 1 1 2 ∷ three 1 1 3 ∷ three 1 2 1 ∷ three 1 2 2 ∷ three 1 3 1 ∷ three 2 1 1 ∷ three 2 1 2 ∷ three 2 2 1 ∷ three 3 1 1 ∷ []) ∷ [])
+    ∷ P 45 (
+    checks (tripled 3 2 (three 1 1 0) 1 0 (one (link₃ 0 1 4 7 1 0))) (replied 5 0)
     ∷ checks (tripled 3 4 (three 1 1 1) 1 0 (one (link₃ 0 1 4 7 1 5))) (replied 5 0)
     ∷ checks (yard 3 3 1 1 linksA) (replied 5 0)
     ∷ checks (resting 3 3 1 1 3 0 linksA) (replied 5 0)
@@ -246,8 +276,9 @@ table =
     ∷ checks (take 10 (A₃ (three 1 1 1))) (replied 1 0)
     ∷ checks (take 52 (A₃ (three 1 1 1))) (replied 1 0)
     ∷ checks (take 39 (A₃ (three 1 1 1))) (replied 15 0)
-    ∷ writes 0x5947 (figures 3 1 1 0) endsA sumsA costsA output42 (replied 2 0) output42
-    ∷ checks (graded 10 10 16 0 1) (replied 0 0)
+    ∷ writes 0x5947 (figures 3 1 1 0) endsA sumsA costsA output42 (replied 2 0) output42 ∷ [])
+    ∷ P 46 (
+    checks (graded 10 10 16 0 1) (replied 0 0)
     ∷ checks (graded 7 10 23 0 1) (replied 19 0)
     ∷ checks (graded 40 40 40 0 1) (replied 19 0)
     ∷ checks (graded 40 40 40 1 1) (replied 7 40)
@@ -255,23 +286,29 @@ table =
     ∷ asks (graded 7 10 23 0 1) (three (pos 9) (pos 9) (pos 9)) [] (refused 19 0) []
     ∷ draws (graded 7 10 23 0 1) [] (refused 19 0)
     ∷ checks (mostAtRest 11) (replied 0 0)
-    ∷ checks (mostAtRest 12) (replied 19 0)
-    ∷ fetches listA₃ 0 0 (two 1 2)
+    ∷ checks (mostAtRest 12) (replied 19 0) ∷ [])
+    ∷ P 47 (
+    fetches listA₃ 0 0 (two 1 2)
     ∷ fetches listA₃ 2 0 (two 0 1)
     ∷ fetches listA₃ 3 13 []
     ∷ fetches (take 51 listA₃) 0 12 []
     ∷ fetches (list 1 1 2 3 (one (plan 4 9 0 (0 ∷ 1 ∷ two 1 2)))) 0 12 []
     ∷ fetches (list 1 1 2 4 (one (plan₃ 4 9 6 8 (two 1 2)))) 0 12 []
-    ∷ fetches listA 1 0 (two 0 1)
-    ∷ builds mixed₃ (replicate 10 0xFF) (replied 0 0) (entries (1 ∷ 2 ∷ 3 ∷ 0 ∷ 4 ∷ []))
+    ∷ fetches listA 1 0 (two 0 1) ∷ [])
+    ∷ P 48 (
+    builds mixed₃ (replicate 10 0xFF) (replied 0 0) (entries (1 ∷ 2 ∷ 3 ∷ 0 ∷ 4 ∷ []))
     ∷ looks mixed₃ (entries (1 ∷ 2 ∷ 3 ∷ 0 ∷ 4 ∷ [])) (pos 2) (looked 1)
-    ∷ looks mixed₃ (entries (1 ∷ 2 ∷ 3 ∷ 4 ∷ 0 ∷ [])) (pos 2) (refused 12 0)
+    ∷ looks mixed₃ (entries (1 ∷ 2 ∷ 3 ∷ 4 ∷ 0 ∷ [])) (pos 2) (refused 12 0) ∷ [])
     ∷ []
 
 -- ---- the theorem
 
+-- every row of a yard is right
+abbrev pub AllRight : Work → Type 0
+AllRight w = (r : Row) → r ∈ w .rows → Right r
+
 -- every row of the table is right
-pub table-right : (r : Row) → r ∈ table → Right r
+pub table-right : (w : Work) → w ∈ table → AllRight w
 unfolding table endsIn sumsIn ceilingIn costsIn tabulate rowWhere layoutOf networkWith raised signed bitsOf
     spanningTrees choose chooseFrom tree.isTree tree.isTreeFrom tree.isForest tree.isOneComponent crosses merge numbersFrom isListed
     works working joinsWorking restIn ranksIn costBits
@@ -283,46 +320,72 @@ unfolding table endsIn sumsIn ceilingIn costsIn tabulate rowWhere layoutOf netwo
     foundPlan foundBy lookedUp saysFound lookupReply
     figuresFrom yardBytes linkBytes surveyIn layoutFor unknownKind yardFiguresChecked linkFiguresChecked figuresChecked
     writeChecked writeStatus surveyAtFront writeAfter
-table-right = every Right (
-    record { promised = refl; by-walk = refl; counted = refl; needed = refl; succeeds = refl; bytes = refl }
+table-right = every AllRight (
+    every Right (record { promised = refl; by-walk = refl; counted = refl; needed = refl; succeeds = refl; bytes = refl } ▸ refl ▸ done)
+    ▸ every Right (record { promised = refl; by-walk = refl; counted = refl; needed = refl; succeeds = refl; bytes = refl } ▸ done)
+    ▸ every Right (record { promised = refl; by-walk = refl; counted = refl; needed = refl; succeeds = refl; bytes = refl } ▸ done)
+    ▸ every Right (record { promised = refl; by-walk = refl; counted = refl; needed = refl; succeeds = refl; bytes = refl } ▸ done)
+    ▸ every Right (record { promised = refl; by-walk = refl; counted = refl; needed = refl; succeeds = refl; bytes = refl } ▸ done)
+    ▸ every Right (record { promised = refl; by-walk = refl; counted = refl; needed = refl; succeeds = refl; bytes = refl } ▸ done)
+    ▸ every Right (record { promised = refl; by-walk = refl; counted = refl; needed = refl; succeeds = refl; bytes = refl } ▸ done)
+    ▸ every Right ((refl, refl) ▸ done)
+    ▸ every Right ((refl, refl) ▸ done)
+    ▸ every Right (refl ▸ done)
+    ▸ every Right (refl ▸ done)
+    ▸ every Right ((refl, refl) ▸ (refl, refl) ▸ done)
+    ▸ every Right (record { promised = refl; by-walk = refl; counted = refl; needed = refl; succeeds = refl; bytes = refl } ▸ done)
+    ▸ every Right ((refl, refl) ▸ done)
+    ▸ every Right ((refl, refl) ▸ done)
+    ▸ every Right (refl ▸ refl ▸ refl ▸ done)
+    ▸ every Right (record { promised = refl; by-walk = refl; counted = refl; needed = refl; succeeds = refl; bytes = refl } ▸ refl ▸ done)
+    ▸ every Right (record { promised = refl; by-walk = refl; counted = refl; needed = refl; succeeds = refl; bytes = refl } ▸ done)
+    ▸ every Right ((refl, refl) ▸ done)
+    ▸ every Right (refl ▸ done)
+    ▸ every Right ((refl, refl) ▸ done)
+    ▸ every Right (record { promised = refl; by-walk = refl; counted = refl; needed = refl; succeeds = refl; bytes = refl } ▸ refl ▸ done)
+    ▸ every Right ((refl, refl) ▸ (refl, refl) ▸ refl ▸ done)
+    ▸ every Right (refl ▸ refl ▸ refl ▸ refl ▸ refl ▸ refl ▸ done)
+    ▸ every Right (refl ▸ refl ▸ refl ▸ refl ▸ refl ▸ done)
+    ▸ every Right ((refl, refl) ▸ refl ▸ refl ▸ refl ▸ done)
+    ▸ every Right ((refl, refl) ▸ refl ▸ refl ▸ refl ▸ done)
+    ▸ every Right ((refl, refl) ▸ refl ▸ done)
+    ▸ every Right (refl ▸ refl ▸ refl ▸ refl ▸ (refl, refl) ▸ (refl, refl) ▸ (refl, refl) ▸ refl ▸ done)
+    ▸ every Right ((refl, refl) ▸ (refl, refl) ▸ done)
+    ▸ every Right ((refl, refl) ▸ (refl, refl) ▸ (refl, refl) ▸ done)
+    ▸ every Right ((refl, refl) ▸ (refl, refl) ▸ (refl, refl) ▸ (refl, refl) ▸ (refl, refl) ▸ (refl, refl) ▸ (refl, refl) ▸ done)
+    ▸ every Right ((refl, refl) ▸ (refl, refl) ▸ (refl, refl) ▸ (refl, refl) ▸ (refl, refl) ▸ (refl, refl) ▸ (refl, refl) ▸ done)
+    ▸ every Right (record { promised = refl; by-walk = refl; counted = refl; needed = refl; succeeds = refl; bytes = refl }
     ▸ refl
-    ▸ record { promised = refl; by-walk = refl; counted = refl; needed = refl; succeeds = refl; bytes = refl }
-    ▸ record { promised = refl; by-walk = refl; counted = refl; needed = refl; succeeds = refl; bytes = refl }
-    ▸ record { promised = refl; by-walk = refl; counted = refl; needed = refl; succeeds = refl; bytes = refl }
-    ▸ record { promised = refl; by-walk = refl; counted = refl; needed = refl; succeeds = refl; bytes = refl }
-    ▸ record { promised = refl; by-walk = refl; counted = refl; needed = refl; succeeds = refl; bytes = refl }
-    ▸ record { promised = refl; by-walk = refl; counted = refl; needed = refl; succeeds = refl; bytes = refl }
-    ▸ (refl, refl) ▸ (refl, refl) ▸ refl ▸ refl ▸ (refl, refl) ▸ (refl, refl)
-    ▸ record { promised = refl; by-walk = refl; counted = refl; needed = refl; succeeds = refl; bytes = refl }
-    ▸ (refl, refl) ▸ (refl, refl) ▸ refl ▸ refl ▸ refl
-    ▸ record { promised = refl; by-walk = refl; counted = refl; needed = refl; succeeds = refl; bytes = refl }
+    ▸ (refl, refl)
+    ▸ (refl, refl)
     ▸ refl
-    ▸ record { promised = refl; by-walk = refl; counted = refl; needed = refl; succeeds = refl; bytes = refl }
-    ▸ (refl, refl) ▸ refl ▸ (refl, refl)
-    ▸ record { promised = refl; by-walk = refl; counted = refl; needed = refl; succeeds = refl; bytes = refl }
-    ▸ refl
-    ▸ (refl, refl) ▸ (refl, refl) ▸ refl ▸ refl ▸ refl ▸ refl ▸ refl ▸ refl ▸ refl ▸ refl ▸ refl ▸ refl ▸ refl ▸ refl
-    ▸ (refl, refl) ▸ refl ▸ refl ▸ refl ▸ (refl, refl) ▸ refl ▸ refl ▸ refl ▸ (refl, refl) ▸ refl
-    ▸ refl ▸ refl ▸ refl ▸ refl ▸ (refl, refl) ▸ (refl, refl) ▸ (refl, refl) ▸ refl
-    ▸ (refl, refl) ▸ (refl, refl) ▸ (refl, refl) ▸ (refl, refl) ▸ (refl, refl) ▸ (refl, refl) ▸ (refl, refl)
-    ▸ (refl, refl) ▸ (refl, refl) ▸ (refl, refl) ▸ (refl, refl) ▸ (refl, refl) ▸ (refl, refl) ▸ (refl, refl)
-    ▸ (refl, refl) ▸ (refl, refl) ▸ (refl, refl) ▸ (refl, refl) ▸ (refl, refl)
-    ▸ record { promised = refl; by-walk = refl; counted = refl; needed = refl; succeeds = refl; bytes = refl }
-    ▸ refl ▸ (refl, refl) ▸ (refl, refl) ▸ refl ▸ refl
-    ▸ record { promised = refl; by-walk = refl; counted = refl; needed = refl; succeeds = refl; bytes = refl }
-    ▸ refl
-    ▸ record { promised = refl; by-walk = refl; counted = refl; needed = refl; succeeds = refl; bytes = refl }
-    ▸ refl
-    ▸ record { promised = refl; by-walk = refl; counted = refl; needed = refl; succeeds = refl; bytes = refl }
-    ▸ record { promised = refl; by-walk = refl; counted = refl; needed = refl; succeeds = refl; bytes = refl }
-    ▸ refl ▸ refl ▸ refl ▸ refl ▸ refl ▸ refl ▸ refl ▸ refl ▸ refl ▸ refl ▸ refl
-    ▸ record { promised = refl; by-walk = refl; counted = refl; needed = refl; succeeds = refl; bytes = refl }
-    ▸ refl
-    ▸ record { promised = refl; by-walk = refl; counted = refl; needed = refl; succeeds = refl; bytes = refl }
-    ▸ record { promised = refl; by-walk = refl; counted = refl; needed = refl; succeeds = refl; bytes = refl }
-    ▸ (refl, refl) ▸ (refl, refl) ▸ (refl, refl) ▸ refl ▸ refl ▸ refl ▸ refl
-    ▸ refl ▸ refl ▸ refl ▸ refl ▸ refl ▸ refl ▸ refl ▸ refl ▸ refl ▸ refl ▸ (refl, refl)
-    ▸ refl ▸ refl ▸ refl ▸ refl ▸ (refl, refl) ▸ (refl, refl) ▸ refl ▸ refl ▸ refl
-    ▸ (refl, refl) ▸ (refl, refl) ▸ (refl, refl) ▸ (refl, refl) ▸ (refl, refl) ▸ (refl, refl) ▸ (refl, refl)
-    ▸ (refl, refl) ▸ refl ▸ refl ▸ done
+    ▸ refl ▸ done)
+    ▸ every Right (record { promised = refl; by-walk = refl; counted = refl; needed = refl; succeeds = refl; bytes = refl } ▸ refl ▸ done)
+    ▸ every Right (record { promised = refl; by-walk = refl; counted = refl; needed = refl; succeeds = refl; bytes = refl } ▸ refl ▸ done)
+    ▸ every Right (record { promised = refl; by-walk = refl; counted = refl; needed = refl; succeeds = refl; bytes = refl } ▸ done)
+    ▸ every Right (record { promised = refl; by-walk = refl; counted = refl; needed = refl; succeeds = refl; bytes = refl } ▸ done)
+    ▸ every Right (refl ▸ refl ▸ refl ▸ refl ▸ refl ▸ refl ▸ refl ▸ done)
+    ▸ every Right (refl ▸ refl ▸ refl ▸ refl ▸ done)
+    ▸ every Right (record { promised = refl; by-walk = refl; counted = refl; needed = refl; succeeds = refl; bytes = refl } ▸ refl ▸ done)
+    ▸ every Right (record { promised = refl; by-walk = refl; counted = refl; needed = refl; succeeds = refl; bytes = refl }
+    ▸ record { promised = refl; by-walk = refl; counted = refl; needed = refl; succeeds = refl; bytes = refl } ▸ done)
+    ▸ every Right ((refl, refl) ▸ (refl, refl) ▸ (refl, refl) ▸ refl ▸ done)
+    ▸ every Right (refl ▸ refl ▸ refl ▸ done)
+    ▸ every Right (refl ▸ refl ▸ refl ▸ refl ▸ refl ▸ refl ▸ refl ▸ refl ▸ refl ▸ refl ▸ (refl, refl) ▸ done)
+    ▸ every Right (refl ▸ refl ▸ refl ▸ refl ▸ (refl, refl) ▸ (refl, refl) ▸ refl ▸ refl ▸ refl ▸ done)
+    ▸ every Right ((refl, refl) ▸ (refl, refl) ▸ (refl, refl) ▸ (refl, refl) ▸ (refl, refl) ▸ (refl, refl) ▸ (refl, refl) ▸ done)
+    ▸ every Right ((refl, refl) ▸ refl ▸ refl ▸ done)
+    ▸ done
     )
+
+-- no P is left out, and none stands twice
+pub table-numbers : map (λ (w : Work). w .number) table ≡ numbersFrom 48 1
+unfolding table numbersFrom
+table-numbers = refl
+
+-- how many rows each has
+pub table-counts : map (λ (w : Work). length (w .rows)) table
+    ≡ 2 ∷ 1 ∷ 1 ∷ 1 ∷ 1 ∷ 1 ∷ 1 ∷ 1 ∷ 1 ∷ 1 ∷ 1 ∷ 2 ∷ 1 ∷ 1 ∷ 1 ∷ 3 ∷ 2 ∷ 1 ∷ 1 ∷ 1 ∷ 1 ∷ 2 ∷ 3 ∷ 6
+    ∷ 5 ∷ 4 ∷ 4 ∷ 2 ∷ 8 ∷ 2 ∷ 3 ∷ 7 ∷ 7 ∷ 6 ∷ 2 ∷ 2 ∷ 1 ∷ 1 ∷ 7 ∷ 4 ∷ 2 ∷ 2 ∷ 4 ∷ 3 ∷ 11 ∷ 9 ∷ 7 ∷ 3 ∷ []
+unfolding table
+table-counts = refl

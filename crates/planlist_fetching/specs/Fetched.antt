@@ -18,7 +18,8 @@ use Rattle.network.specs.Capacities.{ceilingsHeld}
 use Rattle.network.specs.Limits.{maxCeilings, maxPlans, maxTree}
 use Rattle.network.specs.Bytes.{bitsOf, byteAt, littleEndian, markAt}
 use Rattle.network.specs.Tabulate.{tabulate-length}
-use Rattle.network.specs.PlanList.{ceilingBytes, costsAt, costsOf, headBytes, headMark, headSize, join, listBytes, planBytes, planMark, planSize, planSlots, recordOf}
+use Rattle.network.specs.PlanList.{ceilingBytes, costsAt, costsOf, headBytes, headMark, headSize, join, listBytes}
+use Rattle.network.specs.PlanList.{planBytes, planMark, planSize, planSlots, recordOf}
 use Rattle.network.specs.Yard.{ceilingCosts, treeSize}
 use Rattle.network.specs.Walk.{plans, solvedCount}
 use Rattle.network.specs.NetworkFine.{slots-few}

@@ -3,7 +3,7 @@
 use mathlib.Core.Bool.{cond, true, false}
 use mathlib.Core.List.{List, [], _∷_, _++_, List·Memᴰ·head as here, List·Memᴰ·not-nil}
 use mathlib.Core.Logic.{_↔_}
-use mathlib.Core.Path.{_≡_, refl, _∙_}
+use mathlib.Core.Path.{_≡_, refl}
 use Prim.Native.Nat.{ℕ, _≤_, _<_}
 use native.Mathlib.Omega.{arith}
 use lib.Dec.{ltb}
@@ -26,7 +26,7 @@ use Rattle.network.specs.PlanList.{bufferNeed, costsAt, costsOf, filled,
 use Rattle.network.specs.Fetching.{fetchLinks, headCount, headSlots, planStart}
 use Rattle.network.specs.Checked.{refuseIf, _orElse_}
 use Rattle.network.specs.Refusals.{checkedOf}
-use Rattle.network.specs.Calls.{ifFine, listAfter, listChecked, listStatus, plansAfter, plansChecked, roomChecked, status}
+use Rattle.network.specs.Calls.{listChecked, plansChecked, roomChecked}
 use Rattle.network.specs.Meaning.{trees-iff, trees-rising}
 use Rattle.network.specs.NetworkFine.{need-limit, survey-limits, survey-sound}
 use Rattle.network.specs.declared.Checked.{Checked}

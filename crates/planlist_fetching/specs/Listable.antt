@@ -1,6 +1,6 @@
 -- The list of an accepted survey keeps within what a plan list may hold, so that its plans are found, and its records say what they are.
 use mathlib.Core.List.{List, [], _++_}
-use mathlib.Core.Path.{_≡_, ap, _∙_}
+use mathlib.Core.Path.{_≡_, ap}
 use Prim.Native.Nat.{ℕ, _≤_, _<_}
 use native.Mathlib.Omega.{arith}
 use lib.ListN.{getD, length}

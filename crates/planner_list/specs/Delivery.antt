@@ -12,7 +12,7 @@ use Rattle.network.specs.Checked.{refuseIf, _orElse_}
 use Rattle.network.specs.Refusals.{checkedOf}
 use Rattle.network.specs.Calls.{ifFine, listAfter, listChecked, listStatus, plansAfter, plansChecked, roomChecked, status}
 use Rattle.network.specs.NetworkFine.{survey-sound}
-use Rattle.network.specs.Promise.{Delivered, Promised, complete}
+use Rattle.network.specs.Promise.{Promised, complete}
 use Rattle.network.specs.Network.{Network}
 use Rattle.network.specs.declared.Checked.the-variants.{Fine, Refused}
 use Rattle.network.specs.declared.Refusal.{Refusal}

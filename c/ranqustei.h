@@ -284,8 +284,8 @@ ranqustei_found ranqustei_index_lookup(const uint8_t *list, size_t list_length, 
  * The survey of a yard and its links, with the yard record of `kind`, RANQUSTEI_YARD_PLAIN or RANQUSTEI_YARD_COUNTED. There are as many links as `sums`
  * has entries. Of link i, counted from 0, the ends are the entries 2 * i and 2 * i + 1 of `ends`, the sum cost is entry i of `sums`, and the costs of
  * ceiling 1 and ceiling 2 are the entries 2 * i and 2 * i + 1 of `costs`, 0 for an absent ceiling. Where `ends` has no such entry, that end is no
- * station. Where `costs` has none, the cost of an absent ceiling is 0; for a present ceiling the reply is RANQUSTEI_BAD_COSTS at that link. Entries after
- * those of the last link are not looked at. RANQUSTEI_SURVEY_BYTES are always enough for `survey`.
+ * station. Where `costs` has none, the cost of an absent ceiling is 0; for a present ceiling that link is declined by RANQUSTEI_BAD_COSTS, after
+ * RANQUSTEI_BAD_ENDS of the same link. Entries after those of the last link are not looked at. RANQUSTEI_SURVEY_BYTES are always enough for `survey`.
  * On success the survey stands at the front of `survey`, 6 + 12 * m bytes of it, or with the counted yard record 7 + 12 * m, and the bytes after it are
  * as they were. On a refusal all of `survey` is as it was.
  * A survey that is written is accepted, and its fields are the figures that were handed in. The figures of an accepted survey with one of these two yard

@@ -73,7 +73,7 @@ impl Forest {
         self.leader[at]
     }
 
-    // Joins the groups that two stations lead, and hands back the next value: the group of b goes over to a.
+    // Joins the groups that two stations lead, and hands back the next value: the group of b goes over to a. A number that is no station leads itself.
     pub fn join(self, a: u8, b: u8) -> Forest
         requires { ⌜ (labelOf (self .leader) a ≡ a) × (labelOf (self .leader) b ≡ b) ⌝ }
         ensures { λ r. ⌜ r ≡ joined self a b ⌝ }

@@ -23,7 +23,7 @@ use Rattle.network.specs.Yard.{Tree, dominates, graph, trees, vector, ya
 use Rattle.network.specs.Walk.{plans, positionCount, solvedCount, values, walked}
 use Rattle.network.specs.Survey.{networkOf}
 use Rattle.network.specs.PlanList.{bufferNeed, costsAt, costsOf, filled, listBytes, maxNeed}
-use Rattle.network.specs.Fetching.{fetchLinks, headCount, headSlots, planStart}
+use Rattle.network.specs.Fetching.{fetchLinks, fetchNumber, headCount, headSlots, planStart}
 use Rattle.network.specs.Checked.{refuseIf, _orElse_}
 use Rattle.network.specs.Refusals.{checkedOf}
 use Rattle.network.specs.Calls.{listChecked, plansChecked, roomChecked}
@@ -103,10 +103,11 @@ module _ (net : Network) (sound : Sound (graph net)) where
         count = omega (arith, solved-length (yard net), positions-length (values net));
       }
 
--- Record r of a list has the costs of a tree, as `costsAt` reads them, and its links, as fetching hands them out.
-pub record Reads (list : List ℕ) (r : ℕ) (net : Network) (ts : List ℕ) : Type 0 where
-  pub costs : costsAt (headSlots list) list (planStart list r) ≡ costsOf net ts
-  pub links : fetchLinks list r ≡ ts
+-- Record k of a list is found, and has the costs of a tree, as `costsAt` reads them, and its links, as fetching hands them out.
+pub record Reads (list : List ℕ) (k : ℕ) (net : Network) (ts : List ℕ) : Type 0 where
+  pub found : fetchNumber list k ≡ 0
+  pub costs : costsAt (headSlots list) list (planStart list k) ≡ costsOf net ts
+  pub links : fetchLinks list k ≡ ts
 
 -- What a list call on survey s that replied r and left these bytes in a buffer of `size` bytes has delivered.
 pub record Delivered (s : List ℕ) (size : ℕ) (r : Status) (left : List ℕ) : Type 0 where
@@ -116,9 +117,9 @@ pub record Delivered (s : List ℕ) (size : ℕ) (r : Status) (left : List ℕ) 
   pub bytes : left ≡ filled (networkOf s) size
   -- the list is what the user relies on
   pub list : Complete (networkOf s)
-  -- and the bytes say it: the head counts the plans, and record r is that of plan r
+  -- and the bytes say it: the head counts the plans, and record k is that of plan k
   pub counted : headCount left ≡ length (plans (networkOf s))
-  pub records : (r : ℕ) → r < length (plans (networkOf s)) → Reads left r (networkOf s) (getD (plans (networkOf s)) r [])
+  pub records : (k : ℕ) → k < length (plans (networkOf s)) → Reads left k (networkOf s) (getD (plans (networkOf s)) k [])
 
 -- DEMAND 3: for every accepted survey, every buffer long enough, whatever it held before, and every allowance that is at least M.
 pub record Promised (s : List ℕ) (allowance : ℕ) (buffer : List ℕ) (r : Status) (left : List ℕ) : Type 0 where

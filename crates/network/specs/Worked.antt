@@ -103,14 +103,15 @@ Right (writes kind y ends sums costs output r after) =
     let f = figuresFrom y ends sums costs in (writeStatus kind f (length output) ≡ r) × (writeAfter kind f output ≡ after)
 Right (prints input output) = printed input ≡ output
 
--- A yard worked through: its P number, and its rows.
+-- A yard worked through: its P number, how many rows it has, and these.
 pub record Work : Type 0 where
   pub number : ℕ
+  pub count : ℕ
   pub rows : List Row
 
--- P n with these rows
-abbrev P : ℕ → List Row → Work
-P n rows = record { number = n; rows = rows }
+-- P n with so many rows
+abbrev P : ℕ → ℕ → List Row → Work
+P n count rows = record { number = n; count = count; rows = rows }
 
 -- P1 to P48, in their order, each with its rows. P1 to P12 are document 01's; in P13 to P16 both ranks may be 2, P14's tree has one link above both
 -- bounds and P15's two, one above each; in P17 to P21 sum costs may be negative; P22 to P25 have a link count, P24 on where 15 stands among the
@@ -120,74 +121,74 @@ P n rows = record { number = n; rows = rows }
 -- marks and lengths, P46 on M and where 19 stands, P47 on fetching and P48 on the index
 pub table : List Work
 table =
-    P 1 (
+    P 1 2 (
     lists (A 1) (two (two 1 2) (two 0 1)) 3 46 listA
     ∷ prints (A 1) outputA ∷ [])
-    ∷ P 2 (one (lists (A 2) (one (two 1 2)) 1 46 (list 1 1 2 1 (one (plan 4 2 0 (two 1 2))))))
-    ∷ P 3 (one (lists (A₂ 1 1) (two 1 2 ∷ two 0 2 ∷ two 0 1 ∷ []) 6 118
+    ∷ P 2 1 (one (lists (A 2) (one (two 1 2)) 1 46 (list 1 1 2 1 (one (plan 4 2 0 (two 1 2))))))
+    ∷ P 3 1 (one (lists (A₂ 1 1) (two 1 2 ∷ two 0 2 ∷ two 0 1 ∷ []) 6 118
     (list 3 6 2 2 (plan 4 9 6 (two 1 2) ∷ plan 5 9 3 (two 0 2) ∷ plan 7 7 6 (two 0 1) ∷ []))))
-    ∷ P 4 (one (lists (pair 3 8) (one (one 0)) 1 32 (list 1 1 1 1 (one (plan 5 3 0 (one 0))))))
-    ∷ P 5 (one (lists (pair 8 3) (one (one 1)) 2 32 (list 1 2 1 1 (one (plan 5 3 0 (one 1))))))
-    ∷ P 6 (one (lists single (one []) 1 20 (list 1 1 0 0 (one (plan 0 0 0 [])))))
-    ∷ P 7 (one (lists bare [] 0 10 (list 0 0 1 1 [])))
-    ∷ P 8 (one (asks (A 1) (three (pos 8) (pos 0) (pos 0)) (two 0xFF 0xFF) (costs (pos 7) (pos 7) (pos 0)) (two 0 1)))
-    ∷ P 9 (one (asks (A 1) (three (pos 6) (pos 0) (pos 0)) (two 0xFF 0xFF) (refused 14 0) (two 0xFF 0xFF)))
-    ∷ P 10 (one (draws (A 1) (two 0 2) (costs (pos 5) (pos 9) (pos 0))))
-    ∷ P 11 (one (ranks 2 (pos 5 ∷ negsuc 2 ∷ pos 5 ∷ []) (pos 5)))
-    ∷ P 12 (
+    ∷ P 4 1 (one (lists (pair 3 8) (one (one 0)) 1 32 (list 1 1 1 1 (one (plan 5 3 0 (one 0))))))
+    ∷ P 5 1 (one (lists (pair 8 3) (one (one 1)) 2 32 (list 1 2 1 1 (one (plan 5 3 0 (one 1))))))
+    ∷ P 6 1 (one (lists single (one []) 1 20 (list 1 1 0 0 (one (plan 0 0 0 [])))))
+    ∷ P 7 1 (one (lists bare [] 0 10 (list 0 0 1 1 [])))
+    ∷ P 8 1 (one (asks (A 1) (three (pos 8) (pos 0) (pos 0)) (two 0xFF 0xFF) (costs (pos 7) (pos 7) (pos 0)) (two 0 1)))
+    ∷ P 9 1 (one (asks (A 1) (three (pos 6) (pos 0) (pos 0)) (two 0xFF 0xFF) (refused 14 0) (two 0xFF 0xFF)))
+    ∷ P 10 1 (one (draws (A 1) (two 0 2) (costs (pos 5) (pos 9) (pos 0))))
+    ∷ P 11 1 (one (ranks 2 (pos 5 ∷ negsuc 2 ∷ pos 5 ∷ []) (pos 5)))
+    ∷ P 12 2 (
     allows (A 1) 3 46 (replied 0 0) (listA ++ replicate 12 0)
     ∷ allows (A 1) 2 46 (replied 10 0) (replicate 46 0) ∷ [])
-    ∷ P 13 (one (lists (A₂ 2 2) (two 1 2 ∷ two 0 2 ∷ two 0 1 ∷ []) 3 118
+    ∷ P 13 1 (one (lists (A₂ 2 2) (two 1 2 ∷ two 0 2 ∷ two 0 1 ∷ []) 3 118
     (list 3 3 2 2 (plan 4 2 3 (two 1 2) ∷ plan 5 7 1 (two 0 2) ∷ plan 7 2 1 (two 0 1) ∷ []))))
-    ∷ P 14 (one (asks (A₂ 2 2) (three (pos 8) (pos 2) (pos 0)) (two 0xFF 0xFF) (costs (pos 5) (pos 7) (pos 1)) (two 0 2)))
-    ∷ P 15 (one (asks (A₂ 2 2) (three (pos 8) (pos 3) (pos 0)) (two 0xFF 0xFF) (costs (pos 4) (pos 2) (pos 3)) (two 1 2)))
-    ∷ P 16 (
+    ∷ P 14 1 (one (asks (A₂ 2 2) (three (pos 8) (pos 2) (pos 0)) (two 0xFF 0xFF) (costs (pos 5) (pos 7) (pos 1)) (two 0 2)))
+    ∷ P 15 1 (one (asks (A₂ 2 2) (three (pos 8) (pos 3) (pos 0)) (two 0xFF 0xFF) (costs (pos 4) (pos 2) (pos 3)) (two 1 2)))
+    ∷ P 16 3 (
     accepts 2 2 (one (two 1 1))
     ∷ accepts 2 3 (two 1 1 ∷ two 1 2 ∷ two 2 1 ∷ two 2 2 ∷ [])
     ∷ accepts 2 4 (two 1 1 ∷ two 1 2 ∷ two 1 3 ∷ two 2 1 ∷ two 2 2 ∷ two 3 1 ∷ []) ∷ [])
-    ∷ P 17 (
+    ∷ P 17 2 (
     lists solar (two (two 0 2) (two 1 2)) 3 46 (list 2 3 2 1 (two (plan (minus 2) 9 0 (two 0 2)) (plan 5 7 0 (two 1 2))))
     ∷ prints solar outputSolar ∷ [])
-    ∷ P 18 (one (lists panels (one (one 1)) 2 32 (list 1 2 1 1 (one (plan (minus 5) 3 0 (one 1))))))
-    ∷ P 19 (one (asks sunny (three (pos 5) (pos 0) (pos 0)) (two 0xFF 0xFF) (costs (negsuc 6) (pos 2) (pos 0)) (two 0 1)))
-    ∷ P 20 (one (draws solar (two 0 1) (costs (negsuc 0) (pos 9) (pos 0))))
-    ∷ P 21 (one (prices sumBits
+    ∷ P 18 1 (one (lists panels (one (one 1)) 2 32 (list 1 2 1 1 (one (plan (minus 5) 3 0 (one 1))))))
+    ∷ P 19 1 (one (asks sunny (three (pos 5) (pos 0) (pos 0)) (two 0xFF 0xFF) (costs (negsuc 6) (pos 2) (pos 0)) (two 0 1)))
+    ∷ P 20 1 (one (draws solar (two 0 1) (costs (negsuc 0) (pos 9) (pos 0))))
+    ∷ P 21 1 (one (prices sumBits
     (negsuc 2_147_483_647 ∷ negsuc 1_000_000 ∷ negsuc 999_999 ∷ negsuc 0 ∷ pos 0 ∷ pos 1_000_000 ∷ pos 1_000_001 ∷ pos 2_147_483_647 ∷ [])
     (negsuc 999_999 ∷ negsuc 0 ∷ pos 0 ∷ pos 1_000_000 ∷ [])))
-    ∷ P 22 (
+    ∷ P 22 2 (
     lists countedA (two (two 1 2) (two 0 1)) 3 46 listA
     ∷ prints countedA outputA ∷ [])
-    ∷ P 23 (
+    ∷ P 23 3 (
     allows cutA 3 46 (replied 15 0) (replicate 46 0xFF)
     ∷ asks cutA (three (pos 8) (pos 0) (pos 0)) (two 0xFF 0xFF) (refused 15 0) (two 0xFF 0xFF)
     ∷ draws cutA (two 0 1) (refused 15 0) ∷ [])
-    ∷ P 24 (
+    ∷ P 24 6 (
     checks (tallied 3 1 1 0 4 linksA) (replied 15 0)
     ∷ checks (tallied 3 1 1 0 2 linksA) (replied 15 0)
     ∷ checks (tallied 25 1 1 0 4 linksA) (replied 3 0)
     ∷ checks (tallied 3 1 1 0 40 links41) (replied 4 0)
     ∷ checks (tallied 3 3 1 0 4 linksA) (replied 15 0)
     ∷ checks (tallied 3 3 1 0 3 linksA) (replied 5 0) ∷ [])
-    ∷ P 25 (
+    ∷ P 25 5 (
     checks (tallied 1 0 0 0 0 []) (replied 0 0)
     ∷ checks (take 6 countedA) (replied 1 0)
     ∷ checks (take 1 countedA) (replied 1 0)
     ∷ checks (0x59 ∷ 0x48 ∷ 3 ∷ 1 ∷ 1 ∷ 0 ∷ []) (replied 2 0)
     ∷ checks (0x59 ∷ 0x48 ∷ 3 ∷ 1 ∷ 1 ∷ 0 ∷ 0 ∷ []) (replied 1 0) ∷ [])
-    ∷ P 26 (
+    ∷ P 26 4 (
     builds listA (replicate 4 0xFF) (replied 0 0) (entries (two 1 0))
     ∷ looks listA (entries (two 1 0)) (pos 9) (looked 0)
     ∷ looks listA (entries (two 1 0)) (pos 8) (looked 1)
     ∷ looks listA (entries (two 1 0)) (pos 6) (refused 13 0) ∷ [])
-    ∷ P 27 (
+    ∷ P 27 4 (
     builds (mixed 2) (replicate 12 0xFF) (replied 0 0) (entries (1 ∷ 2 ∷ 3 ∷ 0 ∷ 4 ∷ []) ++ two 0xFF 0xFF)
     ∷ looks (mixed 2) (entries (1 ∷ 2 ∷ 3 ∷ 0 ∷ 4 ∷ []) ++ two 0xFF 0xFF) (pos 3) (looked 2)
     ∷ looks (mixed 2) (entries (1 ∷ 2 ∷ 3 ∷ 0 ∷ 4 ∷ [])) (pos 2) (looked 1)
     ∷ looks (mixed 2) (entries (1 ∷ 2 ∷ 3 ∷ 0 ∷ 4 ∷ [])) (negsuc 2) (refused 13 0) ∷ [])
-    ∷ P 28 (
+    ∷ P 28 2 (
     builds (mixed 0) (replicate 10 0xFF) (replied 0 0) (entries (2 ∷ 0 ∷ 1 ∷ 3 ∷ 4 ∷ []))
     ∷ looks (mixed 0) (entries (2 ∷ 0 ∷ 1 ∷ 3 ∷ 4 ∷ [])) (negsuc 32_767) (looked 2) ∷ [])
-    ∷ P 29 (
+    ∷ P 29 8 (
     looks tied (entries (two 1 0)) (pos 3) (looked 0)
     ∷ looks tied (entries (two 0 1)) (pos 3) (refused 12 0)
     ∷ looks tied (entries (two 1 1)) (pos 3) (refused 12 0)
@@ -196,15 +197,15 @@ table =
     ∷ builds unmarked (replicate 3 0xFF) (replied 12 0) (replicate 3 0xFF)
     ∷ builds (list 0 0 0 1 []) [] (replied 0 0) []
     ∷ looks (list 0 0 0 1 []) [] (pos 3) (refused 13 0) ∷ [])
-    ∷ P 30 (
+    ∷ P 30 2 (
     writes 0x5945 (figures 3 1 1 0) endsA sumsA costsA (replicate 46 0xFF) (replied 0 0) (countedA ++ replicate 3 0xFF)
     ∷ writes 0x5944 (figures 3 1 1 0) endsA sumsA costsA output42 (replied 0 0) (A 1) ∷ [])
-    ∷ P 31 (
+    ∷ P 31 3 (
     writes 0x5944 (figures 3 1 2 0) endsA (negsuc 3 ∷ negsuc 2 ∷ negsuc 0 ∷ []) costsA output42 (replied 0 0) sunny
     ∷ writes 0x5945 (figures 1 0 0 0) [] [] [] (replicate 7 0xFF) (replied 0 0) (tallied 1 0 0 0 0 [])
     ∷ writes 0x5944 (figures 2 2 1 1) (two 1 0) (one (pos 5)) (two (negsuc 32_767) (negsuc 0)) (replicate 18 0xFF) (replied 0 0)
     (yard 2 2 1 1 (one (link 1 0 5 0x8000 0xFFFF))) ∷ [])
-    ∷ P 32 (
+    ∷ P 32 7 (
     writes 0x5946 (figures 25 1 1 0) endsA sumsA costsA output42 (replied 2 0) output42
     ∷ writes 0x5944 (figures 25 1 1 0) endsA (replicate 41 (pos 1)) costsA output42 (replied 3 0) output42
     ∷ writes 0x5944 (figures 3 3 1 0) endsA (replicate 41 (pos 1)) costsA output42 (replied 4 0) output42
@@ -212,7 +213,7 @@ table =
     ∷ writes 0x5944 (figures 3 1 3 0) (two 0 0) (one (pos 4)) (two (pos 7) (pos 0)) output42 (replied 6 0) output42
     ∷ writes 0x5944 (figures 3 1 1 0) (0 ∷ 1 ∷ 1 ∷ 3 ∷ []) (two (pos 4) (pos 1_000_001)) costsA output42 (replied 7 2) output42
     ∷ writes 0x5944 (figures 3 1 1 0) (0 ∷ 1 ∷ 1 ∷ 1 ∷ []) (two (pos 4) (pos 3)) (two (pos 7) (pos 1)) output42 (replied 8 1) output42 ∷ [])
-    ∷ P 33 (
+    ∷ P 33 7 (
     writes 0x5944 (figures 3 1 1 0) (take 5 endsA) sumsA costsA (take 41 output42) (replied 7 3) (take 41 output42)
     ∷ writes 0x5944 (figures 2 0 0 0) (two 0 1) (one (pos 5)) [] (replicate 18 0xFF) (replied 0 0) (yard 2 0 0 0 (one (link 0 1 5 0 0)))
     ∷ writes 0x5944 (figures 3 1 1 0) endsA sumsA (take 5 costsA) output42 (replied 0 0) (A 1)
@@ -220,22 +221,22 @@ table =
     ∷ writes 0x5944 (figures 2 2 1 1) (two 1 0) (one (pos 5)) (one (negsuc 32_767)) (replicate 18 0xFF) (replied 8 1) (replicate 18 0xFF)
     ∷ writes 0x5944 (figures 3 1 1 0) (take 5 endsA) sumsA (take 4 costsA) output42 (replied 7 3) output42
     ∷ writes 0x5944 (figures 3 1 1 0) endsA sumsA costsA (take 41 output42) (replied 17 0) (take 41 output42) ∷ [])
-    ∷ P 34 (
+    ∷ P 34 6 (
     lists (winter 1) (two (two 2 3) (two 0 2)) 3 46 listWinter
     ∷ prints (winter 1) outputWinter
     ∷ asks (winter 1) (three (pos 8) (pos 0) (pos 0)) (replicate 3 0xFF) (costs (pos 7) (pos 7) (pos 0)) (0 ∷ 2 ∷ 0xFF ∷ [])
     ∷ asks (winter 1) (three (pos 8) (pos 0) (pos 0)) (one 0xFF) (refused 9 0) (one 0xFF)
     ∷ draws (winter 1) (two 0 3) (costs (pos 5) (pos 9) (pos 0))
     ∷ draws (winter 1) (two 1 2) (refused 11 0) ∷ [])
-    ∷ P 35 (
+    ∷ P 35 2 (
     lists (resting 3 1 1 0 3 0 linksA) (two (two 1 2) (two 0 1)) 3 46 listA
     ∷ prints (resting 3 1 1 0 3 0 linksA) outputA ∷ [])
-    ∷ P 36 (
+    ∷ P 36 2 (
     lists (resting 2 0 0 0 1 1 (one (link 0 1 5 0 0))) (one []) 1 20 (list 1 1 0 0 (one (plan 0 0 0 [])))
     ∷ checks (resting 2 1 1 0 1 1 (one (link 0 1 5 3 0))) (replied 6 0) ∷ [])
-    ∷ P 37 (one (lists (resting 3 1 1 0 2 2 (two (link 0 1 4 7 0) (link 1 2 3 2 0))) [] 0 10 (list 0 0 1 1 [])))
-    ∷ P 38 (one (lists apart (one (two 2 3)) 1 22 (list 1 1 2 0 (one (plan 7 0 0 (two 2 3))))))
-    ∷ P 39 (
+    ∷ P 37 1 (one (lists (resting 3 1 1 0 2 2 (two (link 0 1 4 7 0) (link 1 2 3 2 0))) [] 0 10 (list 0 0 1 1 [])))
+    ∷ P 38 1 (one (lists apart (one (two 2 3)) 1 22 (list 1 1 2 0 (one (plan 7 0 0 (two 2 3))))))
+    ∷ P 39 7 (
     checks (resting 3 1 1 0 3 8 linksA) (replied 18 0)
     ∷ checks (resting 23 0 0 0 0 0x800000 []) (replied 18 0)
     ∷ checks (resting 24 0 0 0 0 0xFFFFFF []) (replied 18 0)
@@ -243,29 +244,29 @@ table =
     ∷ checks (resting 3 3 1 0 4 7 linksA) (replied 15 0)
     ∷ checks (resting 3 3 1 0 3 7 linksA) (replied 18 0)
     ∷ checks (take 9 (winter 1)) (replied 1 0) ∷ [])
-    ∷ P 40 (
+    ∷ P 40 4 (
     checks (resting 3 1 1 0 1 4 (one (link 2 2 4 7 0))) (replied 7 1)
     ∷ checks (resting 3 1 1 0 1 4 (one (link 0 2 1_000_001 7 0))) (replied 8 1)
     ∷ checks (winter 2) (replied 0 0)
     ∷ checks (winter 3) (replied 6 0) ∷ [])
-    ∷ P 41 (
+    ∷ P 41 2 (
     lists (A₃ (three 1 1 1)) (two 1 2 ∷ two 0 2 ∷ two 0 1 ∷ []) 9 388 listA₃
     ∷ prints (A₃ (three 1 1 1)) outputA₃ ∷ [])
-    ∷ P 42 (
+    ∷ P 42 2 (
     lists (A₃ (three 2 2 1)) (two 1 2 ∷ two 0 2 ∷ two 0 1 ∷ []) 6 388
     (list 3 6 2 3 (plan₃ 4 2 3 8 (two 1 2) ∷ plan₃ 5 7 1 5 (two 0 2) ∷ plan₃ 7 2 1 8 (two 0 1) ∷ []))
     ∷ lists (A₃ (three 2 1 2)) (two (two 1 2) (two 0 2)) 4 388 (list 2 4 2 3 (two (plan₃ 4 2 6 4 (two 1 2)) (plan₃ 5 7 3 4 (two 0 2)))) ∷ [])
-    ∷ P 43 (
+    ∷ P 43 4 (
     asks (A₃ (three 1 1 1)) (three (pos 9) (pos 6) (pos 8)) (two 0xFF 0xFF) (costs₃ (pos 4) (pos 9) (pos 6) (pos 8)) (two 1 2)
     ∷ asks (A₃ (three 1 1 1)) (three (pos 9) (pos 6) (pos 7)) (two 0xFF 0xFF) (costs₃ (pos 5) (pos 9) (pos 3) (pos 5)) (two 0 2)
     ∷ asks (A₃ (three 1 1 1)) (three (pos 9) (pos 6) (pos 4)) (two 0xFF 0xFF) (refused 14 0) (two 0xFF 0xFF)
     ∷ draws (A₃ (three 2 1 2)) (two 0 1) (costs₃ (pos 7) (pos 2) (pos 6) (pos 5)) ∷ [])
-    ∷ P 44 (
+    ∷ P 44 3 (
     accepts 3 2 (one (three 1 1 1))
     ∷ accepts 3 3 (three 1 1 1 ∷ three 1 1 2 ∷ three 1 2 1 ∷ three 1 2 2 ∷ three 2 1 1 ∷ three 2 1 2 ∷ three 2 2 1 ∷ [])
     ∷ accepts 3 4
     (three 1 1 1 ∷ three 1 1 2 ∷ three 1 1 3 ∷ three 1 2 1 ∷ three 1 2 2 ∷ three 1 3 1 ∷ three 2 1 1 ∷ three 2 1 2 ∷ three 2 2 1 ∷ three 3 1 1 ∷ []) ∷ [])
-    ∷ P 45 (
+    ∷ P 45 11 (
     checks (tripled 3 2 (three 1 1 0) 1 0 (one (link₃ 0 1 4 7 1 0))) (replied 5 0)
     ∷ checks (tripled 3 4 (three 1 1 1) 1 0 (one (link₃ 0 1 4 7 1 5))) (replied 5 0)
     ∷ checks (yard 3 3 1 1 linksA) (replied 5 0)
@@ -277,7 +278,7 @@ table =
     ∷ checks (take 52 (A₃ (three 1 1 1))) (replied 1 0)
     ∷ checks (take 39 (A₃ (three 1 1 1))) (replied 15 0)
     ∷ writes 0x5947 (figures 3 1 1 0) endsA sumsA costsA output42 (replied 2 0) output42 ∷ [])
-    ∷ P 46 (
+    ∷ P 46 9 (
     checks (graded 10 10 16 0 1) (replied 0 0)
     ∷ checks (graded 7 10 23 0 1) (replied 19 0)
     ∷ checks (graded 40 40 40 0 1) (replied 19 0)
@@ -287,7 +288,7 @@ table =
     ∷ draws (graded 7 10 23 0 1) [] (refused 19 0)
     ∷ checks (mostAtRest 11) (replied 0 0)
     ∷ checks (mostAtRest 12) (replied 19 0) ∷ [])
-    ∷ P 47 (
+    ∷ P 47 7 (
     fetches listA₃ 0 0 (two 1 2)
     ∷ fetches listA₃ 2 0 (two 0 1)
     ∷ fetches listA₃ 3 13 []
@@ -295,7 +296,7 @@ table =
     ∷ fetches (list 1 1 2 3 (one (plan 4 9 0 (0 ∷ 1 ∷ two 1 2)))) 0 12 []
     ∷ fetches (list 1 1 2 4 (one (plan₃ 4 9 6 8 (two 1 2)))) 0 12 []
     ∷ fetches listA 1 0 (two 0 1) ∷ [])
-    ∷ P 48 (
+    ∷ P 48 3 (
     builds mixed₃ (replicate 10 0xFF) (replied 0 0) (entries (1 ∷ 2 ∷ 3 ∷ 0 ∷ 4 ∷ []))
     ∷ looks mixed₃ (entries (1 ∷ 2 ∷ 3 ∷ 0 ∷ 4 ∷ [])) (pos 2) (looked 1)
     ∷ looks mixed₃ (entries (1 ∷ 2 ∷ 3 ∷ 4 ∷ 0 ∷ [])) (pos 2) (refused 12 0) ∷ [])
@@ -383,9 +384,7 @@ pub table-numbers : map (λ (w : Work). w .number) table ≡ numbersFrom 48 1
 unfolding table numbersFrom
 table-numbers = refl
 
--- how many rows each has
-pub table-counts : map (λ (w : Work). length (w .rows)) table
-    ≡ 2 ∷ 1 ∷ 1 ∷ 1 ∷ 1 ∷ 1 ∷ 1 ∷ 1 ∷ 1 ∷ 1 ∷ 1 ∷ 2 ∷ 1 ∷ 1 ∷ 1 ∷ 3 ∷ 2 ∷ 1 ∷ 1 ∷ 1 ∷ 1 ∷ 2 ∷ 3 ∷ 6
-    ∷ 5 ∷ 4 ∷ 4 ∷ 2 ∷ 8 ∷ 2 ∷ 3 ∷ 7 ∷ 7 ∷ 6 ∷ 2 ∷ 2 ∷ 1 ∷ 1 ∷ 7 ∷ 4 ∷ 2 ∷ 2 ∷ 4 ∷ 3 ∷ 11 ∷ 9 ∷ 7 ∷ 3 ∷ []
+-- each has as many rows as it says
+pub table-counts : map (λ (w : Work). length (w .rows)) table ≡ map (λ (w : Work). w .count) table
 unfolding table
 table-counts = refl

@@ -1,9 +1,10 @@
 -- The list of an accepted survey keeps within what a plan list may hold, so that its plans are found, and its records say what they are.
 use mathlib.Core.List.{List, [], _++_}
-use mathlib.Core.Path.{_≡_, ap}
+use mathlib.Core.Path.{_≡_, ap, _∙_}
 use Prim.Native.Nat.{ℕ, _≤_, _<_}
 use native.Mathlib.Omega.{arith}
 use lib.ListN.{getD, length}
+use borrow.Author.Tests.{lt-ltb}
 use Rattle.order.specs.Lists.{_∈_, getD-mem}
 use Rattle.frontier.specs.Plans.{plans-few}
 use Rattle.network.specs.Limits.{maxCeilings, maxPlans, maxTree}
@@ -18,7 +19,7 @@ use Rattle.network.specs.NetworkFine.{survey-fine, survey-limits, survey-sound,
 use Rattle.network.specs.Promise.{Reads, complete}
 use Rattle.network.specs.declared.Checked.the-variants.{Fine}
 use Rattle.planlist_records.specs.Held.{Writable}
-use Rattle.planlist_fetching.specs.Fetched.{listed-costs, listed-count, listed-links}
+use Rattle.planlist_fetching.specs.Fetched.{listed-costs, listed-count, listed-links, listed-number}
 
 -- a list that the planner made keeps within what a plan list may hold
 pub record Listable (s : List ℕ) : Type 0 where
@@ -54,6 +55,7 @@ list-reads s rest accepted held r h =
     let l = listable s accepted in
     let net = networkOf s in
     record {
+      found = listed-number net rest (l .full) (l .few) (l .short) (l .flat) r ∙ rw (lt-ltb r (length (plans net)) h);
       costs = listed-costs net rest (l .full) (l .few) (l .short) (l .flat) r h (held _ (getD-mem (plans net) r [] h));
       links = listed-links net rest (l .full) (l .few) (l .short) (l .flat) r;
     }

@@ -49,7 +49,7 @@ pub struct Draft {
 
 impl Draft {
     /// The survey that figures have with a yard record. An end that is not handed in is no
-    /// station, a cost is 0.
+    /// station. A cost that is not is put as 0, whether or not the figures are legal without it.
     pub fn of(figures: &Figures, record: YardRecord) -> Draft {
         let link = |(number, &sum): (usize, &i32)| LinkDraft {
             mark: record.link.mark,

@@ -131,7 +131,8 @@ impl Cause {
             }
             Cause::Figures => {
                 "has a sum outside -1,000,000 to 1,000,000, \
-                 a cost for a ceiling that the yard does not have, or none for one that it has"
+                 a cost for a ceiling that the yard does not have, \
+                 or, in figures to be written, none for one that it has"
             }
             Cause::Buffer => "the buffer is too short",
             Cause::Allowance => "the walk would solve more positions than the allowance",

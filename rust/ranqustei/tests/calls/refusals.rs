@@ -138,7 +138,7 @@ fn link_records() {
     check(edited(32, 3), 7, 3, Cause::Ends, &format!("link 2 {ends}"));
     check(edited(8, 1), 7, 1, Cause::Ends, &format!("link 0 {ends}"));
     let figures = "has a sum outside -1,000,000 to 1,000,000, a cost for a ceiling that the yard \
-                   does not have, or none for one that it has";
+                   does not have, or, in figures to be written, none for one that it has";
     check(
         edited(13, 1),
         8,

@@ -107,7 +107,7 @@ fn refusals_name_the_line_of_the_record() {
         &format!("link 0 {ends} (number 7, place 1)"),
     );
     let figures = "has a sum outside -1,000,000 to 1,000,000, a cost for a ceiling that the yard \
-                   does not have, or none for one that it has";
+                   does not have, or, in figures to be written, none for one that it has";
     for sum in ["1000001", "-1000001", "2147483647", "-2147483648"] {
         check(
             &format!("stations 3\n0 1 {sum}\n"),

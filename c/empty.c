@@ -161,6 +161,15 @@ static void write_survey(void)
     check("write, what follows stays", memcmp(written + sizeof single, without_costs + sizeof single, sizeof written - sizeof single) == 0);
 }
 
+static void small_survey(void)
+{
+    check("small survey, no output", bare_status(ranqustei_small_survey(0, NULL, 0), RANQUSTEI_SHORT_OUTPUT));
+    check("small survey, a byte too few", bare_status(ranqustei_small_survey(0, lent, RANQUSTEI_SMALL_SURVEY_BYTES - 1), RANQUSTEI_SHORT_OUTPUT));
+    check("small survey 1,728, no output", bare_status(ranqustei_small_survey(RANQUSTEI_SMALL_SURVEYS, NULL, 0), RANQUSTEI_NO_SUCH_SURVEY));
+    check("small survey 1,728", bare_status(ranqustei_small_survey(RANQUSTEI_SMALL_SURVEYS, lent, LENT), RANQUSTEI_NO_SUCH_SURVEY));
+    check("the last number of all, no output", bare_status(ranqustei_small_survey(UINT32_MAX, NULL, 0), RANQUSTEI_NO_SUCH_SURVEY));
+}
+
 int main(void)
 {
     memset(lent, FILLER, sizeof lent);
@@ -172,6 +181,7 @@ int main(void)
     look_up();
     decline_to_write();
     write_survey();
+    small_survey();
     check("what was lent stays", lent_stays());
     return failures != 0;
 }

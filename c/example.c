@@ -1,4 +1,4 @@
-/* Every call on survey A of document 01, its list and its figures, and calls on it with the other yard records. */
+/* Every call on survey A of document 01, its list and its figures, calls on it with the other yard records, and a small survey with its list. */
 #include "ranqustei.h"
 
 #include <stdio.h>
@@ -155,6 +155,18 @@ static void third_ceiling(void)
     print_triple("1,728 positions", judge_many_values(drawn, 1));
 }
 
+/* The choices 0, 5 and 10: links 0-1 (sum 0, cost 0), 0-2 (0, 1), 1-2 (1, 0). */
+static void small_surveys(void)
+{
+    const uint32_t q = 0 * 144 + 5 * 12 + 10;
+    uint8_t small[RANQUSTEI_SMALL_SURVEY_BYTES];
+
+    print_status("small survey 70", ranqustei_small_survey(q, small, sizeof small));
+    list_and_fetch("its list", small, sizeof small);
+    print_status("small survey 1,728", ranqustei_small_survey(RANQUSTEI_SMALL_SURVEYS, small, sizeof small));
+    print_status("small survey 70, a byte too few", ranqustei_small_survey(q, small, sizeof small - 1));
+}
+
 int main(void)
 {
     static const uint8_t drawn[] = {0, 2}, ring[] = {0, 1, 2};
@@ -178,5 +190,6 @@ int main(void)
     write_surveys();
     rest();
     third_ceiling();
+    small_surveys();
     return 0;
 }

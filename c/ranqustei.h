@@ -100,6 +100,12 @@
  * An index of a plan list has 2 bytes for each plan: the numbers of all plans, each once. They rise by ceiling cost 1 of the plan, then by sum, then
  * by ceiling cost 2, then by plan number, and not by ceiling cost 3; if the head's p is 0, by sum and then by plan number. Costs count as they stand in
  * the plan records.
+ *
+ * The small surveys are numbered from 0 to 1,727. They have the plain yard record, with n = 3, p = 1, k1 = 1 and k2 = 0, and three links. A link is one
+ * of 12 choices: its ends are 0 and 1, 0 and 2, or 1 and 2, the lower one first; its sum cost is 0 or 1, its cost of ceiling 1 is 0 or 1, and its cost
+ * of ceiling 2 is 0. Choices rise by ends, then by sum cost, then by cost of ceiling 1; surveys rise by the choice of link 0, then of link 1, then of
+ * link 2. So in survey q the choices, counted from 0, are q / 144, q / 12 % 12 and q % 12. Each survey of this kind has one number, and each is
+ * accepted.
  */
 #ifndef RANQUSTEI_H
 #define RANQUSTEI_H
@@ -120,6 +126,12 @@ enum {
     RANQUSTEI_POSITIONS = 1600
 };
 
+/* The number of small surveys, and the bytes of each. */
+enum {
+    RANQUSTEI_SMALL_SURVEYS = 1728,
+    RANQUSTEI_SMALL_SURVEY_BYTES = 42
+};
+
 /*
  * The number in every reply: RANQUSTEI_OK, or why the call declined. A call gives the first number of its row whose cause holds:
  *
@@ -130,6 +142,7 @@ enum {
  *     index   12 for head or length, or for the mark of any plan; then 16
  *     lookup  as index; then 12 for the index; then 13
  *     write   2 for the kind, 3, 4, 5, 6; then 7, 8 for link 0, then for link 1, and so on; then 17
+ *     small   20; then 17
  *
  * The place is the link's number plus 1 where a link is at fault (2, 7, 8), and 0 everywhere else.
  */
@@ -176,7 +189,9 @@ enum {
     /* The yard record says that a station rests which the yard does not have, or that all rest. */
     RANQUSTEI_BAD_REST = 18,
     /* M is above 1,600, which it can be with three ceilings alone. */
-    RANQUSTEI_TOO_MANY_POSITIONS = 19
+    RANQUSTEI_TOO_MANY_POSITIONS = 19,
+    /* There is no small survey q: q is 1,728 or more. */
+    RANQUSTEI_NO_SUCH_SURVEY = 20
 };
 
 /* The kinds of yard record that a survey is written with: the mark as a number, its first byte high. The others are only read. */
@@ -186,7 +201,7 @@ enum {
 };
 
 /* The version of what this header declares: it changes whenever a struct, a call or the meaning of a reply changes. */
-enum { RANQUSTEI_VERSION = 8 };
+enum { RANQUSTEI_VERSION = 9 };
 
 /* The figures of a yard record that is written: the stations, the ceilings and their ranks. */
 typedef struct {
@@ -196,7 +211,7 @@ typedef struct {
     uint8_t k2;
 } ranqustei_yard;
 
-/* The reply of the list call, of the index call and of writing: RANQUSTEI_OK and place 0, or the refusal and its place. */
+/* The reply of the list call, of the index call, of writing and of the small surveys: RANQUSTEI_OK and place 0, or the refusal and its place. */
 typedef struct {
     uint8_t number;
     uint8_t place;
@@ -294,6 +309,13 @@ ranqustei_found ranqustei_index_lookup(const uint8_t *list, size_t list_length, 
 ranqustei_status ranqustei_write_survey(
     uint32_t kind, ranqustei_yard yard, const uint8_t *ends, size_t ends_length, const int32_t *sums, size_t sums_length, const int16_t *costs,
     size_t costs_length, uint8_t *survey, size_t survey_length);
+
+/*
+ * Small survey q, counted from 0. RANQUSTEI_SMALL_SURVEY_BYTES are always enough for `survey`.
+ * On success the survey stands in the first RANQUSTEI_SMALL_SURVEY_BYTES of `survey`, and the bytes after it are as they were. On a refusal all of
+ * `survey` is as it was.
+ */
+ranqustei_status ranqustei_small_survey(uint32_t q, uint8_t *survey, size_t survey_length);
 
 #ifdef __cplusplus
 }

@@ -1,7 +1,7 @@
 /*
- * The stack that each call takes, for every survey that is named and its list, and that each call on a list takes for one of the most plans. The call
- * runs in a thread whose stack was filled with a pattern; counted are the bytes from the caller's stack pointer down to the lowest byte that lost the
- * pattern. Writing declines a survey whose yard record is only read.
+ * The stack that each call takes, for every survey that is named and its list, that each call on a list takes for one of the most plans, and that a
+ * small survey takes. The call runs in a thread whose stack was filled with a pattern; counted are the bytes from the caller's stack pointer down to
+ * the lowest byte that lost the pattern. Writing declines a survey whose yard record is only read.
  *
  *     cc -std=c11 -O2 -pthread c/stack.c target/staticlib/libcapi.a -o target/c-stack
  *     target/c-stack examples/large.survey examples/large-triple.survey
@@ -63,6 +63,14 @@ static void *write_survey(void *unused)
     return unused;
 }
 
+/* Writes the last small survey. */
+static void *small_survey(void *unused)
+{
+    NOTE_CALLER();
+    ranqustei_small_survey(RANQUSTEI_SMALL_SURVEYS - 1, written, sizeof written);
+    return unused;
+}
+
 static void *fetch(void *unused)
 {
     NOTE_CALLER();
@@ -106,7 +114,7 @@ static void measure_list(void)
 {
     printf(" %zu |", taken(fetch));
     printf(" %zu |", taken(build_index));
-    printf(" %zu |\n", taken(look_up));
+    printf(" %zu | |\n", taken(look_up));
 }
 
 /* The yard records by the second byte of their marks, each with its bytes and those of a link record after it. */
@@ -175,13 +183,20 @@ static int measure_longest_list(uint8_t ceilings)
     return ranqustei_index_lookup(list, sizeof list, built, sizeof built, INT16_MAX).number != RANQUSTEI_OK;
 }
 
+static int measure_small_survey(void)
+{
+    small_survey(NULL); /* for the dynamic linker, as for a survey */
+    printf("| small survey %d | | | | | | | | %zu |\n", RANQUSTEI_SMALL_SURVEYS - 1, taken(small_survey));
+    return ranqustei_small_survey(RANQUSTEI_SMALL_SURVEYS - 1, written, sizeof written).number != RANQUSTEI_OK;
+}
+
 int main(int count, char **names)
 {
     int failures = 0;
 
-    printf("| survey | list | best | judge | write | fetch | index | lookup |\n|---|---|---|---|---|---|---|---|\n");
+    printf("| survey | list | best | judge | write | fetch | index | lookup | small |\n|---|---|---|---|---|---|---|---|---|\n");
     for (int i = 1; i < count; i++)
         failures += measure(names[i]);
-    failures += measure_longest_list(2) + measure_longest_list(3);
+    failures += measure_longest_list(2) + measure_longest_list(3) + measure_small_survey();
     return failures != 0;
 }

@@ -3,4 +3,4 @@ use Prim.Native.Nat.{ℕ}
 
 -- it changes whenever a struct, a call or the meaning of a reply does
 abbrev pub version : ℕ
-version = 8
+version = 9

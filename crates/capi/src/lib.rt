@@ -18,13 +18,15 @@ ghost use Rattle.network.specs.Promise.{Promised};
 ghost use Rattle.network.specs.IndexPromise.{IndexPromised};
 ghost use Rattle.network.specs.Writing.{figuresFrom, writeAfter, writeStatus};
 ghost use Rattle.network.specs.WritingPromise.{WritePromised};
+ghost use Rattle.network.specs.SmallPromise.{SmallPromised};
+ghost use Rattle.network.specs.SmallSurveys.{smallAfter, smallStatus};
 ghost use Rattle.capi_replies.specs.Flat.{FoundPromised, flatFound};
 ghost use Rattle.capi_replies.specs.Parts.{PartOf, partOf};
 ghost use Rattle.capi_replies.specs.Replies.{flatReply, flatValues};
 ghost use Rattle.capi.specs.Version.{version};
 
 // The version of these calls: it changes whenever a struct, a call or the meaning of a reply does.
-pub const VERSION: u32 = 8;
+pub const VERSION: u32 = 9;
 
 // The version of the calls that this archive has.
 #[no_mangle]
@@ -112,4 +114,14 @@ pub extern "C" fn ranqustei_write_survey(
         (figuresFrom yard (now (ends .entry)) (now (sums .entry)) (now (costs .entry))) (now (survey .entry)) r (now (survey .exit)) ⌝ }
 {
     planner::write_survey(kind, yard, ends, sums, costs, survey)
+}
+
+// Small survey q.
+#[no_mangle]
+pub extern "C" fn ranqustei_small_survey(q: u32, survey: &mut [u8]) -> Status
+    ensures reply { λ r. ⌜ r ≡ smallStatus q (length (now (survey .entry))) ⌝ }
+    ensures leaves { λ _. ⌜ now (survey .exit) ≡ smallAfter q (now (survey .entry)) ⌝ }
+    ensures promised { λ r. ⌜ SmallPromised q (now (survey .entry)) r (now (survey .exit)) ⌝ }
+{
+    planner::small_survey(q, survey)
 }

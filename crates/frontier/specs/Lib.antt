@@ -8,5 +8,6 @@ pub mod Walk
 pub mod Found
 pub mod Listed
 pub mod Plans
--- what code goes by: positions by places
+-- what code goes by: positions by places and by numbers
 pub mod Places
+pub mod Ordered

@@ -54,6 +54,12 @@ module _ (f : ℕ → Checked) where
   unfolding firstRefusal _orElse_
   first-found m r e q k h = le-ind (λ j. firstRefusal f j ≡ Refused r) (first-next m e ∙ q) (λ j _ ih. rw ih) k h
 
+  -- where no check finds anything, nothing is found
+  pub first-none : (m : ℕ) → ((i : ℕ) → i < m → f i ≡ Fine) → firstRefusal f m ≡ Fine
+  unfolding firstRefusal
+  first-none zero h = refl
+  first-none (suc m) h = first-next m (first-none m (λ i k. h i (omega arith))) ∙ h m (omega arith)
+
   -- where nothing was found, no check found anything
   pub first-fine : (m : ℕ) → firstRefusal f m ≡ Fine → (i : ℕ) → i < m → f i ≡ Fine
   unfolding firstRefusal

@@ -23,11 +23,14 @@ pub mod Fetching
 pub mod Indexing
 -- writing surveys: 2 of the kind, 3 to 8 of figures, 17
 pub mod Writing
+-- all small surveys in order: 20, 17
+pub mod SmallSurveys
 -- printing
 pub mod Printing
--- the yards worked through, P1 to P48
+-- the yards worked through, P1 to P49
 pub mod WorkedYards
 pub mod Worked
+pub mod WorkedRight
 -- theorems: which stations work, what the definitions mean, what holds of a survey's layout, of an accepted survey's bytes, of its costs and of its
 -- network
 pub mod Resting
@@ -46,10 +49,11 @@ pub mod Alike
 pub mod SameYard
 pub mod Count
 pub mod Cut
--- demands 2 and 3, and what callers rely on in an index and in a survey that is written
+-- demands 2 and 3, and what callers rely on in an index, in a survey that is written and in the small surveys
 pub mod AnswerPromise
 pub mod Promise
 pub mod IndexPromise
 pub mod WritingPromise
+pub mod SmallPromise
 -- the stations at rest, byte by byte
 pub mod RestBits

@@ -1,39 +1,27 @@
--- Document 01, "Yards worked through": P1 to P12 in one table, from survey bytes to list bytes, then the yards of later requests, and the theorem
--- that every row is right. It is computed from the definitions.
+-- Document 01, "Yards worked through": P1 to P12 in one table, from survey bytes to list bytes, then the yards of later requests. WorkedRight.antt has
+-- the theorem that every row is right.
 use mathlib.Core.Bool.{not}
 use mathlib.Core.List.{List, [], _∷_, _++_, map}
-use mathlib.Core.Path.{_≡_, refl}
+use mathlib.Core.Path.{_≡_}
 use Prim.Native.Nat.{ℕ, _-_}
 use lib.IntN.{ℤ, pos, negsuc}
 use lib.ListN.{drop, length, replicate, take}
 use mir.Syntax.{w32}
-use Rattle.order.specs.Lists.{_∈_, filter, numbersFrom}
-use Rattle.order.specs.Every.{_▸_, done, every}
+use Rattle.order.specs.Lists.{filter, numbersFrom}
 use Rattle.order.specs.Order.{orderℤ}
-use Rattle.spanning.specs.Labelling.{crosses, merge}
-use Rattle.spanning.specs.Tree as tree
-use Rattle.spanning.specs.Choose.{choose, chooseFrom}
-use Rattle.spanning.specs.Listing.{isListed, spanningTrees}
 use Rattle.frontier.specs.Frontier.{positions}
 use Rattle.kmax.specs.KMax.{kmax}
 use Rattle.network.specs.Limits.{maxPlans}
-use Rattle.network.specs.Yard.{joinsWorking, working, works}
 use Rattle.network.specs.Walk.{plans, solvedCount, walked}
-use Rattle.network.specs.Bytes.{bitsOf, signed}
-use Rattle.network.specs.Tabulate.{tabulate}
-use Rattle.network.specs.Survey.{ceilingIn, costBits, costsIn, endsIn, layoutOf, networkOf, networkWith, raised, ranksIn, restIn, rowWhere, sumsIn}
-use Rattle.network.specs.PlanList.{bufferNeed, ceilingBytes, costsAt, planMark, planSlots}
-use Rattle.network.specs.Checked.{firstRefusal, refuseIf, _orElse_}
-use Rattle.network.specs.Refusals.{absentCosts, badCount, badLength, badRanks, badRest, badSum, checkedOf, checkedWith, linkChecked}
-use Rattle.network.specs.Refusals.{recordsChecked, tooManyPositions, yardChecked}
-use Rattle.network.specs.Calls.{Reply, ifFine, reply, status}
-use Rattle.network.specs.Calls.{asked, askedChecked, bestTree, drawnChecked, judged, treeAfter, treeWith}
-use Rattle.network.specs.Calls.{listAfter, listChecked, listStatus, plansAfter, plansChecked, roomChecked}
-use Rattle.network.specs.Fetching.{damaged, fetchLinks, fetchNumber}
-use Rattle.network.specs.Indexing.{cheapest, entriesFrom, foundBy, foundPlan, indexAfter, indexChecked, indexIn, indexKey, indexOf, indexStatus}
-use Rattle.network.specs.Indexing.{isIndex, lookedUp, lookupChecked, lookupReply, meets, saysFound, unfit}
-use Rattle.network.specs.Writing.{figuresChecked, figuresFrom, layoutFor, linkBytes, linkFiguresChecked, surveyAtFront, surveyIn, unknownKind}
-use Rattle.network.specs.Writing.{writeAfter, writeChecked, writeStatus, yardBytes, yardFiguresChecked}
+use Rattle.network.specs.Bytes.{signed}
+use Rattle.network.specs.Survey.{networkOf}
+use Rattle.network.specs.PlanList.{bufferNeed}
+use Rattle.network.specs.Refusals.{badRanks, badSum, checkedOf}
+use Rattle.network.specs.Calls.{Reply, asked, judged, listAfter, listStatus, status, treeAfter}
+use Rattle.network.specs.Fetching.{fetchLinks, fetchNumber}
+use Rattle.network.specs.Indexing.{indexAfter, indexStatus, lookupReply}
+use Rattle.network.specs.Writing.{figuresFrom, writeAfter, writeStatus}
+use Rattle.network.specs.SmallSurveys.{smallAfter, smallStatus}
 use Rattle.network.specs.Printing.{printed}
 use Rattle.network.specs.WorkedYards.{A, apart, A₂, A₃, bare, costs, costsA, costs₃, countedA, cutA, endsA, entries, figures, graded, link, links41}
 use Rattle.network.specs.WorkedYards.{linksA, link₃, list, listA, listA₃, listWinter, looked, minus, mixed, mixed₃, mostAtRest, one, output42, outputA}
@@ -41,8 +29,6 @@ use Rattle.network.specs.WorkedYards.{outputA₃, outputSolar, outputWin
 use Rattle.network.specs.WorkedYards.{sumsA, sunny, tallied, three, tied, tripled, two, unmarked, winter, yard}
 use Rattle.network.specs.declared.Status.{Status}
 use Rattle.network.specs.declared.YardFigures.{YardFigures}
-
--- ---- the rows
 
 -- A question with its answer.
 pub data Row : Type 0 where
@@ -70,6 +56,8 @@ pub data Row : Type 0 where
   looks : (list index : List ℕ) (y : ℤ) → Reply → Row
   -- writing the survey of a yard and columns, with a kind of yard record, into an output: its reply, and the output after it
   writes : (kind : ℕ) (y : YardFigures) (ends : List ℕ) (sums costs : List ℤ) (output : List ℕ) → Status → List ℕ → Row
+  -- the small survey of a number, into an output: its reply, and the output after it
+  numbers : (q : ℕ) (output : List ℕ) → Status → List ℕ → Row
   -- standard input, and what the program prints
   prints : (input output : List ℕ) → Row
 
@@ -101,6 +89,7 @@ Right (builds l buffer r after) = (indexStatus l (length buffer) ≡ r) × (inde
 Right (looks l index y r) = lookupReply l index y ≡ r
 Right (writes kind y ends sums costs output r after) =
     let f = figuresFrom y ends sums costs in (writeStatus kind f (length output) ≡ r) × (writeAfter kind f output ≡ after)
+Right (numbers q output r after) = (smallStatus q (length output) ≡ r) × (smallAfter q output ≡ after)
 Right (prints input output) = printed input ≡ output
 
 -- A yard worked through: its P number, how many rows it has, and these.
@@ -113,13 +102,13 @@ pub record Work : Type 0 where
 abbrev P : ℕ → ℕ → List Row → Work
 P n count rows = record { number = n; count = count; rows = rows }
 
--- P1 to P48, in their order, each with its rows. P1 to P12 are document 01's; in P13 to P16 both ranks may be 2, P14's tree has one link above both
+-- P1 to P49, in their order, each with its rows. P1 to P12 are document 01's; in P13 to P16 both ranks may be 2, P14's tree has one link above both
 -- bounds and P15's two, one above each; in P17 to P21 sum costs may be negative; P22 to P25 have a link count, P24 on where 15 stands among the
 -- numbers and P25 on lengths and marks; P26 to P29 are on the index, with signs and ties, without ceilings, and where it is declined; P30 to P33 are
 -- on writing, P32 on the order of the numbers and P33 on columns and an output that are too short; in P34 to P40 stations may rest, P38 with bits of
 -- both kinds in each of the three bytes, P39 on where 18 stands; in P41 to P48 there may be three ceilings, P44 on the ranks that pass, P45 on p,
--- marks and lengths, P46 on M and where 19 stands, P47 on fetching and P48 on the index
-pub table : List Work
+-- marks and lengths, P46 on M and where 19 stands, P47 on fetching and P48 on the index; P49 is on the small surveys
+unfoldable pub table : List Work
 table =
     P 1 2 (
     lists (A 1) (two (two 1 2) (two 0 1)) 3 46 listA
@@ -300,91 +289,13 @@ table =
     builds mixed₃ (replicate 10 0xFF) (replied 0 0) (entries (1 ∷ 2 ∷ 3 ∷ 0 ∷ 4 ∷ []))
     ∷ looks mixed₃ (entries (1 ∷ 2 ∷ 3 ∷ 0 ∷ 4 ∷ [])) (pos 2) (looked 1)
     ∷ looks mixed₃ (entries (1 ∷ 2 ∷ 3 ∷ 4 ∷ 0 ∷ [])) (pos 2) (refused 12 0) ∷ [])
+    ∷ P 49 8 (
+    numbers 0 (replicate 44 0xFF) (replied 0 0) (yard 3 1 1 0 (replicate 3 (link 0 1 0 0 0)) ++ two 0xFF 0xFF)
+    ∷ numbers 1 output42 (replied 0 0) (yard 3 1 1 0 (three (link 0 1 0 0 0) (link 0 1 0 0 0) (link 0 1 0 1 0)))
+    ∷ numbers 1_129 output42 (replied 0 0) (yard 3 1 1 0 (three (link 0 2 1 1 0) (link 1 2 1 0 0) (link 0 1 0 1 0)))
+    ∷ numbers 1_727 output42 (replied 0 0) (yard 3 1 1 0 (replicate 3 (link 1 2 1 1 0)))
+    ∷ numbers 1_727 (take 41 output42) (replied 17 0) (take 41 output42)
+    ∷ numbers 1_728 (take 41 output42) (replied 20 0) (take 41 output42)
+    ∷ numbers 65_536 output42 (replied 20 0) output42
+    ∷ numbers 4_294_967_295 output42 (replied 20 0) output42 ∷ [])
     ∷ []
-
--- ---- the theorem
-
--- every row of a yard is right
-abbrev pub AllRight : Work → Type 0
-AllRight w = (r : Row) → r ∈ w .rows → Right r
-
--- every row of the table is right
-pub table-right : (w : Work) → w ∈ table → AllRight w
-unfolding table endsIn sumsIn ceilingIn costsIn tabulate rowWhere layoutOf networkWith raised signed bitsOf
-    spanningTrees choose chooseFrom tree.isTree tree.isTreeFrom tree.isForest tree.isOneComponent crosses merge numbersFrom isListed
-    works working joinsWorking restIn ranksIn costBits
-    badCount badLength badRanks badRest badSum absentCosts tooManyPositions checkedWith recordsChecked linkChecked yardChecked
-    firstRefusal refuseIf _orElse_ reply status ifFine
-    judged drawnChecked asked askedChecked bestTree treeAfter treeWith roomChecked plansChecked plansAfter listChecked listStatus listAfter printed
-    planSlots planMark ceilingBytes costsAt damaged fetchNumber fetchLinks
-    indexKey indexOf unfit indexChecked indexStatus indexIn indexAfter entriesFrom isIndex meets cheapest lookupChecked
-    foundPlan foundBy lookedUp saysFound lookupReply
-    figuresFrom yardBytes linkBytes surveyIn layoutFor unknownKind yardFiguresChecked linkFiguresChecked figuresChecked
-    writeChecked writeStatus surveyAtFront writeAfter
-table-right = every AllRight (
-    every Right (record { promised = refl; by-walk = refl; counted = refl; needed = refl; succeeds = refl; bytes = refl } ▸ refl ▸ done)
-    ▸ every Right (record { promised = refl; by-walk = refl; counted = refl; needed = refl; succeeds = refl; bytes = refl } ▸ done)
-    ▸ every Right (record { promised = refl; by-walk = refl; counted = refl; needed = refl; succeeds = refl; bytes = refl } ▸ done)
-    ▸ every Right (record { promised = refl; by-walk = refl; counted = refl; needed = refl; succeeds = refl; bytes = refl } ▸ done)
-    ▸ every Right (record { promised = refl; by-walk = refl; counted = refl; needed = refl; succeeds = refl; bytes = refl } ▸ done)
-    ▸ every Right (record { promised = refl; by-walk = refl; counted = refl; needed = refl; succeeds = refl; bytes = refl } ▸ done)
-    ▸ every Right (record { promised = refl; by-walk = refl; counted = refl; needed = refl; succeeds = refl; bytes = refl } ▸ done)
-    ▸ every Right ((refl, refl) ▸ done)
-    ▸ every Right ((refl, refl) ▸ done)
-    ▸ every Right (refl ▸ done)
-    ▸ every Right (refl ▸ done)
-    ▸ every Right ((refl, refl) ▸ (refl, refl) ▸ done)
-    ▸ every Right (record { promised = refl; by-walk = refl; counted = refl; needed = refl; succeeds = refl; bytes = refl } ▸ done)
-    ▸ every Right ((refl, refl) ▸ done)
-    ▸ every Right ((refl, refl) ▸ done)
-    ▸ every Right (refl ▸ refl ▸ refl ▸ done)
-    ▸ every Right (record { promised = refl; by-walk = refl; counted = refl; needed = refl; succeeds = refl; bytes = refl } ▸ refl ▸ done)
-    ▸ every Right (record { promised = refl; by-walk = refl; counted = refl; needed = refl; succeeds = refl; bytes = refl } ▸ done)
-    ▸ every Right ((refl, refl) ▸ done)
-    ▸ every Right (refl ▸ done)
-    ▸ every Right ((refl, refl) ▸ done)
-    ▸ every Right (record { promised = refl; by-walk = refl; counted = refl; needed = refl; succeeds = refl; bytes = refl } ▸ refl ▸ done)
-    ▸ every Right ((refl, refl) ▸ (refl, refl) ▸ refl ▸ done)
-    ▸ every Right (refl ▸ refl ▸ refl ▸ refl ▸ refl ▸ refl ▸ done)
-    ▸ every Right (refl ▸ refl ▸ refl ▸ refl ▸ refl ▸ done)
-    ▸ every Right ((refl, refl) ▸ refl ▸ refl ▸ refl ▸ done)
-    ▸ every Right ((refl, refl) ▸ refl ▸ refl ▸ refl ▸ done)
-    ▸ every Right ((refl, refl) ▸ refl ▸ done)
-    ▸ every Right (refl ▸ refl ▸ refl ▸ refl ▸ (refl, refl) ▸ (refl, refl) ▸ (refl, refl) ▸ refl ▸ done)
-    ▸ every Right ((refl, refl) ▸ (refl, refl) ▸ done)
-    ▸ every Right ((refl, refl) ▸ (refl, refl) ▸ (refl, refl) ▸ done)
-    ▸ every Right ((refl, refl) ▸ (refl, refl) ▸ (refl, refl) ▸ (refl, refl) ▸ (refl, refl) ▸ (refl, refl) ▸ (refl, refl) ▸ done)
-    ▸ every Right ((refl, refl) ▸ (refl, refl) ▸ (refl, refl) ▸ (refl, refl) ▸ (refl, refl) ▸ (refl, refl) ▸ (refl, refl) ▸ done)
-    ▸ every Right (record { promised = refl; by-walk = refl; counted = refl; needed = refl; succeeds = refl; bytes = refl }
-    ▸ refl
-    ▸ (refl, refl)
-    ▸ (refl, refl)
-    ▸ refl
-    ▸ refl ▸ done)
-    ▸ every Right (record { promised = refl; by-walk = refl; counted = refl; needed = refl; succeeds = refl; bytes = refl } ▸ refl ▸ done)
-    ▸ every Right (record { promised = refl; by-walk = refl; counted = refl; needed = refl; succeeds = refl; bytes = refl } ▸ refl ▸ done)
-    ▸ every Right (record { promised = refl; by-walk = refl; counted = refl; needed = refl; succeeds = refl; bytes = refl } ▸ done)
-    ▸ every Right (record { promised = refl; by-walk = refl; counted = refl; needed = refl; succeeds = refl; bytes = refl } ▸ done)
-    ▸ every Right (refl ▸ refl ▸ refl ▸ refl ▸ refl ▸ refl ▸ refl ▸ done)
-    ▸ every Right (refl ▸ refl ▸ refl ▸ refl ▸ done)
-    ▸ every Right (record { promised = refl; by-walk = refl; counted = refl; needed = refl; succeeds = refl; bytes = refl } ▸ refl ▸ done)
-    ▸ every Right (record { promised = refl; by-walk = refl; counted = refl; needed = refl; succeeds = refl; bytes = refl }
-    ▸ record { promised = refl; by-walk = refl; counted = refl; needed = refl; succeeds = refl; bytes = refl } ▸ done)
-    ▸ every Right ((refl, refl) ▸ (refl, refl) ▸ (refl, refl) ▸ refl ▸ done)
-    ▸ every Right (refl ▸ refl ▸ refl ▸ done)
-    ▸ every Right (refl ▸ refl ▸ refl ▸ refl ▸ refl ▸ refl ▸ refl ▸ refl ▸ refl ▸ refl ▸ (refl, refl) ▸ done)
-    ▸ every Right (refl ▸ refl ▸ refl ▸ refl ▸ (refl, refl) ▸ (refl, refl) ▸ refl ▸ refl ▸ refl ▸ done)
-    ▸ every Right ((refl, refl) ▸ (refl, refl) ▸ (refl, refl) ▸ (refl, refl) ▸ (refl, refl) ▸ (refl, refl) ▸ (refl, refl) ▸ done)
-    ▸ every Right ((refl, refl) ▸ refl ▸ refl ▸ done)
-    ▸ done
-    )
-
--- no P is left out, and none stands twice
-pub table-numbers : map (λ (w : Work). w .number) table ≡ numbersFrom 48 1
-unfolding table numbersFrom
-table-numbers = refl
-
--- each has as many rows as it says
-pub table-counts : map (λ (w : Work). length (w .rows)) table ≡ map (λ (w : Work). w .count) table
-unfolding table
-table-counts = refl

@@ -16,6 +16,9 @@ pub use planner_fetch::fetch_number;
 // The survey of figures, with the kind of yard record asked for, into the output: number 0 and place 0, or the refusal.
 pub use planner_write::write_survey;
 
+// Small survey q, into the output: number 0 and place 0, or the refusal.
+pub use planner_small::small_survey;
+
 // The index of a list by first ceiling, into the index buffer: number 0 and place 0, or the refusal.
 pub use planner_index::index;
 

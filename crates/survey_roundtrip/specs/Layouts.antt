@@ -49,7 +49,7 @@ pub none-at-rest : (l : Layout) → Writable l → (s : List ℕ) → restIn l s
 unfolding restIn
 none-at-rest l w s = rw (w .awake)
 
-plain-writable : Writable plain
+pub plain-writable : Writable plain
 unfolding layoutOf rowWhere
 plain-writable =
     record { fewest = refl; slots = refl; marked = refl; size = refl; counted = refl; awake = refl; link-marked = refl; link-size = refl; read = refl }

@@ -14,3 +14,5 @@ pub mod Former
 pub mod Written
 -- surveys that say the same figures are planned alike
 pub mod Planned
+-- the figures of an accepted survey are legal
+pub mod Legal

@@ -63,11 +63,12 @@ module _ (l : Layout) (s : List ℕ) where
   abbrev f : Figures
   f = figuresIn l s
 
-  many : length (f .links) ≡ m
+  -- the links of its figures are those of its link records
+  pub many : length (f .links) ≡ m
   unfolding figuresIn
   many = length-map (numbersFrom m 0) (λ i. linkIn s (linkStart l i)) ∙ numbers-length m 0
 
-  link : (i : ℕ) → i < m → linkOf f i ≡ linkIn s (linkStart l i)
+  pub link : (i : ℕ) → i < m → linkOf f i ≡ linkIn s (linkStart l i)
   unfolding figuresIn
   link i h =
       let size = numbers-length m 0 in

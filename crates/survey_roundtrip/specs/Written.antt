@@ -1,4 +1,4 @@
--- Writes one after the other that make a link record, a yard record and the link records of columns.
+-- Writes one after the other that make a link record, a yard record, the link records of columns, and a survey.
 use mathlib.Core.Bool.{Bool, true, false, cond}
 use mathlib.Core.List.{List, [], _∷_, _++_, map, append-assoc, append-nil, map-map}
 use mathlib.Core.Path.{_≡_, refl, sym, ap, _∙_}
@@ -7,7 +7,7 @@ use native.Mathlib.Nat.{add-zero, zero-add}
 use native.Mathlib.Numerals.{add-one}
 use native.Mathlib.Omega.{arith}
 use lib.IntN.{ℤ}
-use lib.ListN.{length, length-append}
+use lib.ListN.{drop, length, length-append}
 use borrow.Author.Tests.{le-ltb, lt-ltb}
 use mir.Syntax.{w16, w32}
 use Rattle.order.specs.Lists.{numbersFrom}
@@ -15,12 +15,12 @@ use Rattle.network.specs.Bytes.{bitsOf, littleEndian}
 use Rattle.network.specs.Limits.{maxLinks}
 use Rattle.network.specs.Survey.{hasCount}
 use Rattle.network.specs.PlanList.{join}
-use Rattle.network.specs.Writing.{Link, figuresFrom, linkBytes, linkFrom, yardBytes}
+use Rattle.network.specs.Writing.{Figures, Link, figuresFrom, linkBytes, linkFrom, surveyAtFront, surveyIn, yardBytes}
 use Rattle.network.specs.declared.Layout.{Layout}
 use Rattle.network.specs.declared.YardFigures.{YardFigures}
 use Rattle.buffers.specs.Overwrite.{overwrite, overwrite-chain, overwrite-nothing}
 use Rattle.survey_roundtrip.specs.Layouts.{Writable, writtenLink, writtenYard}
-use Rattle.survey_roundtrip.specs.Fields.{length-link}
+use Rattle.survey_roundtrip.specs.Fields.{length-link, yard-length}
 use Rattle.survey_roundtrip.specs.Columns.{Full, map-agree, whole}
 
 -- ---- one record
@@ -139,3 +139,15 @@ module _ (mark : List ℕ) (ends : List ℕ) (sums costs : List ℤ) where
       (map-agree bytesOf (λ i. linkBytes mark (linkFrom (y .p) ends sums costs i)) (length sums) 0 (λ i h.
       ap (linkBytes mark) (sym (whole y ends sums costs full i (omega arith))))
       ∙ sym (map-map (linkBytes mark) (linkFrom (y .p) ends sums costs) (numbersFrom (length sums) 0)))
+
+-- ---- the survey
+
+-- the yard record and then the link records of figures are their survey, in front of what stood past it
+pub survey-made : (l : Layout) → Writable l → (f : Figures) (d : List ℕ) {o o′ : List ℕ} → o ≡ overwrite d 0 (yardBytes l (f .yard) (length (f .links)))
+    → o′ ≡ overwrite o (l .yard .size) (join (map (linkBytes (l .link .mark)) (f .links))) → o′ ≡ surveyAtFront (surveyIn l f) d
+unfolding surveyIn surveyAtFront overwrite
+survey-made l w f d e q =
+    let yard = yardBytes l (f .yard) (length (f .links)) in
+    let behind : l .yard .size ≡ 0 + length yard = sym (zero-add (length yard) ∙ yard-length l w (f .yard) (length (f .links))) in
+    overwrite-chain d 0 yard (l .yard .size) (join (map (linkBytes (l .link .mark)) (f .links))) q e behind (omega arith)
+    ∙ ap (λ (k : ℕ). surveyIn l f ++ drop k d) (zero-add (length (surveyIn l f)))

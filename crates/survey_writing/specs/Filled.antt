@@ -1,14 +1,13 @@
 -- Writing once the kind is known and the yard's figures are not refused: the links, then 17.
 use mathlib.Core.Bool.{true, false}
-use mathlib.Core.List.{List, _++_}
-use mathlib.Core.Path.{_≡_, sym, ap, ap₂, _∙_}
+use mathlib.Core.List.{List}
+use mathlib.Core.Path.{_≡_, sym, ap, _∙_}
 use Prim.Native.Nat.{ℕ, _+_, _*_, _≤_, _<_}
-use native.Mathlib.Nat.{zero-add}
 use native.Mathlib.Omega.{arith}
 use borrow.Author.Tests.{le-ltb, lt-ltb}
 use lib.Dec.{ltb}
 use lib.IntN.{ℤ}
-use lib.ListN.{drop, length}
+use lib.ListN.{length}
 use Rattle.network.specs.Checked.{refuseIf, _orElse_}
 use Rattle.network.specs.Calls.{ifFine, status}
 use Rattle.network.specs.Writing.{Figures, figuresFrom, linksFiguresChecked, surveyAtFront, surveyIn, yardBytes}
@@ -18,11 +17,11 @@ use Rattle.network.specs.declared.Layout.{Layout}
 use Rattle.network.specs.declared.Refusal.{Refusal}
 use Rattle.network.specs.declared.Status.{Status}
 use Rattle.network.specs.declared.YardFigures.{YardFigures}
-use Rattle.buffers.specs.Overwrite.{overwrite, overwrite-chain}
+use Rattle.buffers.specs.Overwrite.{overwrite}
 use Rattle.survey_roundtrip.specs.Columns.{Full, columnsChecked, link-many, links-checked}
-use Rattle.survey_roundtrip.specs.Fields.{survey-length, yard-length}
+use Rattle.survey_roundtrip.specs.Fields.{survey-length}
 use Rattle.survey_roundtrip.specs.Layouts.{Writable, writtenLink}
-use Rattle.survey_roundtrip.specs.Written.{records-all, recordsTo}
+use Rattle.survey_roundtrip.specs.Written.{records-all, recordsTo, survey-made}
 
 -- 7 and 8 link by link, then 17: what is left of `writeChecked` by then
 unfoldable pub fullChecked : Layout → Figures → ℕ → Checked
@@ -43,15 +42,11 @@ module _ (l : Layout) (w : Writable l) (y : YardFigures) (ends : List ℕ) (sums
   -- the yard record and then the link records, written, are the survey
   pub survey-written : Full ends sums costs → (d : List ℕ) {o o′ : List ℕ} → o ≡ overwrite d 0 (yardBytes l y (length sums))
       → o′ ≡ overwrite o (l .yard .size) (recordsTo (l .link .mark) ends sums costs (length sums)) → o′ ≡ surveyAtFront (surveyIn l f) d
-  unfolding surveyIn surveyAtFront overwrite figuresFrom
+  unfolding figuresFrom
   survey-written full d e q =
-      let yard = yardBytes l y (length sums) in
-      let records = recordsTo (l .link .mark) ends sums costs (length sums) in
-      let whole : yard ++ records ≡ surveyIn l f =
-      ap₂ (λ (m : ℕ) (r : List ℕ). yardBytes l y m ++ r) (sym (link-many y ends sums costs)) (records-all (l .link .mark) ends sums costs full y) in
-      overwrite-chain d 0 yard (l .yard .size) records q e (sym (zero-add (length yard) ∙ yard-length l w y (length sums))) (omega arith)
-      ∙ ap (λ (s : List ℕ). s ++ drop (0 + length s) d) whole
-      ∙ ap (λ (k : ℕ). surveyIn l f ++ drop k d) (zero-add (length (surveyIn l f)))
+      survey-made l w f d
+      (e ∙ ap (λ (m : ℕ). overwrite d 0 (yardBytes l y m)) (sym (link-many y ends sums costs)))
+      (q ∙ ap (overwrite _ (l .yard .size)) (records-all (l .link .mark) ends sums costs full y))
 
   -- the survey has as many bytes as its records
   full-length : length (surveyIn l f) ≡ l .yard .size + length sums * writtenLink

@@ -5,6 +5,7 @@ use crate::fetch_rules::fetch_fault;
 use crate::index_rules::{build_fault, lookup_fault};
 use crate::list_bytes::Plans;
 use crate::planner::Planner;
+use crate::small_rules::due_small_survey;
 use crate::tally::{Call, Tally};
 use crate::write_rules::{write_fault, Request};
 use peer::records::MAX_CEILINGS;
@@ -170,6 +171,21 @@ impl<'a> Comparison<'a> {
             .or_else(|| self.reading_fault(&due));
         let outcome = hold(outcome, fault, describe)?;
         self.tally.writes.count(request, lent.len(), outcome.reply);
+        Ok(outcome)
+    }
+
+    /// Asks for a small survey, in an output that holds the bytes of `lent`.
+    pub fn small_survey(&mut self, number: u32, lent: &[u8]) -> Result<Outcome<()>, Difference> {
+        let outcomes = self.planners.map(|planner| {
+            let mut bytes = lent.to_vec();
+            let reply = planner.small_survey(number, &mut bytes);
+            Outcome { reply, bytes }
+        });
+        let describe = || format!("small survey {number} lent {lent:x?}");
+        let outcome = self.settle(Call::Small, outcomes, describe)?;
+        let fault = write_fault(&due_small_survey(number, lent.len()), lent, &outcome);
+        let outcome = hold(outcome, fault, describe)?;
+        self.tally.smalls.count(number, lent.len(), outcome.reply);
         Ok(outcome)
     }
 

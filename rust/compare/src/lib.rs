@@ -5,9 +5,12 @@
 
 #![forbid(unsafe_code)]
 
+pub mod all_trees;
+pub mod by_all_trees;
 pub mod by_listing;
 pub mod columns;
 pub mod comparison;
+pub mod complete_set;
 pub mod damage;
 pub mod draft;
 pub mod fetch_rules;
@@ -38,6 +41,9 @@ pub mod rng;
 pub mod round;
 pub mod round_trip;
 pub mod site;
+pub mod small_calls;
+pub mod small_rules;
+pub mod small_tally;
 pub mod sums;
 pub mod tally;
 pub mod triple_reasons;

@@ -44,6 +44,11 @@ pub trait Planner {
     fn write_survey(&self, kind: u32, figures: &Figures, survey: &mut [u8]) -> Result<(), Refusal> {
         peer::write_survey(kind, figures, survey)
     }
+
+    /// The small survey of a number.
+    fn small_survey(&self, number: u32, survey: &mut [u8]) -> Result<(), Refusal> {
+        peer::small_survey(number, survey)
+    }
 }
 
 /// The independent planner.
@@ -103,6 +108,10 @@ impl Planner for Archive {
             costs,
         };
         ranqustei::write_survey(kind, &figures, survey).map_err(refusal)
+    }
+
+    fn small_survey(&self, number: u32, survey: &mut [u8]) -> Result<(), Refusal> {
+        ranqustei::small_survey(number, survey).map_err(refusal)
     }
 }
 

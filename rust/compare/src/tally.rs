@@ -5,6 +5,7 @@ use crate::listed::Listed;
 use crate::positions::PositionTally;
 use crate::records::RecordTally;
 use crate::rests::{RestTally, REST_RECORDS};
+use crate::small_tally::SmallTally;
 use crate::sums::SumTally;
 use crate::triple_reasons::ReasonTally;
 use crate::write_tally::WriteTally;
@@ -26,13 +27,15 @@ pub enum Call {
     Lookup,
     /// The survey of figures.
     Write,
+    /// A small survey.
+    Small,
 }
 
 /// The numbers that are replied end here; 0 is success.
-pub const NUMBERS: usize = 20;
+pub const NUMBERS: usize = 21;
 
 /// The name of each call in reports, and the numbers that it replies with, in the order of `Call`.
-pub const CALLS: [(&str, &[usize]); 7] = [
+pub const CALLS: [(&str, &[usize]); 8] = [
     ("judge", &[0, 1, 2, 3, 4, 5, 6, 7, 8, 11, 15, 18, 19]),
     ("best", &[0, 1, 2, 3, 4, 5, 6, 7, 8, 9, 14, 15, 18, 19]),
     ("list", &[0, 1, 2, 3, 4, 5, 6, 7, 8, 9, 10, 15, 18, 19]),
@@ -40,12 +43,13 @@ pub const CALLS: [(&str, &[usize]); 7] = [
     ("index", &[0, 12, 16]),
     ("lookup", &[0, 12, 13, 16]),
     ("write", &[0, 2, 3, 4, 5, 6, 7, 8, 17]),
+    ("small survey", &[0, 17, 20]),
 ];
 
 /// How much was compared.
 #[derive(Clone, Copy, Default)]
 pub struct Tally {
-    /// Surveys, hand-made lists, or figures.
+    /// Surveys, hand-made lists, figures, or numbers of small surveys.
     pub samples: u64,
     /// Surveys or figures that are legal.
     pub legal: u64,
@@ -69,6 +73,8 @@ pub struct Tally {
     pub indexes: IndexTally,
     /// Which figures were written.
     pub writes: WriteTally,
+    /// Which small surveys were asked for.
+    pub smalls: SmallTally,
 }
 
 impl Tally {
@@ -99,6 +105,7 @@ impl Tally {
         self.triple_reasons.add(&other.triple_reasons);
         self.indexes.add(&other.indexes);
         self.writes.add(&other.writes);
+        self.smalls.add(&other.smalls);
         let replies = self.replies.as_flattened_mut().iter_mut();
         for (count, more) in replies.zip(other.replies.as_flattened()) {
             *count += more;

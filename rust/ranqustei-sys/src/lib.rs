@@ -5,7 +5,13 @@
 #![allow(unsafe_code)]
 
 /// The version of what is declared here; [`ranqustei_version`] is the archive's own.
-pub const VERSION: u32 = 8;
+pub const VERSION: u32 = 9;
+
+/// The number of small surveys.
+pub const SMALL_SURVEYS: u32 = 1728;
+
+/// The bytes of each small survey.
+pub const SMALL_SURVEY_BYTES: usize = 42;
 
 /// The figures of a yard record that is written.
 #[repr(C)]
@@ -21,8 +27,8 @@ pub struct Yard {
     pub k2: u8,
 }
 
-/// The reply of the list call, of the index call and of writing: number 0 and place 0, or the
-/// refusal and its place.
+/// The reply of the list call, of the index call, of writing and of the small surveys: number 0 and
+/// place 0, or the refusal and its place.
 #[repr(C)]
 #[derive(Clone, Copy, PartialEq, Eq, Debug)]
 pub struct Status {
@@ -164,4 +170,10 @@ unsafe extern "C" {
         survey: *mut u8,
         survey_length: usize,
     ) -> Status;
+
+    /// Small survey q.
+    ///
+    /// # Safety
+    /// The pointer points to as many bytes as its length says.
+    pub unsafe fn ranqustei_small_survey(q: u32, survey: *mut u8, survey_length: usize) -> Status;
 }

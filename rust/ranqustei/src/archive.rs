@@ -4,7 +4,7 @@ use crate::refusal::{Refusal, DAMAGED};
 use crate::{Costs, Figures, CEILINGS};
 use ranqustei_sys::{
     ranqustei_best, ranqustei_fetch, ranqustei_index, ranqustei_index_lookup, ranqustei_judge,
-    ranqustei_list, ranqustei_write_survey, Reply, Yard,
+    ranqustei_list, ranqustei_small_survey, ranqustei_write_survey, Reply, Yard,
 };
 
 /// Nothing for number 0, else the refusal.
@@ -174,5 +174,17 @@ pub fn write_survey(kind: u32, figures: &Figures, survey: &mut [u8]) -> Result<(
             survey.len(),
         )
     };
+    settle(status.number, status.place)
+}
+
+/// Writes the [small survey](crate::SmallSurveys) of a number into the first 42 bytes of `survey`,
+/// which are [`SMALL_SURVEY_BYTES`](crate::SMALL_SURVEY_BYTES). The bytes after them stay.
+///
+/// # Errors
+/// 20 if `number` is not below 1,728, which is [`SMALL_SURVEYS`](crate::SMALL_SURVEYS); then 17 if
+/// `survey` is below 42 bytes; place 0. `survey` then stays as it was.
+pub fn small_survey(number: u32, survey: &mut [u8]) -> Result<(), Refusal> {
+    // SAFETY: the pointer is that of a live slice, borrowed for writing, and goes with its length.
+    let status = unsafe { ranqustei_small_survey(number, survey.as_mut_ptr(), survey.len()) };
     settle(status.number, status.place)
 }

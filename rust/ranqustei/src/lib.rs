@@ -1,9 +1,9 @@
 //! The planner of the radio links of bee yards, for Rust callers.
 //!
 //! The planner itself is proved and comes as an archive. [`judge`], [`best`], [`list`], [`fetch`],
-//! [`index`], [`index_lookup`] and [`write_survey`] are its calls on slices: they allocate nothing
-//! and take any bytes and figures. [`Yard`], [`Survey`], [`Plan`], [`PlanList`] and [`PlanIndex`]
-//! are the same calls on values.
+//! [`index`], [`index_lookup`], [`write_survey`] and [`small_survey`] are its calls on slices: they
+//! allocate nothing and take any bytes and figures. [`Yard`], [`Survey`], [`Plan`], [`PlanList`],
+//! [`PlanIndex`] and [`SmallSurveys`] are the same calls on values.
 //!
 //! A yard has stations and links between them; some stations may rest. A plan is a tree: it connects
 //! all working stations without a ring, by links that end at none that rests. Its sum is taken over
@@ -78,15 +78,18 @@ mod plan_list;
 mod record;
 mod refusal;
 mod rest;
+mod small_surveys;
 mod survey;
 mod yard;
 
-pub use archive::{best, fetch, index, index_lookup, judge, list, write_survey};
+pub use archive::{best, fetch, index, index_lookup, judge, list, small_survey, write_survey};
 pub use figures::Figures;
 pub use plan::{Costs, Plan, CEILINGS};
 pub use plan_index::PlanIndex;
 pub use plan_list::PlanList;
+pub use ranqustei_sys::{SMALL_SURVEYS, SMALL_SURVEY_BYTES};
 pub use record::YardRecord;
 pub use refusal::{Cause, Refusal};
+pub use small_surveys::{small_surveys, SmallSurveys};
 pub use survey::Survey;
 pub use yard::{Link, Yard, YardError};

@@ -7,7 +7,7 @@ use std::fmt;
 #[derive(Clone, Copy, PartialEq, Eq, Debug)]
 #[non_exhaustive]
 pub struct Refusal {
-    /// The number of the cause, 1 to 19.
+    /// The number of the cause, 1 to 20.
     pub number: u8,
     /// 0 for the yard record or no record, else the link number plus 1.
     pub place: u8,
@@ -63,6 +63,8 @@ pub enum Cause {
     Resting,
     /// 19: there are over 1,600 positions.
     Positions,
+    /// 20: the number of a small survey is not below 1,728.
+    SurveyNumber,
     /// A number that the planner never gives.
     Unknown(u8),
 }
@@ -90,6 +92,7 @@ impl Refusal {
             17 => Cause::Output,
             18 => Cause::Resting,
             19 => Cause::Positions,
+            20 => Cause::SurveyNumber,
             number => Cause::Unknown(number),
         }
     }
@@ -150,6 +153,7 @@ impl Cause {
                 "the yard has over 1,600 positions: the different costs of usable links by \
                  ceiling, multiplied"
             }
+            Cause::SurveyNumber => "there are 1,728 small surveys, numbered from 0",
             Cause::Unknown(_) => "refused for an unknown cause",
         }
     }
@@ -180,7 +184,7 @@ mod tests {
 
     #[test]
     fn numbers_that_the_planner_never_gives() {
-        for number in [0, 20, 255] {
+        for number in [0, 21, 255] {
             let refusal = Refusal { number, place: 2 };
             assert_eq!(refusal.cause(), Cause::Unknown(number));
             assert_eq!(

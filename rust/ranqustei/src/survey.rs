@@ -1,7 +1,8 @@
 //! A survey that the planner accepts, and the questions to it.
 
 use crate::record::{plan_len, HEAD_LEN};
-use crate::{best, judge, list, Cause, Costs, Plan, PlanList, Refusal, Yard, YardRecord, CEILINGS};
+use crate::{best, judge, list, small_survey, Cause, Costs, Plan, PlanList, Refusal, Yard};
+use crate::{YardRecord, CEILINGS, SMALL_SURVEY_BYTES};
 use std::collections::BTreeSet;
 
 /// Survey bytes that the planner accepts.
@@ -23,6 +24,27 @@ impl Survey {
             Err(refusal) if refusal.cause() != Cause::Buffer => Err(refusal),
             _ => Ok(Survey::accepted(bytes)),
         }
+    }
+
+    /// The small survey of a number; [`SmallSurveys`](crate::SmallSurveys) says which they are.
+    ///
+    /// ```
+    /// use ranqustei::{Cause, Survey};
+    ///
+    /// // Links 0–1, 0–2 and 1–2, each with a sum and a cost of 0.
+    /// let survey = Survey::small(4 * 12 + 8)?;
+    /// assert_eq!(survey.plans()?.get(0)?.to_string(), "0 0 links 0 1");
+    /// assert!(Survey::small(1728).is_err_and(|refusal| refusal.cause() == Cause::SurveyNumber));
+    /// # Ok::<(), ranqustei::Refusal>(())
+    /// ```
+    ///
+    /// # Errors
+    /// 20 if the number is not below 1,728.
+    pub fn small(number: u32) -> Result<Survey, Refusal> {
+        let mut bytes = vec![0; SMALL_SURVEY_BYTES];
+        small_survey(number, &mut bytes)?;
+        // The planner accepts every small survey.
+        Ok(Survey::accepted(bytes))
     }
 
     /// The survey of bytes that the planner accepts.

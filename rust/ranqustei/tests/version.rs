@@ -1,4 +1,4 @@
-//! The build takes an archive of the right version and no other.
+//! The build takes an archive of the right version and no other, and the header declares the same.
 
 use std::path::Path;
 use std::process::{Command, Output};
@@ -43,4 +43,19 @@ fn only_an_archive_of_the_right_version_builds() {
         said.contains(&format!("libcapi.a has version {other}")),
         "{said}"
     );
+}
+
+#[test]
+fn the_header_has_the_same_figures() {
+    let header = include_str!("../../../c/ranqustei.h");
+    let figure = |name: &str| {
+        let (_, after) = header.split_once(&format!(" RANQUSTEI_{name} = "))?;
+        let digits = after.split(|sign: char| !sign.is_ascii_digit());
+        digits.map(str::parse::<usize>).next()?.ok()
+    };
+    assert_eq!(figure("VERSION"), Some(ranqustei_sys::VERSION as usize));
+    let surveys = ranqustei_sys::SMALL_SURVEYS as usize;
+    assert_eq!(figure("SMALL_SURVEYS"), Some(surveys));
+    let bytes = ranqustei_sys::SMALL_SURVEY_BYTES;
+    assert_eq!(figure("SMALL_SURVEY_BYTES"), Some(bytes));
 }

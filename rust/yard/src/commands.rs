@@ -1,4 +1,4 @@
-//! The commands of the tool, each from its operands to its result.
+//! The commands on yards, lists and indexes, each from its operands to its result.
 
 use crate::chart::chart;
 use crate::drawing::draw;
@@ -48,7 +48,7 @@ pub fn answer(command: &OsStr, words: &Words, input: &mut dyn Read) -> Result<Ve
             "the command is `yard {command} {takes} [-o FILE]`"
         )))
     };
-    let [file, rest @ ..] = words.operands.as_slice() else {
+    let ([file, rest @ ..], false) = (words.operands.as_slice(), words.all) else {
         return wrong();
     };
     match (command, rest, words.plan, words.record) {

@@ -16,6 +16,7 @@ mod figures;
 mod files;
 mod labels;
 mod layout;
+mod small;
 mod store;
 mod svg;
 mod table;
@@ -23,7 +24,7 @@ mod text;
 mod words;
 
 pub use failure::Failure;
-pub use store::store;
+pub use store::{store, store_all_new, store_new};
 
 use std::ffi::OsString;
 use std::io::Read;
@@ -32,13 +33,32 @@ use words::Words;
 /// The text of `yard help`.
 pub const HELP: &str = include_str!("help.txt");
 
-/// The result of a command, and the file that it goes to if not to standard output.
+/// The result of a command, and where it goes.
 #[derive(Debug)]
-pub struct Output {
-    /// The result.
-    pub bytes: Vec<u8>,
-    /// The file of `-o`.
-    pub file: Option<OsString>,
+pub enum Output {
+    /// To standard output.
+    Printed(Vec<u8>),
+    /// To a file, in the place of what stands there.
+    File {
+        /// The file of `-o`.
+        name: OsString,
+        /// The result.
+        bytes: Vec<u8>,
+    },
+    /// To a file that is not there yet.
+    NewFile {
+        /// The file of `-o`.
+        name: OsString,
+        /// The result.
+        bytes: Vec<u8>,
+    },
+    /// To files that are not there yet.
+    NewFiles {
+        /// The folder of `-o`.
+        folder: OsString,
+        /// Each file's name in the folder, and its bytes.
+        files: Vec<(String, Vec<u8>)>,
+    },
 }
 
 /// Runs a command. It reads the files that the words name, and writes nothing.
@@ -54,15 +74,15 @@ pub fn run(
         return Err(Failure::usage("a command is needed"));
     };
     if ["help", "--help", "-h"].iter().any(|help| command == *help) {
-        return Ok(Output {
-            bytes: HELP.as_bytes().to_vec(),
-            file: None,
-        });
+        return Ok(Output::Printed(HELP.as_bytes().to_vec()));
     }
     let words = Words::sort(words)?;
+    if command == "small" {
+        return small::small(words);
+    }
     let bytes = commands::answer(&command, &words, input)?;
-    Ok(Output {
-        bytes,
-        file: words.output,
+    Ok(match words.output {
+        None => Output::Printed(bytes),
+        Some(name) => Output::File { name, bytes },
     })
 }

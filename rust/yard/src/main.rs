@@ -1,9 +1,10 @@
 //! The program `yard`.
 
 use std::env;
+use std::ffi::OsStr;
 use std::io::{self, ErrorKind, Write};
 use std::process::ExitCode;
-use yard::{run, store, Failure, Output};
+use yard::{run, store, store_all_new, store_new, Failure, Output};
 
 fn main() -> ExitCode {
     match run(env::args_os().skip(1), &mut io::stdin().lock()).and_then(deliver) {
@@ -17,17 +18,29 @@ fn main() -> ExitCode {
 }
 
 fn deliver(output: Output) -> Result<(), Failure> {
-    match output.file {
-        Some(file) => store(&file, &output.bytes)
-            .map_err(|error| Failure::input(format!("{}: {error}", file.display()))),
-        None => match print(&output.bytes) {
+    match output {
+        Output::Printed(bytes) => match print(&bytes) {
             // A reader that has read enough is no failure.
             Err(error) if error.kind() != ErrorKind::BrokenPipe => {
                 Err(Failure::input(format!("standard output: {error}")))
             }
             _ => Ok(()),
         },
+        Output::File { name, bytes } => {
+            store(&name, &bytes).map_err(|error| unwritten(&name, error))
+        }
+        Output::NewFile { name, bytes } => {
+            store_new(&name, &bytes).map_err(|error| unwritten(&name, error))
+        }
+        Output::NewFiles { folder, files } => {
+            store_all_new(&folder, &files).map_err(|(name, error)| unwritten(&name, error))
+        }
     }
+}
+
+/// The failure of a file or a folder that is not written.
+fn unwritten(name: &OsStr, error: io::Error) -> Failure {
+    Failure::input(format!("{}: {error}", name.display()))
 }
 
 fn print(bytes: &[u8]) -> io::Result<()> {

@@ -1,8 +1,8 @@
-//! Writing a result to a file.
+//! Writing results to files.
 
-use std::ffi::OsStr;
+use std::ffi::{OsStr, OsString};
 use std::fs::{self, File};
-use std::io::{self, Write};
+use std::io::{self, ErrorKind, Write};
 use std::path::{Path, PathBuf};
 
 /// Writes a file whole or not at all: what stood there stays until all bytes are on the disk.
@@ -11,8 +11,7 @@ use std::path::{Path, PathBuf};
 /// The file, or `FILE.part` beside it, cannot be written; `FILE.part` is there already.
 pub fn store(file: &OsStr, bytes: &[u8]) -> io::Result<()> {
     let file = fs::canonicalize(file).unwrap_or_else(|_| PathBuf::from(file));
-    if file.exists() && !file.is_file() {
-        // A device or a pipe keeps nothing that could be lost.
+    if keeps_nothing(&file) {
         return fs::write(file, bytes);
     }
     let mut part = file.clone().into_os_string();
@@ -22,6 +21,56 @@ pub fn store(file: &OsStr, bytes: &[u8]) -> io::Result<()> {
     written
         .and_then(|()| fs::rename(&part, &file))
         .inspect_err(|_| discard(Path::new(&part)))
+}
+
+/// Writes a file that is not there yet.
+///
+/// # Errors
+/// The file is there already, and stays as it is; or it cannot be written, and is not there.
+pub fn store_new(file: &OsStr, bytes: &[u8]) -> io::Result<()> {
+    let file = Path::new(file);
+    if keeps_nothing(file) {
+        return fs::write(file, bytes);
+    }
+    let mut new = File::create_new(file).map_err(|error| match error.kind() {
+        ErrorKind::AlreadyExists => is_there(),
+        _ => error,
+    })?;
+    new.write_all(bytes).inspect_err(|_| discard(file))
+}
+
+/// Writes files that are not there yet into a folder, which is made if it is missing.
+///
+/// # Errors
+/// The folder cannot be made. One of the files is there already: nothing is written then. One of
+/// them cannot be written: those before it stay. The name is that of the folder or of the file.
+pub fn store_all_new(
+    folder: &OsStr,
+    files: &[(String, Vec<u8>)],
+) -> Result<(), (OsString, io::Error)> {
+    fs::create_dir_all(folder).map_err(|error| (folder.to_owned(), error))?;
+    let path = |name: &String| Path::new(folder).join(name).into_os_string();
+    let mut paths = files.iter().map(|(name, _)| path(name));
+    if let Some(path) = paths.find(|path| fs::symlink_metadata(path).is_ok()) {
+        return Err((path, is_there()));
+    }
+    for (name, bytes) in files {
+        store_new(&path(name), bytes).map_err(|error| (path(name), error))?;
+    }
+    Ok(())
+}
+
+/// Whether a name is that of a device or a pipe, which keeps nothing that could be lost.
+fn keeps_nothing(file: &Path) -> bool {
+    file.exists() && !file.is_file()
+}
+
+/// What is said of a file that is not written over.
+fn is_there() -> io::Error {
+    io::Error::new(
+        ErrorKind::AlreadyExists,
+        "the file is there already, and is not written over",
+    )
 }
 
 /// Removes what was written in vain; a failure here adds nothing to the one that led to it.

@@ -10,8 +10,10 @@ use std::str::FromStr;
 pub struct Words {
     /// The words that are no options.
     pub operands: Vec<OsString>,
-    /// The file of `-o`.
+    /// The file or the folder of `-o`.
     pub output: Option<OsString>,
+    /// Whether `--all` is there.
+    pub all: bool,
     /// The plan number of `--plan`.
     pub plan: Option<u32>,
     /// The yard record of `--record`.
@@ -26,6 +28,7 @@ impl Words {
         while let Some(word) = words.next() {
             match word.to_str() {
                 Some("-o") => sorted.output = Some(value(&word, words.next())?),
+                Some("--all") => sorted.all = true,
                 Some("--plan") => {
                     sorted.plan = Some(number(&value(&word, words.next())?, "plan number")?)
                 }

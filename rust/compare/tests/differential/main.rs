@@ -1,7 +1,7 @@
 //! Holds the proved planner against the independent one, call by call and byte by byte.
 //!
-//! It runs all kinds of surveys, of hand-made lists and of figures, or with a seed as its argument
-//! those of that seed alone.
+//! It runs all kinds of surveys, of hand-made lists and of figures, and the small surveys, or with a
+//! seed as its argument the samples of that seed alone.
 
 mod figures;
 mod lists;
@@ -10,6 +10,7 @@ mod reached;
 mod report;
 mod rest_report;
 mod seeds;
+mod small;
 mod write_report;
 
 use compare::by_listing::ByListing;
@@ -30,10 +31,11 @@ use peer::records::{YardRecord, TRIPLE, WRITTEN_RECORDS};
 use peer::survey::Yard;
 use peer::Refusal;
 use position_report::print_positions;
-use reached::{unreached, unreached_figures, unreached_lists, unreached_numbers};
+use reached::{unreached, unreached_figures, unreached_lists, unreached_numbers, unreached_small};
 use report::{print_calls, print_indexes, print_listed, print_numbers, print_records, print_sums};
 use rest_report::print_rests;
 use seeds::{over_seeds, total_of, Tallies};
+use small::{compare_small, print_small, run_complete_set};
 use std::process::ExitCode;
 use write_report::print_writes;
 
@@ -65,13 +67,33 @@ fn compare_all(seed: Option<u64>) -> Result<Vec<String>, String> {
     let written = total_of(&figures);
     print_calls("figures", &figures, &written);
     print_writes(&written);
-    let all = total_of(&[("surveys", total), ("lists", by_hand), ("figures", written)]);
+    let numbered = match seed {
+        None => compare_numbers()?,
+        Some(_) => Tally::default(),
+    };
+    let all = total_of(&[
+        ("surveys", total),
+        ("lists", by_hand),
+        ("figures", written),
+        ("numbers", numbered),
+    ]);
     print_numbers(&all);
     let mut missing = unreached(&surveys, &total);
     missing.extend(unreached_lists(&by_hand.indexes));
     missing.extend(unreached_figures(&written));
+    missing.extend(unreached_small(&numbered.smalls));
     missing.extend(unreached_numbers(&all));
     Ok(missing)
+}
+
+/// Compares on the small surveys, and runs the complete set of them.
+fn compare_numbers() -> Result<Tally, String> {
+    let mut tallies = compare_small()?;
+    tallies.extend(run_complete_set()?);
+    let total = total_of(&tallies);
+    print_calls("numbers", &tallies, &total);
+    print_small(&total.smalls);
+    Ok(total)
 }
 
 /// The tables of the surveys.

@@ -10,12 +10,14 @@ use compare::positions::{PositionTally, AFTER, BEFORE, POSITION_REASONS, POSITIO
 use compare::ranks::{RANKS, TRIPLE_RANKS};
 use compare::records::{marks, COUNTING_RECORDS};
 use compare::rests::{RestTally, ONE_WORKING, REST_ORDER, REST_REASONS, REST_RECORDS, REST_SORTS};
+use compare::small_tally::{due_replies, SmallTally, OVER, ROOMS};
 use compare::sums::{OUTSIDE, SORTS};
 use compare::tally::{Call, Tally, CALLS};
 use compare::triple_reasons::TRIPLE_REASONS;
 use compare::write_tally::{WriteTally, LENGTHS, UNKNOWN_KINDS, YARD_SORTS};
 use peer::records::{YardRecord, YARD_RECORDS};
 use peer::survey::MAX_LINKS;
+use peer::SMALL_SURVEYS;
 
 /// What the surveys did not reach.
 pub fn unreached(tallies: &[(&Kind, Tally)], total: &Tally) -> Vec<String> {
@@ -235,6 +237,22 @@ fn unreached_order(tally: &WriteTally) -> Vec<String> {
         (name, tally.before_later[first][other])
     });
     lacking(pairs.chain(later))
+}
+
+/// What the numbers of small surveys did not reach.
+pub fn unreached_small(tally: &SmallTally) -> Vec<String> {
+    let rooms = ROOMS.iter().zip(tally.rooms).flat_map(|(&room, counts)| {
+        let due = counts.into_iter().zip(due_replies(room)).zip([0, 17, 20]);
+        let due = due.filter(|((_, due), _)| *due);
+        due.map(move |((count, _), reply)| (format!("{reply} in an output of {room} bytes"), count))
+    });
+    let over = OVER.iter().zip(tally.over);
+    let over = over.map(|(number, count)| (format!("the number {number} refused by 20"), count));
+    let mut missing = lacking(rooms.chain(over));
+    if tally.surveys() != [SMALL_SURVEYS; 2] {
+        missing.push("every small survey written, and refused by 17".to_string());
+    }
+    missing
 }
 
 /// The numbers that some call did not reply with, though it can.

@@ -81,7 +81,8 @@ fn links_of(survey: &mut [u8]) -> &mut [[u8; TWO_COSTS.bytes]] {
     survey[first..].as_chunks_mut().0
 }
 
-fn in_links(survey: &mut [u8], change: fn(&mut [u8; TWO_COSTS.bytes])) {
+/// Changes each link record of a survey.
+pub fn in_links(survey: &mut [u8], change: fn(&mut [u8; TWO_COSTS.bytes])) {
     links_of(survey).iter_mut().for_each(change);
 }
 

@@ -6,5 +6,6 @@ mod link_counts;
 mod resting;
 mod samples;
 mod signed_sums;
+mod small;
 mod triple;
 mod two_ranks;

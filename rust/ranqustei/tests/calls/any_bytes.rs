@@ -3,7 +3,8 @@
 use crate::random::Random;
 use crate::samples::{bytes_of, three_a, yard_a, RECORDS};
 use ranqustei::{
-    best, fetch, index, index_lookup, judge, list, Link, PlanList, Survey, Yard, YardRecord,
+    best, fetch, index, index_lookup, judge, list, small_surveys, Link, PlanList, Survey, Yard,
+    YardRecord,
 };
 
 /// Puts a survey to every call.
@@ -36,6 +37,14 @@ fn ask(survey: Vec<u8>, random: &mut Random) {
             let solved = survey.best([bounds[0], i16::MAX, i16::MAX]);
             assert_eq!(solved.map(|plan| plan.costs.sum).ok(), looked_up.ok());
         }
+    }
+}
+
+#[test]
+fn every_small_survey() {
+    let mut random = Random(12);
+    for survey in small_surveys() {
+        ask(survey.as_bytes().to_vec(), &mut random);
     }
 }
 

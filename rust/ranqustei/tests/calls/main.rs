@@ -11,6 +11,7 @@ mod refusals;
 mod resting;
 mod samples;
 mod signed_sums;
+mod small;
 mod triple;
 mod triple_refusals;
 mod writing;

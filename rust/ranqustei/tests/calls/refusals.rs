@@ -2,8 +2,8 @@
 
 use crate::samples::{bytes_a, bytes_of, figures_a, told, yard, yard_a};
 use ranqustei::{
-    best, fetch, index, index_lookup, judge, list, write_survey, Cause, Link, Refusal, YardError,
-    YardRecord,
+    best, fetch, index, index_lookup, judge, list, small_survey, write_survey, Cause, Link,
+    Refusal, YardError, YardRecord,
 };
 
 /// Holds a refusal against what document 01 and the sentences say.
@@ -282,4 +282,23 @@ fn written_surveys() {
             "the yard record has a wrong mark",
         );
     }
+}
+
+#[test]
+fn small_surveys() {
+    let write = |number, room| small_survey(number, &mut vec![7; room]).err();
+    check(
+        write(1_728, 41),
+        20,
+        0,
+        Cause::SurveyNumber,
+        "there are 1,728 small surveys, numbered from 0",
+    );
+    check(
+        write(1_727, 41),
+        17,
+        0,
+        Cause::Output,
+        "the output has no room for the survey",
+    );
 }

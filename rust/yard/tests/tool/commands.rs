@@ -216,7 +216,7 @@ fn wrong_words() {
 }
 
 #[test]
-fn yard_records_are_for_surveys_alone() {
+fn options_of_other_commands() {
     for words in [
         &["plans", "-"][..],
         &["best", "-", "8"],
@@ -229,11 +229,17 @@ fn yard_records_are_for_surveys_alone() {
         &["draw", "-", "--plan", "0"],
         &["frontier", "-"],
     ] {
-        let answer = run(&[words, &["--record", "plain"]].concat(), text_a());
-        let (status, message) = answer.expect_err("the option is of another command");
-        let command = format!("the command is `yard {} ", words[0]);
-        assert_eq!((status, message.starts_with(&command)), (2, true));
+        for option in [&["--record", "plain"][..], &["--all"]] {
+            let answer = run(&[words, option].concat(), text_a());
+            let (status, message) = answer.expect_err("the option is of another command");
+            let command = format!("the command is `yard {} ", words[0]);
+            assert_eq!((status, message.starts_with(&command)), (2, true));
+        }
     }
+    let survey = run(&["survey", "-", "--all"], text_a());
+    let takes = "YARD [--record plain|counted|resting|triple] [-o FILE]";
+    let takes = format!("the command is `yard survey {takes}`");
+    assert_eq!(survey, misused(&takes));
 }
 
 #[test]
@@ -279,7 +285,7 @@ fn wrong_numbers_and_options() {
         misused("`-o` needs a word after it")
     );
     assert_eq!(on_a("plans", &["-x"]), misused("`-x` is no option"));
-    assert_eq!(on_a("plans", &["--all"]), misused("`--all` is no option"));
+    assert_eq!(on_a("plans", &["--new"]), misused("`--new` is no option"));
 }
 
 #[test]
@@ -288,7 +294,7 @@ fn help_names_every_command() {
     assert_eq!(run(&["--help"], ""), Ok(help.clone()));
     for command in [
         "plans", "best", "judge", "text", "survey", "list", "fetch", "index", "cheapest", "draw",
-        "frontier", "help",
+        "frontier", "small", "help",
     ] {
         assert!(help.contains(&format!("  yard {command}")), "{command}");
     }

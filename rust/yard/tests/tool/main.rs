@@ -11,6 +11,7 @@ mod readme;
 mod records;
 mod resting;
 mod signed_sums;
+mod small;
 mod tool;
 mod triple;
 mod yard_text;

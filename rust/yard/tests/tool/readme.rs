@@ -35,6 +35,8 @@ fn examples(document: &str) -> Vec<Example> {
 /// A folder with the examples and room for what the commands write.
 fn folder() -> PathBuf {
     let folder = Path::new(env!("CARGO_TARGET_TMPDIR")).join("documents");
+    // What an earlier run has written would stand in the way.
+    let _ = fs::remove_dir_all(&folder);
     for part in ["examples/yards", "docs/pictures"] {
         fs::create_dir_all(folder.join(part)).expect("the scratch folder can be written");
     }

@@ -3,6 +3,7 @@
 use std::ffi::OsString;
 use std::fs;
 use std::path::{Path, PathBuf};
+use yard::Output;
 
 /// The result of a command in text, or its exit status and message.
 pub type Answer = Result<String, (u8, String)>;
@@ -12,12 +13,18 @@ pub fn run(words: &[&str], input: impl AsRef<[u8]>) -> Answer {
     run_bytes(words, input).map(|bytes| String::from_utf8(bytes).expect("the result is text"))
 }
 
-/// Runs the tool for a result in bytes.
+/// Runs the tool for a result in bytes, wherever they go; several files one after the other.
 pub fn run_bytes(words: &[&str], input: impl AsRef<[u8]>) -> Result<Vec<u8>, (u8, String)> {
     let words = words.iter().map(OsString::from);
     let output = yard::run(words, &mut input.as_ref());
+    let bytes = |output| match output {
+        Output::Printed(bytes) | Output::File { bytes, .. } | Output::NewFile { bytes, .. } => {
+            bytes
+        }
+        Output::NewFiles { files, .. } => files.into_iter().flat_map(|(_, bytes)| bytes).collect(),
+    };
     output
-        .map(|output| output.bytes)
+        .map(bytes)
         .map_err(|failure| (failure.status, failure.message))
 }
 

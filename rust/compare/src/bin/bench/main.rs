@@ -1,6 +1,7 @@
 //! Times the proved planner against the independent one, and prints Markdown tables.
 
 mod index;
+mod small;
 mod timing;
 mod triple;
 mod writing;
@@ -67,6 +68,7 @@ fn main() {
     growth();
     compare_indexes();
     writing::print_table();
+    small::print_table();
 }
 
 /// The tables of the list call and the ceilings question.

@@ -1,0 +1,2 @@
+-- the ways that the call goes, and what callers rely on
+pub mod Calling

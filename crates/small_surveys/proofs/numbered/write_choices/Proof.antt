@@ -1,0 +1,87 @@
+-- `small_surveys::numbered::write_choices` meets its contract. The invariant: the records of the links from i on are still to be written.
+use mathlib.Core.Path.{refl}
+use Prim.Native.Nat.{_-_}
+use native.Mathlib.Omega.{arith}
+use borrow.Author.Needs.{needs}
+use Rattle.network.specs.SmallSurveys.{smallLinks}
+use Rattle.small_surveys.specs.Numbered.{ToWrite, choice-below, share-positive, write-end, write-start, write-turn}
+use Rattle.small_surveys.proofs.numbered.write_choices.Statement.{statement}
+use Rattle.small_surveys.proofs.numbered.write_choices.Tie as tie
+
+abbrev Inv-loop : tie.InvT-loop
+Inv-loop out₀ q openings at₀ rest₀ i₀ out at rest i = ToWrite q at₀ out₀ out at rest i
+
+abbrev μ-loop : tie.MeasureT-loop
+μ-loop out₀ q openings at₀ rest₀ i₀ out at rest i = smallLinks - i
+
+loop-holds : tie.Need-loop-holds Inv-loop μ-loop
+loop-holds c = write-start _ _ _ (c .before .pre .0) (search needs)
+
+mul-share : tie.Need-mul-share Inv-loop μ-loop
+mul-share c = search needs
+
+array-read-share : tie.Need-array-read-share Inv-loop μ-loop
+array-read-share c = search needs
+
+div-choice : tie.Need-div-choice Inv-loop μ-loop
+div-choice c = share-positive _ _ _ (c .before .loop .inv) (c .loop-test .taken)
+
+cast-opening : tie.Need-cast-opening Inv-loop μ-loop
+cast-opening c = let below = choice-below _ _ _ (c .before .loop .inv) (c .loop-test .taken) in record { fits = omega arith }
+
+mul-opening : tie.Need-mul-opening Inv-loop μ-loop
+mul-opening c = let below = choice-below _ _ _ (c .before .loop .inv) (c .loop-test .taken) in record { fits = omega arith }
+
+array-copy-out-opening : tie.Need-array-copy-out-opening Inv-loop μ-loop
+array-copy-out-opening c = let below = choice-below _ _ _ (c .before .loop .inv) (c .loop-test .taken) in omega arith
+
+write-choice-requires : tie.Need-write-choice-requires Inv-loop μ-loop
+write-choice-requires c κs =
+    let turn = c .before .before in
+    (choice-below _ _ _ (turn .before .loop .inv) (turn .loop-test .taken), refl, omega (arith, turn .before .loop .inv .room, turn .loop-test .taken))
+
+rem-rest : tie.Need-rem-rest Inv-loop μ-loop
+rem-rest c = let turn = c .before .before .before .before .before in share-positive _ _ _ (turn .before .loop .inv) (turn .loop-test .taken)
+
+add-at : tie.Need-add-at Inv-loop μ-loop
+add-at c = search needs
+
+add-i : tie.Need-add-i Inv-loop μ-loop
+add-i c = search needs
+
+loop-less : tie.Need-loop-less Inv-loop μ-loop
+loop-less c = search needs
+
+loop-again : tie.Need-loop-again Inv-loop μ-loop
+loop-again c =
+    let write = c .before .before .before in
+    let turn = write .before .before .before in
+    write-turn _ _ _ (turn .before .loop .inv) (turn .loop-test .taken) (write .write-choice .ensures) (search needs)
+
+same-length : tie.Need-same-length Inv-loop μ-loop
+same-length c = search needs
+
+returns : tie.Need-returns Inv-loop μ-loop
+returns c = write-end _ _ _ (c .before .loop .inv) (search needs)
+
+pub write-choices-spec : {M : Type 1} → statement M
+write-choices-spec =
+    tie.close
+    (tie.spec
+    Inv-loop
+    μ-loop
+    loop-holds
+    mul-share
+    array-read-share
+    div-choice
+    cast-opening
+    mul-opening
+    array-copy-out-opening
+    write-choice-requires
+    rem-rest
+    add-at
+    add-i
+    loop-less
+    loop-again
+    same-length
+    returns)

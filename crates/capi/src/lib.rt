@@ -116,7 +116,7 @@ pub extern "C" fn ranqustei_write_survey(
     planner::write_survey(kind, yard, ends, sums, costs, survey)
 }
 
-// Small survey q.
+// Small survey q of the 1,728, from 0 in their order.
 #[no_mangle]
 pub extern "C" fn ranqustei_small_survey(q: u32, survey: &mut [u8]) -> Status
     ensures reply { λ r. ⌜ r ≡ smallStatus q (length (now (survey .entry))) ⌝ }

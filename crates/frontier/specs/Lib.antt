@@ -8,6 +8,7 @@ pub mod Walk
 pub mod Found
 pub mod Listed
 pub mod Plans
--- what code goes by: positions by places and by numbers
+-- what code goes by: positions by places
 pub mod Places
+-- positions by their numbers, and in order
 pub mod Ordered

@@ -1,4 +1,5 @@
--- Positions of any lists by their numbers: the entries of a position are the digits of its number, and positions of rising lists rise as in a dictionary.
+-- Positions of any lists by their numbers: the entries of a position are the digits of its number. Positions of one list, taken k times, are all picks of
+-- its members, and rise as in a dictionary where the list rises.
 use mathlib.Core.List.{List, [], _∷_, map, List·Memᴰ·append-cases, List·Memᴰ·cases-cons, List·Memᴰ·not-nil, List·Memᴰ·head as here}
 use mathlib.Core.List.{List·Memᴰ·tail as there}
 use mathlib.Core.Logic.{⊎-elim}
@@ -7,8 +8,8 @@ use Prim.Native.Nat.{ℕ, zero, suc, _<_, _/_, _%_}
 use native.Mathlib.Nat.{mod-lt}
 use lib.ListN.{getD, length, replicate}
 use Rattle.order.specs.Lists.{_∈_, map-mem}
-use Rattle.order.specs.Order.{Less, TotalOrder, dictionary, le-refl}
-use Rattle.order.specs.Perm.{pairwise-append}
+use Rattle.order.specs.Order.{Less, TotalOrder, dictionary, less-first, less-rest}
+use Rattle.order.specs.Perm.{pairwise-append, pairwise-imp, pairwise-map}
 use Rattle.order.specs.Sorted.{Rising}
 use Rattle.frontier.specs.Frontier.{Picks, picks-cons, picks-nil, positions, prefixEach, product}
 use Rattle.frontier.specs.Places.{factor-pos, pick, places, places-number, places-range, positions-number}
@@ -48,20 +49,10 @@ module _ {C K : Type 0} (O : TotalOrder K) (key : C → K) where
   abbrev Rises : List (List C) → Type 0
   Rises = Rising (dictionary O) (map key)
 
-  -- the same value in front
-  same-front : (x : C) (v w : List C) → Less (dictionary O) (map key v) (map key w) → Less (dictionary O) (map key (x ∷ v)) (map key (x ∷ w))
-  same-front x v w h = rw (le-refl O (key x)) h
-
-  -- a lower value in front
-  lower-front : (x y : C) (v w : List C) → Less O (key x) (key y) → Less (dictionary O) (map key (x ∷ v)) (map key (y ∷ w))
-  lower-front x y v w h = rw h
-
   front-rises : (x : C) (qs : List (List C)) → Rises qs → Rises (map (λ q. x ∷ q) qs)
-  front-rises x [] r = tt
-  front-rises x (q ∷ qs) r = (
-    λ v m. let w = map-mem (λ q. x ∷ q) qs v m in rw (w .2) (same-front x q (w .0) (r .0 (w .0) (w .1))),
-    front-rises x qs (r .1),
-  )
+  front-rises x qs r =
+      pairwise-map (λ v w. Less (dictionary O) (map key v) (map key w)) (λ q. x ∷ q) qs
+      (pairwise-imp (λ v w h. less-rest O (key x) (map key v) (map key w) h) qs r)
 
   each-rises : (l : List C) (qs : List (List C)) → Rising O key l → Rises qs → Rises (prefixEach l qs)
   each-rises [] qs r s = tt
@@ -71,7 +62,7 @@ module _ {C K : Type 0} (O : TotalOrder K) (key : C → K) where
       (λ v w m n.
       let a = map-mem (λ q. x ∷ q) qs v m in
       let b = prefixed l qs n in
-      rw (a .2, b .whole) (lower-front x (b .value) (a .0) (b .rest) (r .0 (b .value) (b .among))))
+      rw (a .2, b .whole) (less-first O (key x) (key (b .value)) (map key (a .0)) (map key (b .rest)) (r .0 (b .value) (b .among))))
 
   -- positions of a rising list, taken k times, rise as in a dictionary
   pub positions-rise : (l : List C) → Rising O key l → (k : ℕ) → Rises (positions (replicate k l))

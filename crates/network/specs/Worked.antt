@@ -57,7 +57,7 @@ pub data Row : Type 0 where
   -- writing the survey of a yard and columns, with a kind of yard record, into an output: its reply, and the output after it
   writes : (kind : ℕ) (y : YardFigures) (ends : List ℕ) (sums costs : List ℤ) (output : List ℕ) → Status → List ℕ → Row
   -- the small survey of a number, into an output: its reply, and the output after it
-  numbers : (q : ℕ) (output : List ℕ) → Status → List ℕ → Row
+  generates : (q : ℕ) (output : List ℕ) → Status → List ℕ → Row
   -- standard input, and what the program prints
   prints : (input output : List ℕ) → Row
 
@@ -89,7 +89,7 @@ Right (builds l buffer r after) = (indexStatus l (length buffer) ≡ r) × (inde
 Right (looks l index y r) = lookupReply l index y ≡ r
 Right (writes kind y ends sums costs output r after) =
     let f = figuresFrom y ends sums costs in (writeStatus kind f (length output) ≡ r) × (writeAfter kind f output ≡ after)
-Right (numbers q output r after) = (smallStatus q (length output) ≡ r) × (smallAfter q output ≡ after)
+Right (generates q output r after) = (smallStatus q (length output) ≡ r) × (smallAfter q output ≡ after)
 Right (prints input output) = printed input ≡ output
 
 -- A yard worked through: its P number, how many rows it has, and these.
@@ -107,7 +107,8 @@ P n count rows = record { number = n; count = count; rows = rows }
 -- numbers and P25 on lengths and marks; P26 to P29 are on the index, with signs and ties, without ceilings, and where it is declined; P30 to P33 are
 -- on writing, P32 on the order of the numbers and P33 on columns and an output that are too short; in P34 to P40 stations may rest, P38 with bits of
 -- both kinds in each of the three bytes, P39 on where 18 stands; in P41 to P48 there may be three ceilings, P44 on the ranks that pass, P45 on p,
--- marks and lengths, P46 on M and where 19 stands, P47 on fetching and P48 on the index; P49 is on the small surveys
+-- marks and lengths, P46 on M and where 19 stands, P47 on fetching and P48 on the index; P49 is on the small surveys, with
+-- the first and the last, where 20 stands, and numbers of more than 16 bits
 unfoldable pub table : List Work
 table =
     P 1 2 (
@@ -290,12 +291,12 @@ table =
     ∷ looks mixed₃ (entries (1 ∷ 2 ∷ 3 ∷ 0 ∷ 4 ∷ [])) (pos 2) (looked 1)
     ∷ looks mixed₃ (entries (1 ∷ 2 ∷ 3 ∷ 4 ∷ 0 ∷ [])) (pos 2) (refused 12 0) ∷ [])
     ∷ P 49 8 (
-    numbers 0 (replicate 44 0xFF) (replied 0 0) (yard 3 1 1 0 (replicate 3 (link 0 1 0 0 0)) ++ two 0xFF 0xFF)
-    ∷ numbers 1 output42 (replied 0 0) (yard 3 1 1 0 (three (link 0 1 0 0 0) (link 0 1 0 0 0) (link 0 1 0 1 0)))
-    ∷ numbers 1_129 output42 (replied 0 0) (yard 3 1 1 0 (three (link 0 2 1 1 0) (link 1 2 1 0 0) (link 0 1 0 1 0)))
-    ∷ numbers 1_727 output42 (replied 0 0) (yard 3 1 1 0 (replicate 3 (link 1 2 1 1 0)))
-    ∷ numbers 1_727 (take 41 output42) (replied 17 0) (take 41 output42)
-    ∷ numbers 1_728 (take 41 output42) (replied 20 0) (take 41 output42)
-    ∷ numbers 65_536 output42 (replied 20 0) output42
-    ∷ numbers 4_294_967_295 output42 (replied 20 0) output42 ∷ [])
+    generates 0 (replicate 44 0xFF) (replied 0 0) (yard 3 1 1 0 (replicate 3 (link 0 1 0 0 0)) ++ two 0xFF 0xFF)
+    ∷ generates 1 output42 (replied 0 0) (yard 3 1 1 0 (three (link 0 1 0 0 0) (link 0 1 0 0 0) (link 0 1 0 1 0)))
+    ∷ generates 1_129 output42 (replied 0 0) (yard 3 1 1 0 (three (link 0 2 1 1 0) (link 1 2 1 0 0) (link 0 1 0 1 0)))
+    ∷ generates 1_727 output42 (replied 0 0) (yard 3 1 1 0 (replicate 3 (link 1 2 1 1 0)))
+    ∷ generates 1_727 (take 41 output42) (replied 17 0) (take 41 output42)
+    ∷ generates 1_728 (take 41 output42) (replied 20 0) (take 41 output42)
+    ∷ generates 65_536 output42 (replied 20 0) output42
+    ∷ generates 4_294_967_295 output42 (replied 20 0) output42 ∷ [])
     ∷ []

@@ -2,16 +2,17 @@
 use mathlib.Core.Path.{_≡_, refl, sym, ap, _∙_}
 use mathlib.Core.Bool.{Bool, true, false, cond}
 use mathlib.Core.List.{List, [], _∷_}
+use mathlib.Core.Logic.{⊎-elim}
 use Prim.Native.Nat.{ℕ, zero, suc, _+_, _*_, _-_, _≤_, _<_}
-use native.Mathlib.Nat.{add-mul, mul-le-mul-right, suc-mul, zero-mul}
+use native.Mathlib.Nat.{add-mul, eq-or-lt-of-le, mul-le-mul-right, suc-mul, zero-mul}
 use native.Mathlib.Omega.{arith}
 use lib.IntN.{ℤ}
 use lib.ListN.{length, take, drop, getD}
 use lib.Seq.{drop-drop}
 use lib.Signed.{leZ}
 use Rattle.order.specs.Test.{by-test, refute}
-use Rattle.order.specs.Lists.{getD-mem}
 use Rattle.order.specs.Order.{TotalOrder, le-refl, leZ-trans, orderℤ}
+use Rattle.order.specs.Perm.{pairwise-at}
 use Rattle.order.specs.Sorted.{Sorted}
 use Rattle.network.specs.PlanList.{planSize, planSumAt}
 use Rattle.encoding.specs.Blocks.{blocks}
@@ -75,11 +76,11 @@ sum-tested x z n bs i w h e =
 -- of two members of a sorted list the earlier has no larger key
 sorted-at : {K A : Type 0} (O : TotalOrder K) (key : A → K) (d : A) (l : List A) → Sorted O key l → (i j : ℕ) → i ≤ j → j < length l
     → O .le (key (getD l i d)) (key (getD l j d)) ≡ true
-sorted-at O key d [] s i j h k = absurd (omega arith)
-sorted-at O key d (x ∷ l) s zero zero h k = le-refl O (key x)
-sorted-at O key d (x ∷ l) s zero (suc j) h k = s .0 (getD l j d) (getD-mem l j d (omega arith))
-sorted-at O key d (x ∷ l) s (suc i) zero h k = absurd (omega arith)
-sorted-at O key d (x ∷ l) s (suc i) (suc j) h k = sorted-at O key d l (s .1) i j (omega arith) (omega arith)
+sorted-at O key d l s i j h k =
+    ⊎-elim
+    (λ (e : i ≡ j). rw e (le-refl O (key (getD l j d))))
+    (λ (g : i < j). pairwise-at (λ x y. O .le (key x) (key y) ≡ true) l s i j d g k)
+    (eq-or-lt-of-le h)
 
 -- ---- the halving
 

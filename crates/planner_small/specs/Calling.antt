@@ -10,7 +10,7 @@ use lib.Seq.{take-at}
 use Rattle.network.specs.Checked.{refuseIf, _orElse_}
 use Rattle.network.specs.Calls.{ifFine, status}
 use Rattle.network.specs.Writing.{surveyAtFront}
-use Rattle.network.specs.SmallSurveys.{smallAfter, smallBytes, smallChecked, smallStatus, smallSurvey, smallSurveys}
+use Rattle.network.specs.SmallSurveys.{smallAfter, smallBytes, smallChecked, smallStatus, smallSurvey, smallCount}
 use Rattle.network.specs.SmallPromise.{SmallPromised}
 use Rattle.network.specs.declared.Checked.the-variants.{Fine}
 use Rattle.network.specs.declared.Status.{Status}
@@ -18,15 +18,15 @@ use Rattle.small_surveys.specs.Kind.{survey-number, survey-order, survey-size, 
 
 module _ (q : ℕ) (output : List ℕ) where
   -- where the number is one of the surveys' and the output has room, nothing is refused
-  nothing : q < smallSurveys → smallBytes ≤ length output → smallChecked q (length output) ≡ Fine
+  nothing : q < smallCount → smallBytes ≤ length output → smallChecked q (length output) ≡ Fine
   unfolding smallChecked refuseIf _orElse_
   nothing h room =
-      let some-survey : leb smallSurveys q ≡ false = lt-leb smallSurveys q h in
+      let some-survey : leb smallCount q ≡ false = lt-leb smallCount q h in
       let enough : ltb (length output) smallBytes ≡ false = le-ltb (length output) smallBytes room in
       rw (some-survey, enough)
 
   -- the survey then stands at the front
-  made : q < smallSurveys → smallBytes ≤ length output
+  made : q < smallCount → smallBytes ≤ length output
       → (smallStatus q (length output) ≡ status Fine) × (take smallBytes (smallAfter q output) ≡ smallSurvey q)
   unfolding smallStatus smallAfter ifFine surveyAtFront
   made h room = (
@@ -45,16 +45,16 @@ module _ (q : ℕ) (output : List ℕ) where
   )
 
   -- no survey has the number
-  pub by-number : smallSurveys ≤ q → Kept (record { number = 20; place = 0 }) output
+  pub by-number : smallCount ≤ q → Kept (record { number = 20; place = 0 }) output
   unfolding smallStatus smallAfter smallChecked refuseIf _orElse_ status ifFine
-  by-number h = let e : leb smallSurveys q ≡ true = le-leb smallSurveys q h in kept (rw e) (rw e)
+  by-number h = let e : leb smallCount q ≡ true = le-leb smallCount q h in kept (rw e) (rw e)
 
-  module _ (h : q < smallSurveys) where
+  module _ (h : q < smallCount) where
     -- the output is too short
     pub by-room : length output < smallBytes → Kept (record { number = 17; place = 0 }) output
     unfolding smallStatus smallAfter smallChecked refuseIf _orElse_ status ifFine
     by-room g =
-        let some-survey : leb smallSurveys q ≡ false = lt-leb smallSurveys q h in
+        let some-survey : leb smallCount q ≡ false = lt-leb smallCount q h in
         let short : ltb (length output) smallBytes ≡ true = lt-ltb (length output) smallBytes g in
         kept (rw (some-survey, short)) (rw (some-survey, short))
 

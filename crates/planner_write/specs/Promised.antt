@@ -7,20 +7,18 @@ use borrow.Author.Tests.{le-ltb}
 use lib.Dec.{ltb}
 use lib.ListN.{drop, length, take}
 use lib.Seq.{take-at}
-use Rattle.network.specs.Survey.{layoutOf}
 use Rattle.network.specs.Checked.{fine-both, refuse-fine, refuseIf, _orElse_}
 use Rattle.network.specs.Refusals.{checkedOf}
-use Rattle.network.specs.Accepted.{accepted-records}
 use Rattle.network.specs.Calls.{ifFine, status}
-use Rattle.network.specs.Writing.{Figures, figuresChecked, kindOf, layoutFor, surveyAtFront, surveyIn, surveyOf, unknownKind}
+use Rattle.network.specs.Writing.{Figures, figuresChecked, kindOf, layoutFor, surveyAtFront, surveyOf, unknownKind}
 use Rattle.network.specs.Writing.{writeAfter, writeChecked, writeStatus, yardFiguresChecked}
 use Rattle.network.specs.WritingPromise.{Known, OfBytes, Says, WritePromised}
 use Rattle.network.specs.declared.Checked.the-variants.{Fine}
 use Rattle.network.specs.declared.Layout.{Layout}
 use Rattle.network.specs.declared.Status.{Status}
 use Rattle.survey_roundtrip.specs.Fields.{Met, survey-layout}
-use Rattle.survey_roundtrip.specs.Former.{survey-former}
-use Rattle.survey_roundtrip.specs.Layouts.{kind-known, kind-listed, kind-missed, layout-known, writable-for}
+use Rattle.survey_roundtrip.specs.Former.{figures-survey}
+use Rattle.survey_roundtrip.specs.Layouts.{kind-known, kind-listed, kind-missed, writable-for}
 use Rattle.survey_roundtrip.specs.ReadBack.{figures-read, legal-fit, reader-agrees}
 use Rattle.planner_write.specs.Numbered.{write-fine}
 
@@ -70,20 +68,12 @@ module _ (kind : ℕ) (f : Figures) (output : List ℕ) (met : unknownKind kind 
     unfolding writeStatus writeChecked refuseIf _orElse_
     as-reader known = reply ∙ rw (known, agrees known)
 
-  -- figures that a survey of this kind says make that survey
-  same-bytes : (t : List ℕ) → OfBytes t → Says t kind f → unknownKind kind ≡ false → s ≡ t
-  same-bytes t bytes told known =
-      let layout : layoutFor kind ≡ layoutOf t = layout-known t kind (told .kept) known in
-      ap (λ (k : Layout). surveyIn k f) layout
-      ∙ ap (surveyIn (layoutOf t)) (sym (told .read))
-      ∙ survey-former t (layoutOf t) (rw (← layout) (writable-for kind)) (accepted-records t (told .accepted)) bytes
-
   module _ {r : Status} {left : List ℕ} (reply : r ≡ writeStatus kind f (length output)) (leaves : left ≡ writeAfter kind f output) where
     former : (t : List ℕ) → OfBytes t → Says t kind f → Known kind → length t ≤ length output → (r ≡ status Fine) × (left ≡ surveyAtFront t output)
     unfolding writeStatus writeAfter writeChecked refuseIf _orElse_ ifFine
     former t bytes told listed room =
         let known = kind-listed kind listed in
-        let same = same-bytes t bytes told known in
+        let same = figures-survey t kind f bytes told known in
         let legal : figuresChecked f ≡ Fine = sym (agrees known) ∙ ap checkedOf same ∙ told .accepted in
         let enough : ltb (length output) (length t) ≡ false = le-ltb (length output) (length t) room in
         (reply ∙ rw (known, legal, same, enough), leaves ∙ rw (known, legal, same, enough))

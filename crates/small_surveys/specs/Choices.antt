@@ -11,7 +11,7 @@ use lib.Dec.{ltb}
 use lib.IntN.{ℤ, pos, negsuc}
 use lib.ListN.{getD, length, length-append, length-map}
 use Rattle.order.specs.Lists.{_∈_, all, all-mem, getD-map, map-mem, numbersFrom}
-use Rattle.order.specs.Sorted.{Rising, mem-numbers, number-at, rises→rising}
+use Rattle.order.specs.Sorted.{Rising, mem-numbers, number-at, isRising→rising}
 use Rattle.order.specs.Test.{clash, left, right}
 use Rattle.frontier.specs.Frontier.{Picks, picks-cons, picks-nil, positions}
 use Rattle.frontier.specs.Walk.{positions-length, positions-mem}
@@ -20,20 +20,20 @@ use Rattle.buffers.specs.Overwrite.{overwrite, overwrite-chain}
 use Rattle.network.specs.Bytes.{bitsOf, littleEndian}
 use Rattle.network.specs.Survey.{plain}
 use Rattle.network.specs.Writing.{Link, linkBytes, noLink}
-use Rattle.network.specs.SmallSurveys.{choiceParts, choices, smallEnds, smallLink}
-use Rattle.network.specs.SmallPromise.{SmallLink, ZeroOrOne, choiceOf, choiceOrder}
+use Rattle.network.specs.SmallSurveys.{choiceCount, choiceParts, choices, smallEnds, smallLink}
+use Rattle.network.specs.SmallPromise.{LinkOfSmallKind, ZeroOrOne, choiceOf, choiceOrder}
 
 -- ---- by digits
 
-pub choices-length : length choices ≡ 12
+pub choices-length : length choices ≡ choiceCount
 unfolding choices numbersFrom
 choices-length = length-map (positions choiceParts) smallLink ∙ positions-length choiceParts
 
 digit : (n i : ℕ) → i < n → getD (numbersFrom n 0) i 0 ≡ i
 digit n i h = number-at n 0 i h ∙ zero-add i
 
--- choice d: its ends, its s and its c1 are the digits of d
-pub choice-at : (d : ℕ) → d < 12 → getD choices d noLink ≡ smallLink (d / 4 ∷ d % 4 / 2 ∷ d % 2 ∷ [])
+-- choice d: the place of its ends, its s and its c1 are the digits of d
+choice-at : (d : ℕ) → d < choiceCount → getD choices d noLink ≡ smallLink (d / 4 ∷ d % 4 / 2 ∷ d % 2 ∷ [])
 unfolding choices numbersFrom
 choice-at d h =
     let bit : d % 4 % 2 / 1 ≡ d % 2 = omega arith in
@@ -46,7 +46,7 @@ choice-at d h =
 
 pub choices-rise : Rising choiceOrder choiceOf choices
 unfolding choices numbersFrom
-choices-rise = rises→rising choiceOrder choiceOf choices refl
+choices-rise = isRising→rising choiceOrder choiceOf choices refl
 
 -- ---- of the kind
 
@@ -70,7 +70,7 @@ unfolding choices numbersFrom
 all-small = refl
 
 -- each choice is a link of the kind
-pub choice-small : (x : Link) → x ∈ choices → SmallLink x
+pub choice-small : (x : Link) → x ∈ choices → LinkOfSmallKind x
 choice-small x m =
     let e = all-mem isSmall choices all-small x m in
     let costs = right (ltb (x .first) (x .second)) _ e in
@@ -102,7 +102,7 @@ cost-place : (c : ℤ) → ZeroOrOne c → (i : ℕ) × (i < 2) × (pos i ≡ c)
 cost-place c z = ⊎-elim {C = (i : ℕ) × (i < 2) × (pos i ≡ c)} (λ e. (0, omega arith, sym e)) (λ e. (1, omega arith, sym e)) z
 
 -- each link of the kind among three stations, with c2 of 0, is a choice
-pub small-choice : (x : Link) → SmallLink x → x .second < 3 → x .c2 ≡ pos 0 → x ∈ choices
+pub small-choice : (x : Link) → LinkOfSmallKind x → x .second < 3 → x .c2 ≡ pos 0 → x ∈ choices
 unfolding choices
 small-choice x small h absent =
     let ends = ends-place (x .first) (x .second) (small .ends) h in
@@ -145,7 +145,7 @@ opening-length : (e : ℕ) → e < 3 → length (getD openings e []) ≡ 4
 opening-length e h = ap length (sym (opened e h))
 
 -- these written one after the other are the record of the choice
-pub choice-written : (d : List ℕ) (at choice : ℕ) (opening : List ℕ) {o₁ o₂ o₃ : List ℕ} → choice < 12 → opening ≡ getD openings (choice / 4) []
+pub choice-written : (d : List ℕ) (at choice : ℕ) (opening : List ℕ) {o₁ o₂ o₃ : List ℕ} → choice < choiceCount → opening ≡ getD openings (choice / 4) []
     → at ≤ length d → o₁ ≡ overwrite d at opening → o₂ ≡ overwrite o₁ (at + 4) (littleEndian 4 (choice % 4 / 2))
     → o₃ ≡ overwrite o₂ (at + 8) (littleEndian 4 (choice % 2)) → o₃ ≡ overwrite d at (linkBytes (plain .link .mark) (getD choices choice noLink))
 choice-written d at choice opening h e room e₁ e₂ e₃ =

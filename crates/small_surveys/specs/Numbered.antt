@@ -1,5 +1,5 @@
--- The links of a number, digit by digit: the share of a link is how many surveys have the same choices up to it, the place of its choice is what is left
--- of the number divided by that share, and the remainder is left for the links behind it.
+-- The links of a number, digit by digit: the share of a link is how many surveys have the same choices up to and with it, the place of its choice is
+-- what is left of the number divided by that share, and the remainder is left for the links behind it.
 use mathlib.Core.List.{List, [], _∷_, _++_, map}
 use mathlib.Core.Path.{_≡_, refl, sym, ap, _∙_}
 use Prim.Native.Nat.{ℕ, zero, suc, _+_, _-_, _*_, _/_, _%_, _≤_, _<_}
@@ -12,7 +12,7 @@ use Rattle.frontier.specs.Places.{pick-picks, places-range}
 use Rattle.network.specs.PlanList.{join}
 use Rattle.network.specs.Survey.{plain, rowWhere}
 use Rattle.network.specs.Writing.{Link, layoutFor, linkBytes, noLink, surveyAtFront, yardBytes}
-use Rattle.network.specs.SmallSurveys.{choices, linksInOrder, smallFigures, smallLinks, smallSurvey, smallSurveys, smallYard}
+use Rattle.network.specs.SmallSurveys.{choiceCount, choices, linksInOrder, smallFigures, smallLinkCount, smallSurvey, smallCount, smallYard}
 use Rattle.buffers.specs.Overwrite.{overwrite, overwrite-chain, overwrite-nothing}
 use Rattle.survey_roundtrip.specs.Fields.{length-link}
 use Rattle.survey_roundtrip.specs.Layouts.{plain-writable, writtenLink}
@@ -22,11 +22,11 @@ use Rattle.small_surveys.specs.Choices.{choices-length}
 -- ---- shares
 
 -- how many sequences of k choices there are
-abbrev pub shareOf : ℕ → ℕ
+abbrev shareOf : ℕ → ℕ
 shareOf k = product (replicate k choices)
 
 -- one link more
-pub share-more : (k : ℕ) → shareOf (suc k) ≡ 12 * shareOf k
+share-more : (k : ℕ) → shareOf (suc k) ≡ choiceCount * shareOf k
 share-more k = ap (λ (n : ℕ). n * shareOf k) choices-length
 
 share-some : (k : ℕ) → 0 < shareOf k
@@ -34,33 +34,33 @@ share-some zero = omega arith
 share-some (suc k) = omega (arith, share-more k, share-some k)
 
 -- all links
-pub share-all : shareOf smallLinks ≡ smallSurveys
+pub share-all : shareOf smallLinkCount ≡ smallCount
 share-all = omega (arith, share-more 0, share-more 1, share-more 2)
 
 -- ---- links and their records
 
 -- the links of sequence q of k choices
-unfoldable pub linksOf : ℕ → ℕ → List Link
-linksOf k q = getD (positions (replicate k choices)) q []
+unfoldable pub chosenLinks : ℕ → ℕ → List Link
+chosenLinks k q = getD (positions (replicate k choices)) q []
 
 -- their records
-unfoldable pub recordsOf : ℕ → ℕ → List ℕ
-recordsOf k q = join (map (linkBytes (plain .link .mark)) (linksOf k q))
+unfoldable pub chosenRecords : ℕ → ℕ → List ℕ
+chosenRecords k q = join (map (linkBytes (plain .link .mark)) (chosenLinks k q))
 
 -- the first link's record, and those of the links behind it
 records-more : (k q : ℕ) → q < shareOf (suc k)
-    → recordsOf (suc k) q ≡ linkBytes (plain .link .mark) (getD choices (q / shareOf k) noLink) ++ recordsOf k (q % shareOf k)
-unfolding recordsOf linksOf
+    → chosenRecords (suc k) q ≡ linkBytes (plain .link .mark) (getD choices (q / shareOf k) noLink) ++ chosenRecords k (q % shareOf k)
+unfolding chosenRecords chosenLinks
 records-more k q h = ap (λ (v : List Link). join (map (linkBytes (plain .link .mark)) v)) (positions-at noLink choices (replicate k choices) q h)
 
 -- a survey has three links, each of them a choice
-pub links-picks : (q : ℕ) → q < smallSurveys → Picks (getD linksInOrder q []) (replicate smallLinks choices)
+pub links-picks : (q : ℕ) → q < smallCount → Picks (getD linksInOrder q []) (replicate smallLinkCount choices)
 unfolding linksInOrder
 links-picks q h =
-    let inside : q < shareOf smallLinks = omega (arith, share-all) in
-    rw (positions-pick noLink (replicate smallLinks choices) q inside) (pick-picks noLink (places-range (replicate smallLinks choices) q inside))
+    let inside : q < shareOf smallLinkCount = omega (arith, share-all) in
+    rw (positions-pick noLink (replicate smallLinkCount choices) q inside) (pick-picks noLink (places-range (replicate smallLinkCount choices) q inside))
 
-pub links-many : (q : ℕ) → q < smallSurveys → length (getD linksInOrder q []) ≡ smallLinks
+pub links-many : (q : ℕ) → q < smallCount → length (getD linksInOrder q []) ≡ smallLinkCount
 links-many q h = picks-length (links-picks q h)
 
 -- ---- the loop that writes them
@@ -69,34 +69,34 @@ links-many q h = picks-length (links-picks q h)
 abbrev pub shares : List ℕ
 shares = 144 ∷ 12 ∷ 1 ∷ []
 
-share-at : (i : ℕ) → i < smallLinks → getD shares i 0 ≡ shareOf (smallLinks - suc i)
+share-at : (i : ℕ) → i < smallLinkCount → getD shares i 0 ≡ shareOf (smallLinkCount - suc i)
 share-at zero h = omega (arith, share-more 0, share-more 1)
 share-at (suc zero) h = omega (arith, share-more 0)
 share-at (suc (suc zero)) h = refl
 share-at (suc (suc (suc i))) h = absurd (omega arith)
 
 module _ (q first : ℕ) (before : List ℕ) where
-  -- what is still to be written, from `at` on, are the records of the links from i on
+  -- the records of the links from i on are still to be written, from `at` on
   pub record ToWrite (now : List ℕ) (at rest i : ℕ) : Type 0 where
-    pub whole : overwrite now at (recordsOf (smallLinks - i) rest) ≡ overwrite before first (recordsOf smallLinks q)
-    pub inside : rest < shareOf (smallLinks - i)
-    pub room : at + (smallLinks - i) * writtenLink ≤ length now
-    pub few : i ≤ smallLinks
+    pub whole : overwrite now at (chosenRecords (smallLinkCount - i) rest) ≡ overwrite before first (chosenRecords smallLinkCount q)
+    pub inside : rest < shareOf (smallLinkCount - i)
+    pub room : at + (smallLinkCount - i) * writtenLink ≤ length now
+    pub few : i ≤ smallLinkCount
     pub kept : length now ≡ length before
 
-  pub write-start : q < smallSurveys → first + smallLinks * writtenLink ≤ length before → ToWrite before first q 0
+  pub write-start : q < smallCount → first + smallLinkCount * writtenLink ≤ length before → ToWrite before first q 0
   write-start h room = record { whole = refl; inside = rw share-all h; room = room; few = omega arith; kept = refl }
 
   module _ {now : List ℕ} {at rest i : ℕ} (todo : ToWrite now at rest i) where
-    module _ (h : i < smallLinks) where
+    module _ (h : i < smallLinkCount) where
       -- the links behind link i
       abbrev behind : ℕ
-      behind = smallLinks - suc i
+      behind = smallLinkCount - suc i
 
       abbrev share : ℕ
       share = getD shares i 0
 
-      with-this : suc behind ≡ smallLinks - i
+      with-this : suc behind ≡ smallLinkCount - i
       with-this = omega arith
 
       pub share-positive : 0 < share
@@ -105,7 +105,7 @@ module _ (q first : ℕ) (before : List ℕ) where
       among : rest < shareOf (suc behind)
       among = rw (← with-this) at (todo .inside)
 
-      pub choice-below : rest / share < 12
+      pub choice-below : rest / share < choiceCount
       choice-below = div-lt-iff-lt-mul share-positive .1 (omega (arith, among, share-at i h, share-more behind))
 
       pub write-turn : {after : List ℕ} → after ≡ overwrite now at (linkBytes (plain .link .mark) (getD choices (rest / share) noLink))
@@ -113,15 +113,15 @@ module _ (q first : ℕ) (before : List ℕ) where
       write-turn {after} e same =
           let link : List ℕ = linkBytes (plain .link .mark) (getD choices (rest / share) noLink) in
           let size : length link ≡ writtenLink = length-link (plain .link .mark) (getD choices (rest / share) noLink) refl in
-          let next : smallLinks - (i + 1) ≡ behind = omega arith in
-          let both : recordsOf (smallLinks - i) rest ≡ link ++ recordsOf behind (rest % share) =
-          ap (λ (k : ℕ). recordsOf k rest) (sym with-this)
+          let next : smallLinkCount - (i + 1) ≡ behind = omega arith in
+          let both : chosenRecords (smallLinkCount - i) rest ≡ link ++ chosenRecords behind (rest % share) =
+          ap (λ (k : ℕ). chosenRecords k rest) (sym with-this)
           ∙ records-more behind rest among
-          ∙ ap (λ (k : ℕ). linkBytes (plain .link .mark) (getD choices (rest / k) noLink) ++ recordsOf behind (rest % k)) (sym (share-at i h)) in
+          ∙ ap (λ (k : ℕ). linkBytes (plain .link .mark) (getD choices (rest / k) noLink) ++ chosenRecords behind (rest % k)) (sym (share-at i h)) in
           record {
             whole =
-                ap (λ (k : ℕ). overwrite after (at + writtenLink) (recordsOf k (rest % share))) next
-                ∙ overwrite-chain now at link (at + writtenLink) (recordsOf behind (rest % share)) refl e (omega arith) (omega (arith, todo .room))
+                ap (λ (k : ℕ). overwrite after (at + writtenLink) (chosenRecords k (rest % share))) next
+                ∙ overwrite-chain now at link (at + writtenLink) (chosenRecords behind (rest % share)) refl e (omega arith) (omega (arith, todo .room))
                 ∙ ap (overwrite now at) (sym both)
                 ∙ todo .whole;
             inside = rw next (omega (arith, mod-lt rest share-positive, share-at i h));
@@ -131,21 +131,21 @@ module _ (q first : ℕ) (before : List ℕ) where
           }
 
     -- nothing is left
-    pub write-end : smallLinks ≤ i → now ≡ overwrite before first (recordsOf smallLinks q)
-    unfolding recordsOf linksOf
+    pub write-end : smallLinkCount ≤ i → now ≡ overwrite before first (chosenRecords smallLinkCount q)
+    unfolding chosenRecords chosenLinks
     write-end h =
-        let none : smallLinks - i ≡ 0 = omega arith in
+        let none : smallLinkCount - i ≡ 0 = omega arith in
         let last : rest ≡ 0 = let one = ap shareOf none in omega (arith, todo .inside) in
         overwrite-nothing now at
-        ∙ ap (λ (r : List ℕ). overwrite now at r) (sym (ap (λ (k : ℕ). recordsOf k rest) none ∙ ap (recordsOf 0) last))
+        ∙ ap (λ (r : List ℕ). overwrite now at r) (sym (ap (λ (k : ℕ). chosenRecords k rest) none ∙ ap (chosenRecords 0) last))
         ∙ todo .whole
 
 -- ---- the survey
 
 -- a survey's yard record, and then the records of its links
-pub numbered-written : (q : ℕ) → q < smallSurveys → (d : List ℕ) {o o′ : List ℕ} → o ≡ overwrite d 0 (yardBytes plain smallYard smallLinks)
-    → o′ ≡ overwrite o (plain .yard .size) (recordsOf smallLinks q) → o′ ≡ surveyAtFront (smallSurvey q) d
-unfolding smallSurvey recordsOf linksOf linksInOrder layoutFor rowWhere
+pub numbered-written : (q : ℕ) → q < smallCount → (d : List ℕ) {o o′ : List ℕ} → o ≡ overwrite d 0 (yardBytes plain smallYard smallLinkCount)
+    → o′ ≡ overwrite o (plain .yard .size) (chosenRecords smallLinkCount q) → o′ ≡ surveyAtFront (smallSurvey q) d
+unfolding smallSurvey chosenRecords chosenLinks linksInOrder layoutFor rowWhere
 numbered-written q h d e records =
     let yard = e ∙ ap (λ (m : ℕ). overwrite d 0 (yardBytes plain smallYard m)) (sym (links-many q h)) in
     survey-made plain plain-writable (smallFigures q) d yard records

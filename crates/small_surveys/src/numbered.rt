@@ -10,17 +10,17 @@ ghost use Prim.Native.Nat.{_+_, _≤_, _<_};
 ghost use lib.ListN.{length};
 ghost use Rattle.buffers.specs.Overwrite.{overwrite};
 ghost use Rattle.network.specs.Survey.{plain};
-ghost use Rattle.network.specs.SmallSurveys.{smallBytes, smallLinks, smallSurvey, smallSurveys};
+ghost use Rattle.network.specs.SmallSurveys.{smallBytes, smallLinkCount, smallSurvey, smallCount};
 ghost use Rattle.network.specs.Writing.{surveyAtFront};
-ghost use Rattle.small_surveys.specs.Numbered.{recordsOf};
+ghost use Rattle.small_surveys.specs.Numbered.{chosenRecords};
 
-// The links of a small survey.
+// How many links a small survey has.
 const LINKS: usize = 3;
 
 // How many small surveys there are.
 pub const SURVEYS: u32 = 1728;
 
-// The bytes of each of them.
+// How many bytes each of them has.
 pub const BYTES: usize = 42;
 
 // The figures of their yard.
@@ -31,13 +31,13 @@ const YARD: YardFigures = YardFigures {
     k2: 0,
 };
 
-// How many surveys have the same choices up to link 0, up to link 1 and up to link 2.
+// How many surveys have the same choices up to and with link 0, link 1 and link 2.
 const SHARES: [u32; LINKS] = [144, 12, 1];
 
 // Writes the link records of survey q behind the yard record.
 fn write_choices(out: &mut [u8], q: u32)
-    requires { ⌜ (q < smallSurveys) × (smallBytes ≤ length (now out)) ⌝ }
-    ensures { λ _. ⌜ now (out .exit) ≡ overwrite (now (out .entry)) (plain .yard .size) (recordsOf smallLinks q) ⌝ }
+    requires { ⌜ (q < smallCount) × (smallBytes ≤ length (now out)) ⌝ }
+    ensures { λ _. ⌜ now (out .exit) ≡ overwrite (now (out .entry)) (plain .yard .size) (chosenRecords smallLinkCount q) ⌝ }
 {
     let openings = OPENINGS;
     let mut at = PLAIN.yard.size;
@@ -47,14 +47,14 @@ fn write_choices(out: &mut [u8], q: u32)
         let choice = rest / share;
         let opening = openings[(choice / SAME_ENDS) as usize];
         write_choice(out, at, opening, choice);
-        rest = rest % share;
+        rest %= share;
         at += PLAIN.link.size;
     }
 }
 
 // Writes survey q at the front.
 pub fn write_numbered(out: &mut [u8], q: u32)
-    requires { ⌜ (q < smallSurveys) × (smallBytes ≤ length (now out)) ⌝ }
+    requires { ⌜ (q < smallCount) × (smallBytes ≤ length (now out)) ⌝ }
     ensures { λ _. ⌜ now (out .exit) ≡ surveyAtFront (smallSurvey q) (now (out .entry)) ⌝ }
 {
     write_yard(out, PLAIN, YARD, LINKS);

@@ -14,16 +14,16 @@ use Rattle.order.specs.Lists.{numbersFrom}
 use Rattle.order.specs.Sorted.{numbers-length}
 use Rattle.order.specs.Test.{by-test, left, right}
 use Rattle.network.specs.Bytes.{byteAt, littleEndian, markAt, signed}
-use Rattle.network.specs.Survey.{countIn, hasCount, linkCount, linkStart}
+use Rattle.network.specs.Survey.{countIn, hasCount, layoutOf, linkCount, linkStart}
 use Rattle.network.specs.PlanList.{join}
 use Rattle.network.specs.Moved.{Moved, moved-mark, moved-on, moved-u16, moved-u32}
 use Rattle.network.specs.Refusals.{badCount}
-use Rattle.network.specs.Accepted.{RecordsFine, inside}
-use Rattle.network.specs.Writing.{figuresIn, linkBytes, linkIn, surveyIn, yardBytes}
-use Rattle.network.specs.WritingPromise.{OfBytes}
+use Rattle.network.specs.Accepted.{RecordsFine, accepted-records, inside}
+use Rattle.network.specs.Writing.{Figures, figuresIn, layoutFor, linkBytes, linkIn, surveyIn, surveyOf, unknownKind, yardBytes}
+use Rattle.network.specs.WritingPromise.{OfBytes, Says}
 use Rattle.network.specs.declared.Layout.{Layout}
 use Rattle.encoding.specs.SignedRoundTrip.{bytes-i16, bytes-i32}
-use Rattle.survey_roundtrip.specs.Layouts.{Writable, writtenLink, writtenYard}
+use Rattle.survey_roundtrip.specs.Layouts.{Writable, layout-known, writable-for, writtenLink, writtenYard}
 use Rattle.survey_roundtrip.specs.Fields.{ranks-are, window}
 
 -- a mark that opens bytes is their first two
@@ -140,3 +140,11 @@ module _ (s : List ℕ) (l : Layout) (w : Writable l) (fine : RecordsFine s l) (
       (ap (yardBytes l (figuresIn l s .yard)) many ∙ by-test (hasCount l) with-count without-count)
       (links-former m 0 (omega arith) ∙ ap (λ (k : ℕ). take (m * writtenLink) (drop k s)) start ∙ take-all (m * writtenLink) (drop first s) room)
       ∙ take-append-drop first s
+
+-- so figures that a survey of a kind says, written with that kind, are that survey
+pub figures-survey : (s : List ℕ) (kind : ℕ) (f : Figures) → OfBytes s → Says s kind f → unknownKind kind ≡ false → surveyOf f kind ≡ s
+figures-survey s kind f bytes told known =
+    let layout : layoutFor kind ≡ layoutOf s = layout-known s kind (told .kept) known in
+    ap (λ (k : Layout). surveyIn k f) layout
+    ∙ ap (surveyIn (layoutOf s)) (sym (told .read))
+    ∙ survey-former s (layoutOf s) (rw (← layout) (writable-for kind)) (accepted-records s (told .accepted)) bytes

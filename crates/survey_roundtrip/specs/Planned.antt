@@ -63,14 +63,15 @@ module _ (l : Layout) (s : List ℕ) where
   abbrev f : Figures
   f = figuresIn l s
 
-  -- the links of its figures are those of its link records
-  pub many : length (f .links) ≡ m
+  -- its figures have as many links as link records
+  pub figures-many : length (f .links) ≡ m
   unfolding figuresIn
-  many = length-map (numbersFrom m 0) (λ i. linkIn s (linkStart l i)) ∙ numbers-length m 0
+  figures-many = length-map (numbersFrom m 0) (λ i. linkIn s (linkStart l i)) ∙ numbers-length m 0
 
-  pub link : (i : ℕ) → i < m → linkOf f i ≡ linkIn s (linkStart l i)
+  -- and these are those of the records
+  pub figures-link : (i : ℕ) → i < m → linkOf f i ≡ linkIn s (linkStart l i)
   unfolding figuresIn
-  link i h =
+  figures-link i h =
       let size = numbers-length m 0 in
       getD-map (λ j. linkIn s (linkStart l j)) (numbersFrom m 0) i 0 noLink (omega arith)
       ∙ ap (λ (j : ℕ). linkIn s (linkStart l j)) (number-at m 0 i h ∙ zero-add i)
@@ -80,18 +81,18 @@ module _ (l : Layout) (s : List ℕ) where
   ends-same =
       tabulate-same _ _ (2 * m) (λ q h.
       sym (tabulate-at (endIn s (linkStart l (q / 2))) 2 (q % 2) (omega arith) 0)
-      ∙ ap (λ (x : Link). endAt x (q % 2)) (sym (link (q / 2) (omega arith))))
+      ∙ ap (λ (x : Link). endAt x (q % 2)) (sym (figures-link (q / 2) (omega arith))))
 
   sums-same : sumsIn l s m ≡ tabulate (λ i. raised (linkOf f i .sum)) m
   unfolding sumsIn
-  sums-same = tabulate-same _ _ m (λ i h. ap (λ (x : Link). raised (x .sum)) (sym (link i h)))
+  sums-same = tabulate-same _ _ m (λ i h. ap (λ (x : Link). raised (x .sum)) (sym (figures-link i h)))
 
   ceiling-same : (j : ℕ) → j < narrowSlots → ceilingIn l s m j ≡ tabulate (λ i. costAt (linkOf f i) j) m
   unfolding ceilingIn tabulate
   ceiling-same j h =
       tabulate-same _ _ m (λ i g.
       sym (tabulate-at (costIn s (linkStart l i)) narrowSlots j h (pos 0))
-      ∙ ap (λ (x : Link). costAt x j) (sym (link i g)))
+      ∙ ap (λ (x : Link). costAt x j) (sym (figures-link i g)))
 
   costs-same : (p : ℕ) → p ≤ narrowSlots → costsIn l s m p ≡ costsWith f m p
   unfolding costsIn costsWith
@@ -114,7 +115,7 @@ module _ (l : Layout) (s : List ℕ) where
         sums = sums-same i;
         costs = costs-same (ceilingsIn s) (omega (arith, fine .yard .few-ceilings, w .slots)) i;
       })
-      ∙ ap (networkOn f) (sym many)
+      ∙ ap (networkOn f) (sym figures-many)
 
 -- the network of a survey of a kind that is written is that of its figures
 pub figures-network : (s : List ℕ) (kind : ℕ) (f : Figures) → Says s kind f → Known kind → networkOf s ≡ networkFrom f

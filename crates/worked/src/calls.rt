@@ -3,6 +3,7 @@ use crate::indexing::index_call;
 use crate::indexing::many_call;
 use crate::report::answer;
 use crate::report::status;
+use crate::writing::small_call;
 use crate::writing::write_call;
 use console::item;
 use console::line::Line;
@@ -92,6 +93,7 @@ pub fn call(survey: &[u8], line: Line) {
         b'i' | b'v' => index_call(survey, line),
         b'm' => many_call(line),
         b'o' => write_call(survey, line),
+        b'n' => small_call(line),
         _ => return,
     }
     text(b"\n");

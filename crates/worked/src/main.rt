@@ -30,6 +30,7 @@
 //     many L COUNT P V        building and the lookup on a list of COUNT plans, with the ends of the index buffer of L bytes
 //     output L KIND E C       writing the survey of the figures that its bytes have, legal or not, with a yard record of KIND, and the output of L bytes
 //                             after it; E ends and C ceiling costs are handed in, or two a link where the line does not say how many
+//     number L Q              small survey Q, and the output of L bytes after it
 //
 // The first letter of the word counts. A line with any other word is a remark.
 mod calls;
@@ -46,6 +47,9 @@ use std::num::wrapping_add_usize;
 use yard::Yard;
 
 const INPUT: i32 = 0;
+
+// More bytes than the input has.
+const ROOM: usize = 131072;
 
 // The yard after a byte: a line that it ends is obeyed.
 fn obey(yard: Yard, line: Line, byte: u8) -> Yard {
@@ -97,7 +101,7 @@ fn run(input: &[u8]) {
 }
 
 fn main() {
-    let mut input = io::large_buffer();
+    let mut input = [0; ROOM];
     let len = io::read_full(INPUT, &mut input);
     run(&input[..len]);
 }

@@ -1,4 +1,4 @@
-// The call that writes a survey, with its reply printed.
+// The calls that write a survey, with their replies printed.
 use crate::calls::DIRT;
 use crate::report::status;
 use console::line::Line;
@@ -14,6 +14,7 @@ use network::records::NARROW_SLOTS;
 use network::records::REST_SIZE;
 use network::records::WIDE_SLOTS;
 use network::records::YARD_FIELDS;
+use planner::small_survey;
 use planner::write_survey;
 use std::num::wrapping_add_usize;
 
@@ -156,5 +157,21 @@ pub fn write_call(survey: &[u8], line: Line) {
     let mut space = [DIRT; ROOM];
     if size <= ROOM {
         write(survey, line, &mut space[0..size]);
+    }
+}
+
+// A small survey, and the output after it.
+fn small(q: u32, output: &mut [u8]) {
+    status(small_survey(q, output));
+    row(b" survey", output);
+}
+
+// The same with an output of so many bytes.
+pub fn small_call(line: Line) {
+    let ns = line.numbers;
+    let size = ns[0] as usize;
+    let mut space = [DIRT; ROOM];
+    if size <= ROOM {
+        small(ns[1], &mut space[0..size]);
     }
 }

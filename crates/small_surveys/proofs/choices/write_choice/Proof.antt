@@ -29,7 +29,8 @@ returns : tie.Need-returns
 returns c =
     let sum = c .before .before .before .before .before .before in
     let opening = sum .before .before .before .before in
-    choice-written _ _ _ _ (search needs) (search needs) (search needs) (opening .copy-in .ensures) (sum .write-u32 .ensures) (c .before .before .write-u322 .ensures)
+    let costs = c .before .before in
+    choice-written _ _ _ _ (search needs) (search needs) (search needs) (opening .copy-in .ensures) (sum .write-u32 .ensures) (costs .write-u322 .ensures)
 
 pub write-choice-spec : {M : Type 1} → statement M
 write-choice-spec =

@@ -3,7 +3,7 @@ use mathlib.Core.Path.{refl}
 use Prim.Native.Nat.{_-_}
 use native.Mathlib.Omega.{arith}
 use borrow.Author.Needs.{needs}
-use Rattle.network.specs.SmallSurveys.{smallLinks}
+use Rattle.network.specs.SmallSurveys.{smallLinkCount}
 use Rattle.small_surveys.specs.Numbered.{ToWrite, choice-below, share-positive, write-end, write-start, write-turn}
 use Rattle.small_surveys.proofs.numbered.write_choices.Statement.{statement}
 use Rattle.small_surveys.proofs.numbered.write_choices.Tie as tie
@@ -12,7 +12,7 @@ abbrev Inv-loop : tie.InvT-loop
 Inv-loop out₀ q openings at₀ rest₀ i₀ out at rest i = ToWrite q at₀ out₀ out at rest i
 
 abbrev μ-loop : tie.MeasureT-loop
-μ-loop out₀ q openings at₀ rest₀ i₀ out at rest i = smallLinks - i
+μ-loop out₀ q openings at₀ rest₀ i₀ out at rest i = smallLinkCount - i
 
 loop-holds : tie.Need-loop-holds Inv-loop μ-loop
 loop-holds c = write-start _ _ _ (c .before .pre .0) (search needs)

@@ -15,7 +15,9 @@ same-length : tie.Need-same-length
 same-length c = search needs
 
 returns : tie.Need-returns
-returns c = numbered-written _ (search needs) _ (c .before .before .before .before .before .before .write-yard .ensures) (c .before .before .write-choices .ensures)
+returns c =
+    let yard = c .before .before .before .before .before .before in
+    numbered-written _ (search needs) _ (yard .write-yard .ensures) (c .before .before .write-choices .ensures)
 
 pub write-numbered-spec : {M : Type 1} → statement M
 write-numbered-spec =

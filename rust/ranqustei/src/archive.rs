@@ -8,6 +8,7 @@ use ranqustei_sys::{
 };
 
 /// Nothing for number 0, else the refusal.
+#[inline]
 fn settle(number: u8, place: u8) -> Result<(), Refusal> {
     match number {
         0 => Ok(()),
@@ -183,6 +184,7 @@ pub fn write_survey(kind: u32, figures: &Figures, survey: &mut [u8]) -> Result<(
 /// # Errors
 /// 20 if `number` is not below 1,728, which is [`SMALL_SURVEYS`](crate::SMALL_SURVEYS); then 17 if
 /// `survey` is below 42 bytes; place 0. `survey` then stays as it was.
+#[inline] // the call costs as much as its work
 pub fn small_survey(number: u32, survey: &mut [u8]) -> Result<(), Refusal> {
     // SAFETY: the pointer is that of a live slice, borrowed for writing, and goes with its length.
     let status = unsafe { ranqustei_small_survey(number, survey.as_mut_ptr(), survey.len()) };

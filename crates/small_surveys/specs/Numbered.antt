@@ -1,9 +1,9 @@
 -- The links of a number, digit by digit: the share of a link is how many surveys have the same choices up to and with it, the place of its choice is
 -- what is left of the number divided by that share, and the remainder is left for the links behind it.
 use mathlib.Core.List.{List, [], _∷_, _++_, map}
-use mathlib.Core.Path.{_≡_, refl, sym, ap, _∙_}
+use mathlib.Core.Path.{_≡_, refl, sym, ap, ap₂, subst, _∙_}
 use Prim.Native.Nat.{ℕ, zero, suc, _+_, _-_, _*_, _/_, _%_, _≤_, _<_}
-use native.Mathlib.Nat.{div-lt-iff-lt-mul, mod-lt}
+use native.Mathlib.Nat.{add-mul-div-right, add-mul-mod-self-right, div-lt-iff-lt-mul, mod-add-div', mod-eq-of-lt, mod-lt, mod-one, mul-assoc, mul-pos}
 use native.Mathlib.Omega.{arith}
 use lib.ListN.{getD, length, replicate}
 use Rattle.frontier.specs.Frontier.{Picks, picks-length, positions, product}
@@ -63,11 +63,38 @@ links-picks q h =
 pub links-many : (q : ℕ) → q < smallCount → length (getD linksInOrder q []) ≡ smallLinkCount
 links-many q h = picks-length (links-picks q h)
 
+-- ---- digits
+
+module _ (b s : ℕ) (some : 0 < s) (q : ℕ) where
+  -- what is left of a number is the number but for a multiple of b * s
+  parts : q ≡ q % (b * s) + q / (b * s) * b * s
+  parts = sym (mod-add-div' q (b * s)) ∙ ap (λ (k : ℕ). q % (b * s) + k) (sym (mul-assoc (q / (b * s)) b s))
+
+  -- its part below s is the number's
+  rest-of : q % (b * s) % s ≡ q % s
+  rest-of = sym (ap (λ (n : ℕ). n % s) parts ∙ add-mul-mod-self-right (q % (b * s)) (q / (b * s) * b) s)
+
+  -- and its first digit is a digit of the number
+  digit-of : 0 < b → q % (b * s) / s ≡ q / s % b
+  digit-of any =
+      let below : q % (b * s) / s < b = div-lt-iff-lt-mul some .1 (mod-lt q (mul-pos any some)) in
+      sym (ap (λ (n : ℕ). n / s % b) parts
+      ∙ ap (λ (n : ℕ). n % b) (add-mul-div-right (q % (b * s)) (q / (b * s) * b) some)
+      ∙ add-mul-mod-self-right (q % (b * s) / s) (q / (b * s)) b
+      ∙ mod-eq-of-lt below)
+
 -- ---- the loop that writes them
 
 -- the shares of link 0, link 1 and link 2
 abbrev pub shares : List ℕ
 shares = 144 ∷ 12 ∷ 1 ∷ []
+
+-- an entry of three that are above 0
+pub entry-positive : (a b c i : ℕ) → i < 3 → 0 < a → 0 < b → 0 < c → 0 < getD (a ∷ b ∷ c ∷ []) i 0
+entry-positive a b c zero h x y z = x
+entry-positive a b c (suc zero) h x y z = y
+entry-positive a b c (suc (suc zero)) h x y z = z
+entry-positive a b c (suc (suc (suc i))) h x y z = absurd (omega arith)
 
 share-at : (i : ℕ) → i < smallLinkCount → getD shares i 0 ≡ shareOf (smallLinkCount - suc i)
 share-at zero h = omega (arith, share-more 0, share-more 1)
@@ -76,55 +103,66 @@ share-at (suc (suc zero)) h = refl
 share-at (suc (suc (suc i))) h = absurd (omega arith)
 
 module _ (q first : ℕ) (before : List ℕ) where
+  -- what is left of the number once the choices of i links are known
+  abbrev leftOf : ℕ → ℕ
+  leftOf i = q % shareOf (smallLinkCount - i)
+
   -- the records of the links from i on are still to be written, from `at` on
-  pub record ToWrite (now : List ℕ) (at rest i : ℕ) : Type 0 where
-    pub whole : overwrite now at (chosenRecords (smallLinkCount - i) rest) ≡ overwrite before first (chosenRecords smallLinkCount q)
-    pub inside : rest < shareOf (smallLinkCount - i)
+  pub record ToWrite (now : List ℕ) (at i : ℕ) : Type 0 where
+    pub whole : overwrite now at (chosenRecords (smallLinkCount - i) (leftOf i)) ≡ overwrite before first (chosenRecords smallLinkCount q)
     pub room : at + (smallLinkCount - i) * writtenLink ≤ length now
     pub few : i ≤ smallLinkCount
     pub kept : length now ≡ length before
 
-  pub write-start : q < smallCount → first + smallLinkCount * writtenLink ≤ length before → ToWrite before first q 0
-  write-start h room = record { whole = refl; inside = rw share-all h; room = room; few = omega arith; kept = refl }
+  pub write-start : q < smallCount → first + smallLinkCount * writtenLink ≤ length before → ToWrite before first 0
+  write-start h room =
+      let all : leftOf 0 ≡ q = mod-eq-of-lt (rw share-all h) in
+      record { whole = ap (λ (k : ℕ). overwrite before first (chosenRecords smallLinkCount k)) all; room = room; few = omega arith; kept = refl }
 
-  module _ {now : List ℕ} {at rest i : ℕ} (todo : ToWrite now at rest i) where
+  module _ {now : List ℕ} {at i : ℕ} (todo : ToWrite now at i) where
     module _ (h : i < smallLinkCount) where
       -- the links behind link i
       abbrev behind : ℕ
       behind = smallLinkCount - suc i
 
-      abbrev share : ℕ
-      share = getD shares i 0
+      -- its choice
+      abbrev choice : ℕ
+      choice = q / getD shares i 0 % choiceCount
 
       with-this : suc behind ≡ smallLinkCount - i
       with-this = omega arith
 
-      pub share-positive : 0 < share
-      share-positive = rw (share-at i h) (share-some behind)
+      -- the choice and what is left after it are those of what is left before it
+      left-now : leftOf i ≡ q % (choiceCount * shareOf behind)
+      left-now = ap (λ (k : ℕ). q % shareOf k) (sym with-this) ∙ ap (λ (k : ℕ). q % k) (share-more behind)
 
-      among : rest < shareOf (suc behind)
-      among = rw (← with-this) at (todo .inside)
+      its-choice : leftOf i / shareOf behind ≡ choice
+      its-choice =
+          ap (λ (k : ℕ). k / shareOf behind) left-now
+          ∙ digit-of choiceCount (shareOf behind) (share-some behind) q (omega arith)
+          ∙ ap (λ (k : ℕ). q / k % choiceCount) (sym (share-at i h))
 
-      pub choice-below : rest / share < choiceCount
-      choice-below = div-lt-iff-lt-mul share-positive .1 (omega (arith, among, share-at i h, share-more behind))
+      its-rest : leftOf i % shareOf behind ≡ q % shareOf behind
+      its-rest = ap (λ (k : ℕ). k % shareOf behind) left-now ∙ rest-of choiceCount (shareOf behind) (share-some behind) q
 
-      pub write-turn : {after : List ℕ} → after ≡ overwrite now at (linkBytes (plain .link .mark) (getD choices (rest / share) noLink))
-          → length after ≡ length now → ToWrite after (at + writtenLink) (rest % share) (i + 1)
+      pub write-turn : {after : List ℕ} → after ≡ overwrite now at (linkBytes (plain .link .mark) (getD choices choice noLink))
+          → length after ≡ length now → ToWrite after (at + writtenLink) (i + 1)
       write-turn {after} e same =
-          let link : List ℕ = linkBytes (plain .link .mark) (getD choices (rest / share) noLink) in
-          let size : length link ≡ writtenLink = length-link (plain .link .mark) (getD choices (rest / share) noLink) refl in
+          let link : List ℕ = linkBytes (plain .link .mark) (getD choices choice noLink) in
+          let size : length link ≡ writtenLink = length-link (plain .link .mark) (getD choices choice noLink) refl in
           let next : smallLinkCount - (i + 1) ≡ behind = omega arith in
-          let both : chosenRecords (smallLinkCount - i) rest ≡ link ++ chosenRecords behind (rest % share) =
-          ap (λ (k : ℕ). chosenRecords k rest) (sym with-this)
-          ∙ records-more behind rest among
-          ∙ ap (λ (k : ℕ). linkBytes (plain .link .mark) (getD choices (rest / k) noLink) ++ chosenRecords behind (rest % k)) (sym (share-at i h)) in
+          let inside : leftOf i < shareOf (suc behind) =
+          subst (λ (k : ℕ). leftOf i < shareOf k) (sym with-this) (mod-lt q (share-some (smallLinkCount - i))) in
+          let both : chosenRecords (smallLinkCount - i) (leftOf i) ≡ link ++ chosenRecords behind (q % shareOf behind) =
+          ap (λ (k : ℕ). chosenRecords k (leftOf i)) (sym with-this)
+          ∙ records-more behind (leftOf i) inside
+          ∙ ap₂ (λ (c r : ℕ). linkBytes (plain .link .mark) (getD choices c noLink) ++ chosenRecords behind r) its-choice its-rest in
           record {
             whole =
-                ap (λ (k : ℕ). overwrite after (at + writtenLink) (chosenRecords k (rest % share))) next
-                ∙ overwrite-chain now at link (at + writtenLink) (chosenRecords behind (rest % share)) refl e (omega arith) (omega (arith, todo .room))
+                ap (λ (k : ℕ). overwrite after (at + writtenLink) (chosenRecords k (q % shareOf k))) next
+                ∙ overwrite-chain now at link (at + writtenLink) (chosenRecords behind (q % shareOf behind)) refl e (omega arith) (omega (arith, todo .room))
                 ∙ ap (overwrite now at) (sym both)
                 ∙ todo .whole;
-            inside = rw next (omega (arith, mod-lt rest share-positive, share-at i h));
             room = omega (arith, todo .room);
             few = omega arith;
             kept = same ∙ todo .kept;
@@ -135,9 +173,9 @@ module _ (q first : ℕ) (before : List ℕ) where
     unfolding chosenRecords chosenLinks
     write-end h =
         let none : smallLinkCount - i ≡ 0 = omega arith in
-        let last : rest ≡ 0 = let one = ap shareOf none in omega (arith, todo .inside) in
+        let last : leftOf i ≡ 0 = ap (λ (k : ℕ). q % shareOf k) none ∙ mod-one q in
         overwrite-nothing now at
-        ∙ ap (λ (r : List ℕ). overwrite now at r) (sym (ap (λ (k : ℕ). chosenRecords k rest) none ∙ ap (chosenRecords 0) last))
+        ∙ ap (λ (r : List ℕ). overwrite now at r) (sym (ap₂ chosenRecords none last))
         ∙ todo .whole
 
 -- ---- the survey

@@ -14,6 +14,9 @@ ghost use Rattle.network.specs.Writing.{linkBytes, noLink};
 ghost use Rattle.survey_roundtrip.specs.Layouts.{writtenLink};
 ghost use Rattle.small_surveys.specs.Choices.{openings};
 
+// How many choices there are.
+pub const CHOICES: u32 = 12;
+
 // How a link record opens, with its mark and its ends, in the order of the ends.
 pub const OPENINGS: [[u8; 4]; 3] = [*b"LK\x00\x01", *b"LK\x00\x02", *b"LK\x01\x02"];
 
@@ -23,7 +26,7 @@ pub const SAME_ENDS: u32 = 4;
 const SAME_SUM: u32 = 2;
 
 // Writes the record of a choice: how it opens, then s, then c1 and c2, whose four bytes are those of c1, since it is 0 or 1 and c2 is 0. The caller looks
-// up how it opens: a table that is read inside a loop is made anew in each turn.
+// up how it opens, in a table that stands before its loop: read here it would be made anew for each link.
 pub fn write_choice(out: &mut [u8], at: usize, opening: [u8; 4], choice: u32)
     requires { ⌜ (choice < choiceCount) × (opening ≡ getD openings (choice / 4) []) × (at + writtenLink ≤ length (now out)) ⌝ }
     ensures { λ _. ⌜ now (out .exit) ≡ overwrite (now (out .entry)) at (linkBytes (plain .link .mark) (getD choices choice noLink)) ⌝ }

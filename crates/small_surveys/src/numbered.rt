@@ -1,4 +1,5 @@
 // The survey of a number: the choices of its links are the digits of the number, that of link 0 first.
+use crate::choices::CHOICES;
 use crate::choices::OPENINGS;
 use crate::choices::SAME_ENDS;
 use crate::choices::write_choice;
@@ -41,13 +42,10 @@ fn write_choices(out: &mut [u8], q: u32)
 {
     let openings = OPENINGS;
     let mut at = PLAIN.yard.size;
-    let mut rest = q;
     for i in 0..LINKS {
-        let share = SHARES[i];
-        let choice = rest / share;
+        let choice = q / SHARES[i] % CHOICES;
         let opening = openings[(choice / SAME_ENDS) as usize];
         write_choice(out, at, opening, choice);
-        rest %= share;
         at += PLAIN.link.size;
     }
 }

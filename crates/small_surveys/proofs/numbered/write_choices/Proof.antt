@@ -4,44 +4,39 @@ use Prim.Native.Nat.{_-_}
 use native.Mathlib.Omega.{arith}
 use borrow.Author.Needs.{needs}
 use Rattle.network.specs.SmallSurveys.{smallLinkCount}
-use Rattle.small_surveys.specs.Numbered.{ToWrite, choice-below, share-positive, write-end, write-start, write-turn}
+use Rattle.small_surveys.specs.Numbered.{ToWrite, entry-positive, write-end, write-start, write-turn}
 use Rattle.small_surveys.proofs.numbered.write_choices.Statement.{statement}
 use Rattle.small_surveys.proofs.numbered.write_choices.Tie as tie
 
 abbrev Inv-loop : tie.InvT-loop
-Inv-loop out₀ q openings at₀ rest₀ i₀ out at rest i = ToWrite q at₀ out₀ out at rest i
+Inv-loop out₀ q openings at₀ i₀ out at i = ToWrite q at₀ out₀ out at i
 
 abbrev μ-loop : tie.MeasureT-loop
-μ-loop out₀ q openings at₀ rest₀ i₀ out at rest i = smallLinkCount - i
+μ-loop out₀ q openings at₀ i₀ out at i = smallLinkCount - i
 
 loop-holds : tie.Need-loop-holds Inv-loop μ-loop
 loop-holds c = write-start _ _ _ (c .before .pre .0) (search needs)
 
-mul-share : tie.Need-mul-share Inv-loop μ-loop
-mul-share c = search needs
+mul-choice : tie.Need-mul-choice Inv-loop μ-loop
+mul-choice c = search needs
 
-array-read-share : tie.Need-array-read-share Inv-loop μ-loop
-array-read-share c = search needs
+array-read-choice : tie.Need-array-read-choice Inv-loop μ-loop
+array-read-choice c = search needs
 
 div-choice : tie.Need-div-choice Inv-loop μ-loop
-div-choice c = share-positive _ _ _ (c .before .loop .inv) (c .loop-test .taken)
+div-choice c = entry-positive _ _ _ _ (c .loop-test .taken) (omega arith) (omega arith) (omega arith)
 
 cast-opening : tie.Need-cast-opening Inv-loop μ-loop
-cast-opening c = let below = choice-below _ _ _ (c .before .loop .inv) (c .loop-test .taken) in record { fits = omega arith }
+cast-opening c = search needs
 
 mul-opening : tie.Need-mul-opening Inv-loop μ-loop
-mul-opening c = let below = choice-below _ _ _ (c .before .loop .inv) (c .loop-test .taken) in record { fits = omega arith }
+mul-opening c = search needs
 
 array-copy-out-opening : tie.Need-array-copy-out-opening Inv-loop μ-loop
-array-copy-out-opening c = let below = choice-below _ _ _ (c .before .loop .inv) (c .loop-test .taken) in omega arith
+array-copy-out-opening c = search needs
 
 write-choice-requires : tie.Need-write-choice-requires Inv-loop μ-loop
-write-choice-requires c κs =
-    let turn = c .before .before in
-    (choice-below _ _ _ (turn .before .loop .inv) (turn .loop-test .taken), refl, omega (arith, turn .before .loop .inv .room, turn .loop-test .taken))
-
-rem-rest : tie.Need-rem-rest Inv-loop μ-loop
-rem-rest c = let turn = c .before .before .before .before .before in share-positive _ _ _ (turn .before .loop .inv) (turn .loop-test .taken)
+write-choice-requires c κs = let turn = c .before .before in (omega arith, refl, omega (arith, turn .before .loop .inv .room, turn .loop-test .taken))
 
 add-at : tie.Need-add-at Inv-loop μ-loop
 add-at c = search needs
@@ -71,14 +66,13 @@ write-choices-spec =
     Inv-loop
     μ-loop
     loop-holds
-    mul-share
-    array-read-share
+    mul-choice
+    array-read-choice
     div-choice
     cast-opening
     mul-opening
     array-copy-out-opening
     write-choice-requires
-    rem-rest
     add-at
     add-i
     loop-less

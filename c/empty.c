@@ -163,6 +163,13 @@ static void write_survey(void)
 
 static void small_survey(void)
 {
+    uint8_t written[RANQUSTEI_SMALL_SURVEY_BYTES + 1];
+
+    memset(written, FILLER, sizeof written);
+    check("small survey, just enough", bare_status(ranqustei_small_survey(0, written, RANQUSTEI_SMALL_SURVEY_BYTES), RANQUSTEI_OK));
+    check("small survey, a byte more", bare_status(ranqustei_small_survey(RANQUSTEI_SMALL_SURVEYS - 1, written, sizeof written), RANQUSTEI_OK));
+    check("small survey, its last link", written[32] == 1 && written[33] == 2 && written[34] == 1 && written[38] == 1);
+    check("small survey, what follows stays", written[RANQUSTEI_SMALL_SURVEY_BYTES] == FILLER);
     check("small survey, no output", bare_status(ranqustei_small_survey(0, NULL, 0), RANQUSTEI_SHORT_OUTPUT));
     check("small survey, a byte too few", bare_status(ranqustei_small_survey(0, lent, RANQUSTEI_SMALL_SURVEY_BYTES - 1), RANQUSTEI_SHORT_OUTPUT));
     check("small survey 1,728, no output", bare_status(ranqustei_small_survey(RANQUSTEI_SMALL_SURVEYS, NULL, 0), RANQUSTEI_NO_SUCH_SURVEY));

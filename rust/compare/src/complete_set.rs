@@ -7,7 +7,7 @@ use crate::comparison::{Comparison, Difference};
 use crate::planner::Planner;
 use crate::records::kind_of;
 use crate::small_rules::SMALL;
-use crate::tally::Tally;
+use crate::tally::{Tally, CALLS};
 use crate::write_rules::Request;
 use peer::records::PLAIN;
 use peer::{SMALL_SURVEYS, SMALL_SURVEY_BYTES};
@@ -48,6 +48,22 @@ pub const DUE: Summary = Summary {
     two_plans: 18 * (68 - 64) + 6 * (73 - 64),
 };
 
+/// How often each call has to be made, in the order of `Call`: all lists of up to three of four links
+/// are drawn, and each list is fetched from, indexed and looked up in by its plans.
+pub fn due_calls() -> [u64; CALLS.len()] {
+    let (surveys, plans) = (DUE.surveys as u64, DUE.plans as u64);
+    [
+        surveys * (1 + 4 + 16 + 64),
+        surveys * 4 * 4,
+        surveys * (2 * 3 + 1),
+        plans + surveys,
+        2 * plans + 3 * surveys,
+        surveys * 4,
+        surveys * 3,
+        0,
+    ]
+}
+
 /// Runs the set of a planner through its calls.
 pub fn run(planner: &dyn Planner, tally: &mut Tally) -> Result<Summary, Difference> {
     let surveys = surveys_of(planner);
@@ -62,7 +78,6 @@ pub fn run(planner: &dyn Planner, tally: &mut Tally) -> Result<Summary, Differen
         write_back(&mut comparison, survey, &by_all_trees.all().yard)?;
         summary.count(&by_all_trees);
     }
-    check_set(&surveys)?;
     Ok(summary)
 }
 
@@ -137,7 +152,6 @@ fn list_calls(c: &mut Comparison, survey: &[u8], due: &ByAllTrees) -> Result<(),
         }
     }
     let list = c.list(survey, solved, &vec![FILLING; need])?.bytes;
-    let before = list.clone();
     let plans = due.plan_count();
     for plan in 0..=plans {
         c.fetch(&list, plan as u32)?;
@@ -149,13 +163,7 @@ fn list_calls(c: &mut Comparison, survey: &[u8], due: &ByAllTrees) -> Result<(),
     for value in VALUES {
         c.lookup(&list, &index, value)?;
     }
-    match list == before {
-        true => Ok(()),
-        false => Err(Difference {
-            call: "fetch, index and lookup".into(),
-            replies: [before, list].map(|list| format!("{list:02x?}")),
-        }),
-    }
+    Ok(())
 }
 
 /// Writes a survey from its figures: its own bytes come back.

@@ -1,4 +1,5 @@
-//! Holds two planners against each other: generated surveys, lists and figures, calls, comparison.
+//! Holds two planners against each other: generated surveys, lists and figures, all small surveys,
+//! calls, comparison; and small yards against a listing of all trees.
 //!
 //! `cargo test --release` compares the proved planner with the independent one and prints how
 //! much was compared; `cargo run --release --bin bench` times both.

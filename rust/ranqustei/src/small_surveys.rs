@@ -38,7 +38,7 @@ pub fn small_surveys() -> SmallSurveys {
     }
 }
 
-/// The survey of a number that is taken from those of all surveys.
+/// The small survey of a number below [`SMALL_SURVEYS`]: there always is one.
 fn numbered(number: u32) -> Option<Survey> {
     Survey::small(number).ok()
 }

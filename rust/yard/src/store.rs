@@ -23,54 +23,60 @@ pub fn store(file: &OsStr, bytes: &[u8]) -> io::Result<()> {
         .inspect_err(|_| discard(Path::new(&part)))
 }
 
-/// Writes a file that is not there yet.
+/// Writes a file that is not there yet. One that has just these bytes is left as it is.
 ///
 /// # Errors
-/// The file is there already, and stays as it is; or it cannot be written, and is not there.
+/// Another file is there already, and stays as it is; or it cannot be written, and is not there.
 pub fn store_new(file: &OsStr, bytes: &[u8]) -> io::Result<()> {
     let file = Path::new(file);
     if keeps_nothing(file) {
         return fs::write(file, bytes);
     }
-    let mut new = File::create_new(file).map_err(|error| match error.kind() {
-        ErrorKind::AlreadyExists => is_there(),
-        _ => error,
-    })?;
-    new.write_all(bytes).inspect_err(|_| discard(file))
+    match File::create_new(file) {
+        Ok(mut new) => new.write_all(bytes).inspect_err(|_| discard(file)),
+        Err(error) if error.kind() == ErrorKind::AlreadyExists => keep(file, bytes),
+        Err(error) => Err(error),
+    }
 }
 
-/// Writes files that are not there yet into a folder, which is made if it is missing.
+/// Writes files that are not there yet into a folder, which is made if it is missing. Those that have
+/// just their bytes are left as they are, so that a run that was cut off can be made again.
 ///
 /// # Errors
-/// The folder cannot be made. One of the files is there already: nothing is written then. One of
-/// them cannot be written: those before it stay. The name is that of the folder or of the file.
+/// The folder cannot be made. Another file is there under one of the names: nothing is written then.
+/// One of them cannot be written: those before it stay. The name is that of the folder or of the file.
 pub fn store_all_new(
     folder: &OsStr,
     files: &[(String, Vec<u8>)],
 ) -> Result<(), (OsString, io::Error)> {
     fs::create_dir_all(folder).map_err(|error| (folder.to_owned(), error))?;
-    let path = |name: &String| Path::new(folder).join(name).into_os_string();
-    let mut paths = files.iter().map(|(name, _)| path(name));
-    if let Some(path) = paths.find(|path| fs::symlink_metadata(path).is_ok()) {
-        return Err((path, is_there()));
+    let path = |name: &String| Path::new(folder).join(name);
+    let named = |name, error| (path(name).into_os_string(), error);
+    for (name, bytes) in files {
+        if fs::symlink_metadata(path(name)).is_ok() {
+            keep(&path(name), bytes).map_err(|error| named(name, error))?;
+        }
     }
     for (name, bytes) in files {
-        store_new(&path(name), bytes).map_err(|error| (path(name), error))?;
+        store_new(path(name).as_os_str(), bytes).map_err(|error| named(name, error))?;
     }
     Ok(())
+}
+
+/// Leaves a file as it is, if it has just these bytes.
+fn keep(file: &Path, bytes: &[u8]) -> io::Result<()> {
+    match fs::read(file).is_ok_and(|old| old == bytes) {
+        true => Ok(()),
+        false => Err(io::Error::new(
+            ErrorKind::AlreadyExists,
+            "another file is there already, and is not written over",
+        )),
+    }
 }
 
 /// Whether a name is that of a device or a pipe, which keeps nothing that could be lost.
 fn keeps_nothing(file: &Path) -> bool {
     file.exists() && !file.is_file()
-}
-
-/// What is said of a file that is not written over.
-fn is_there() -> io::Error {
-    io::Error::new(
-        ErrorKind::AlreadyExists,
-        "the file is there already, and is not written over",
-    )
 }
 
 /// Removes what was written in vain; a failure here adds nothing to the one that led to it.

@@ -2,7 +2,7 @@
 
 use crate::seeds::Tallies;
 use compare::comparison::{Comparison, Difference};
-use compare::complete_set::{run, Summary, DUE};
+use compare::complete_set::{due_calls, run, Summary, DUE};
 use compare::planner::{Archive, Peer};
 use compare::rng::Rng;
 use compare::small_calls::{calls_in_order, calls_with_any};
@@ -37,9 +37,13 @@ pub fn run_complete_set() -> Result<Tallies, String> {
     let summary = run(&Archive, &mut tally)
         .map_err(|difference| format!("DIFFERENCE in the complete set\n{difference}"))?;
     print_summary(&summary);
-    match summary == DUE {
-        true => Ok(vec![("the complete set", tally)]),
-        false => Err(format!("The complete set should come to {DUE:?}.")),
+    let (calls, due) = (tally.calls(), due_calls());
+    match (summary == DUE, calls == due) {
+        (true, true) => Ok(vec![("the complete set", tally)]),
+        (false, _) => Err(format!("The complete set should come to {DUE:?}.")),
+        _ => Err(format!(
+            "Calls on the complete set: {calls:?}, due {due:?}."
+        )),
     }
 }
 

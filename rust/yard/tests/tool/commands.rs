@@ -1,6 +1,6 @@
 //! Every command, on the examples and on wrong words.
 
-use crate::tool::{example_yards, repository, run, run_bytes, scratch, text_a};
+use crate::tool::{example_yards, misused, repository, run, run_bytes, scratch, text_a};
 
 /// The answer of a command on survey A.
 fn on_a(command: &str, rest: &[&str]) -> Result<String, (u8, String)> {
@@ -9,10 +9,6 @@ fn on_a(command: &str, rest: &[&str]) -> Result<String, (u8, String)> {
 
 fn refused(message: &str) -> Result<String, (u8, String)> {
     Err((1, message.to_string()))
-}
-
-fn misused(message: &str) -> Result<String, (u8, String)> {
-    Err((2, format!("{message}; `yard help` shows the commands")))
 }
 
 #[test]

@@ -1,6 +1,6 @@
 //! Indexes of plan lists: stored, and the cheapest plan looked up.
 
-use crate::tool::{repository, run, run_bytes, scratch, text_a, Answer};
+use crate::tool::{misused, repository, run, run_bytes, scratch, text_a, Answer};
 
 /// The list of a yard, stored under a name of the test's own.
 fn stored_list(name: &str, yard: &str) -> String {
@@ -122,7 +122,6 @@ fn names_of_files() {
 
 #[test]
 fn wrong_words() {
-    let misused = |message: &str| Err((2, format!("{message}; `yard help` shows the commands")));
     let index = misused("the command is `yard index FILE.list [-o FILE]`");
     for words in [&["index"][..], &["index", "a.list", "0"]] {
         assert_eq!(run(words, ""), index);

@@ -1,14 +1,13 @@
 //! The program itself: exit status, standard streams, files.
 
-use crate::tool::{scratch, text_a};
+use crate::tool::{program, scratch, text_a};
 use std::io::Write;
 use std::process::{Command, Output, Stdio};
 
-/// Starts the program.
-fn program(words: &[&str]) -> Command {
-    let mut command = Command::new(env!("CARGO_BIN_EXE_yard"));
+/// The program with its streams piped.
+fn piped(words: &[&str]) -> Command {
+    let mut command = program(words);
     command
-        .args(words)
         .stdin(Stdio::piped())
         .stdout(Stdio::piped())
         .stderr(Stdio::piped());
@@ -17,7 +16,7 @@ fn program(words: &[&str]) -> Command {
 
 /// Runs the program to its end on survey A.
 fn on_a(words: &[&str]) -> Output {
-    let mut child = program(words).spawn().expect("the program starts");
+    let mut child = piped(words).spawn().expect("the program starts");
     let mut input = child.stdin.take().expect("its input is piped");
     // A program that needs no input may have ended already.
     let _ = input.write_all(text_a().as_bytes());
@@ -78,7 +77,7 @@ fn a_file_is_written_whole_or_stays() {
 
 #[test]
 fn a_closed_pipe_is_no_failure() {
-    let mut child = program(&["draw", "-"]).spawn().expect("the program starts");
+    let mut child = piped(&["draw", "-"]).spawn().expect("the program starts");
     drop(child.stdout.take());
     let mut input = child.stdin.take().expect("its input is piped");
     input

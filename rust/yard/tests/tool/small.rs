@@ -1,20 +1,13 @@
 //! The small surveys: one printed or written, and a folder with all of them.
 
-use crate::tool::{run, run_bytes};
+use crate::tool::{misused, program, run, run_bytes};
 use ranqustei::{small_surveys, Survey};
 use std::fs;
 use std::path::{Path, PathBuf};
-use std::process::{Command, Output};
-
-/// Runs the program to its end.
-fn program(words: &[&str]) -> Output {
-    let mut program = Command::new(env!("CARGO_BIN_EXE_yard"));
-    program.args(words).output().expect("the program runs")
-}
 
 /// The program's exit status and what it says of a failure; it prints nothing else.
 fn told(words: &[&str]) -> (Option<i32>, String) {
-    let output = program(words);
+    let output = program(words).output().expect("the program runs");
     assert_eq!(output.stdout, b"");
     let said = String::from_utf8(output.stderr).expect("it is text");
     (output.status.code(), said)
@@ -53,17 +46,14 @@ fn survey(number: u32) -> Vec<u8> {
     survey.as_bytes().to_vec()
 }
 
-fn misused(message: &str) -> (u8, String) {
-    (2, format!("{message}; `yard help` shows the commands"))
-}
-
 #[test]
 fn one_is_printed() {
     for number in [0, 5, 70, 1_727] {
         let printed = run_bytes(&["small", &number.to_string()], "");
         assert_eq!(printed, Ok(survey(number)));
     }
-    let output = program(&["small", "70"]);
+    let output = program(&["small", "70"]).output();
+    let output = output.expect("the program runs");
     assert_eq!((output.status.code(), output.stderr.len()), (Some(0), 0));
     assert_eq!(output.stdout, survey(70));
 }
@@ -115,7 +105,7 @@ stations 3 ceilings 1
     assert_eq!(run(&["text", &fifth], ""), Ok(text.to_string()));
 }
 
-const IS_THERE: &str = "the file is there already, and is not written over";
+const IS_THERE: &str = "another file is there already, and is not written over";
 
 #[test]
 fn a_file_is_not_written_over() {
@@ -125,6 +115,10 @@ fn a_file_is_not_written_over() {
     let refused = (Some(1), format!("{name}: {IS_THERE}\n"));
     assert_eq!(told(&["small", "5", "-o", &name]), refused);
     assert_eq!(fs::read(&file).ok(), Some(b"kept".to_vec()));
+    // A file that has the survey already is left as it is.
+    fs::write(&file, survey(5)).expect("the scratch folder can be written");
+    assert_eq!(told(&["small", "5", "-o", &name]).0, Some(0));
+    assert_eq!(told(&["small", "6", "-o", &name]), refused);
     assert_eq!(told(&["small", "5", "-o", "/dev/null"]).0, Some(0));
     let nowhere = told(&["small", "5", "-o", "no/such/folder"]);
     assert_eq!(nowhere.0, Some(1));
@@ -145,8 +139,13 @@ fn no_file_of_a_folder_is_written_over() {
     fs::rename(&file, folder.join("999.survey")).expect("the test wrote it");
     assert_eq!(told(&["small", "--all", "-o", &name]).0, Some(0));
     assert_eq!(names(&folder).len(), 1_729);
-    let again = format!("{}: {IS_THERE}\n", text(&folder.join("0000.survey")));
-    assert_eq!(told(&["small", "--all", "-o", &name]), (Some(1), again));
+    // A run that was cut off can be made again.
+    fs::remove_file(folder.join("1727.survey")).expect("the tool wrote it");
+    assert_eq!(told(&["small", "--all", "-o", &name]).0, Some(0));
+    assert_eq!(
+        fs::read(folder.join("1727.survey")).ok(),
+        Some(survey(1_727))
+    );
     let no_folder = told(&["small", "--all", "-o", &text(&file)]);
     assert_eq!(no_folder.0, Some(1));
     assert!(no_folder.1.starts_with(&text(&file)));
@@ -175,7 +174,7 @@ fn numbers_without_a_survey() {
 fn words_that_are_no_number() {
     for word in ["", "x", "-1", "5.0", "0x5", "all", "–"] {
         let no_number = misused(&format!("`{word}` is no survey number"));
-        assert_eq!(run(&["small", word], ""), Err(no_number));
+        assert_eq!(run(&["small", word], ""), no_number);
     }
 }
 
@@ -193,6 +192,6 @@ fn wrong_words() {
         &["1", "--record", "plain"],
     ] {
         let answer = run(&[&["small"], words].concat(), "");
-        assert_eq!(answer, Err(misused(forms)), "{words:?}");
+        assert_eq!(answer, misused(forms), "{words:?}");
     }
 }

@@ -3,6 +3,7 @@
 use std::ffi::OsString;
 use std::fs;
 use std::path::{Path, PathBuf};
+use std::process::Command;
 use yard::Output;
 
 /// The result of a command in text, or its exit status and message.
@@ -26,6 +27,18 @@ pub fn run_bytes(words: &[&str], input: impl AsRef<[u8]>) -> Result<Vec<u8>, (u8
     output
         .map(bytes)
         .map_err(|failure| (failure.status, failure.message))
+}
+
+/// The program itself, with these words.
+pub fn program(words: &[&str]) -> Command {
+    let mut command = Command::new(env!("CARGO_BIN_EXE_yard"));
+    command.args(words);
+    command
+}
+
+/// What the tool says of wrong words.
+pub fn misused<T>(message: &str) -> Result<T, (u8, String)> {
+    Err((2, format!("{message}; `yard help` shows the commands")))
 }
 
 /// A file of the repository.

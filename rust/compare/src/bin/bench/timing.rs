@@ -7,8 +7,13 @@ use std::time::Instant;
 pub const RUNS: usize = 21;
 
 /// The fastest run of each planner, archive and peer, in microseconds.
-pub fn fastest(mut run: impl FnMut(&dyn Planner)) -> [f64; 2] {
+pub fn fastest(run: impl FnMut(&dyn Planner)) -> [f64; 2] {
     let planners: [&dyn Planner; 2] = [&Archive, &Peer];
+    fastest_of(planners, run)
+}
+
+/// The fastest run with each of two, archive and peer.
+pub fn fastest_of<T: Copy>(planners: [T; 2], mut run: impl FnMut(T)) -> [f64; 2] {
     let mut times = [f64::INFINITY; 2];
     for i in 0..2 * RUNS {
         // The order changes each time: archive, peer, peer, archive.

@@ -107,8 +107,8 @@ P n count rows = record { number = n; count = count; rows = rows }
 -- numbers and P25 on lengths and marks; P26 to P29 are on the index, with signs and ties, without ceilings, and where it is declined; P30 to P33 are
 -- on writing, P32 on the order of the numbers and P33 on columns and an output that are too short; in P34 to P40 stations may rest, P38 with bits of
 -- both kinds in each of the three bytes, P39 on where 18 stands; in P41 to P48 there may be three ceilings, P44 on the ranks that pass, P45 on p,
--- marks and lengths, P46 on M and where 19 stands, P47 on fetching and P48 on the index; P49 is on the small surveys, with
--- the first and the last, where 20 stands, and numbers of more than 16 bits
+-- marks and lengths, P46 on M and where 19 stands, P47 on fetching and P48 on the index; P49 is on the small surveys, with the first and the last, where
+-- 20 stands, and numbers of more than 16 bits
 unfoldable pub table : List Work
 table =
     P 1 2 (

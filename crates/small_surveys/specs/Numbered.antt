@@ -119,7 +119,7 @@ module _ (q first : ℕ) (before : List ℕ) where
       let all : leftOf 0 ≡ q = mod-eq-of-lt (rw share-all h) in
       record { whole = ap (λ (k : ℕ). overwrite before first (chosenRecords smallLinkCount k)) all; room = room; few = omega arith; kept = refl }
 
-  module _ {now : List ℕ} {at i : ℕ} (todo : ToWrite now at i) where
+  module _ {now : List ℕ} {at i : ℕ} (ahead : ToWrite now at i) where
     module _ (h : i < smallLinkCount) where
       -- the links behind link i
       abbrev behind : ℕ
@@ -160,12 +160,12 @@ module _ (q first : ℕ) (before : List ℕ) where
           record {
             whole =
                 ap (λ (k : ℕ). overwrite after (at + writtenLink) (chosenRecords k (q % shareOf k))) next
-                ∙ overwrite-chain now at link (at + writtenLink) (chosenRecords behind (q % shareOf behind)) refl e (omega arith) (omega (arith, todo .room))
+                ∙ overwrite-chain now at link (at + writtenLink) (chosenRecords behind (q % shareOf behind)) refl e (omega arith) (omega (arith, ahead .room))
                 ∙ ap (overwrite now at) (sym both)
-                ∙ todo .whole;
-            room = omega (arith, todo .room);
+                ∙ ahead .whole;
+            room = omega (arith, ahead .room);
             few = omega arith;
-            kept = same ∙ todo .kept;
+            kept = same ∙ ahead .kept;
           }
 
     -- nothing is left
@@ -176,7 +176,7 @@ module _ (q first : ℕ) (before : List ℕ) where
         let last : leftOf i ≡ 0 = ap (λ (k : ℕ). q % shareOf k) none ∙ mod-one q in
         overwrite-nothing now at
         ∙ ap (λ (r : List ℕ). overwrite now at r) (sym (ap₂ chosenRecords none last))
-        ∙ todo .whole
+        ∙ ahead .whole
 
 -- ---- the survey
 

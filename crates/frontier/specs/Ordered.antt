@@ -14,6 +14,8 @@ use Rattle.order.specs.Sorted.{Rising}
 use Rattle.frontier.specs.Frontier.{Picks, picks-cons, picks-nil, positions, prefixEach, product}
 use Rattle.frontier.specs.Places.{factor-pos, pick, places, places-number, places-range, positions-number}
 
+-- ---- by numbers
+
 module _ {C : Type 0} (d : C) where
   -- a position by the digits of its number
   pub positions-pick : (ls : List (List C)) (n : ℕ) → n < product ls → getD (positions ls) n [] ≡ pick d (places ls n) ls
@@ -27,7 +29,9 @@ module _ {C : Type 0} (d : C) where
       positions-pick (l ∷ ls) n h
       ∙ ap (λ (v : List C). getD l (n / product ls) d ∷ v) (sym (positions-pick ls (n % product ls) (mod-lt n k)))
 
-module _ {C K : Type 0} (O : TotalOrder K) (key : C → K) where
+-- ---- in order
+
+module _ {C : Type 0} where
   -- a position in which a value of l is put in front of one of qs
   record Prefixed (l : List C) (qs : List (List C)) (v : List C) : Type 0 where
     value : C
@@ -45,6 +49,7 @@ module _ {C K : Type 0} (O : TotalOrder K) (key : C → K) where
       record { value = w .value; rest = w .rest; among = there (w .among); behind = w .behind; whole = w .whole })
       (List·Memᴰ·append-cases (map (λ q. x ∷ q) qs) m)
 
+module _ {C K : Type 0} (O : TotalOrder K) (key : C → K) where
   -- the keys of positions, as in a dictionary
   abbrev Rises : List (List C) → Type 0
   Rises = Rising (dictionary O) (map key)
@@ -77,6 +82,7 @@ module _ {C : Type 0} (l : List C) where
   picks-each zero picks-nil x m = absurd (List·Memᴰ·not-nil m)
   picks-each (suc k) (picks-cons {x = y} n p) x m = ⊎-elim (λ (e : x ≡ y). rw e n) (λ n. picks-each k p x n) (List·Memᴰ·cases-cons m)
 
+  -- and every list of members is a pick
   pub each-picks : (v : List C) → ((x : C) → x ∈ v → x ∈ l) → Picks v (replicate (length v) l)
   each-picks [] h = picks-nil
   each-picks (x ∷ v) h = picks-cons (h x (here refl)) (each-picks v (λ y m. h y (there m)))

@@ -84,6 +84,7 @@ members-bytes s each = record { each = go s each }
     go (x ∷ s) h zero = h x (here refl)
     go (x ∷ s) h (suc i) = go s (λ b m. h b (there m)) i
 
+-- a number is a byte, as a test
 isByte : ℕ → Bool
 isByte b = ltb b 256
 

@@ -7,8 +7,8 @@
 #include <stdio.h>
 #include <string.h>
 
-/* Survey A of document 01, the yard of one station, whose tree has no links, one of two stations without a link, which has no tree, one of two stations
-   and a link, of which station 1 rests, and one of two stations, a link and three ceilings. */
+/* Survey A of document 01, the yard of one station, whose tree has no links, one of two stations and a link, of which station 1 rests, and one of two
+   stations, a link and three ceilings. */
 static const uint8_t survey_a[] = {
     0x59, 0x44, 3, 1, 1, 0,
     0x4C, 0x4B, 0, 1, 4, 0, 0, 0, 7, 0, 0, 0,
@@ -16,7 +16,6 @@ static const uint8_t survey_a[] = {
     0x4C, 0x4B, 0, 2, 1, 0, 0, 0, 9, 0, 0, 0,
 };
 static const uint8_t single[] = {0x59, 0x44, 1, 0, 0, 0};
-static const uint8_t without_links[] = {0x59, 0x44, 2, 0, 0, 0};
 static const uint8_t resting[] = {0x59, 0x46, 2, 0, 0, 0, 1, 2, 0, 0, 0x4C, 0x4B, 0, 1, 5, 0, 0, 0, 0, 0, 0, 0};
 static const uint8_t triple[] = {0x59, 0x47, 2, 3, 1, 1, 1, 1, 0, 0, 0, 0x4C, 0x4D, 0, 1, 5, 0, 0, 0, 3, 0, 4, 0, 6, 0};
 
@@ -64,11 +63,6 @@ static int bare_part(ranqustei_part part, int number)
 static int bare_found(ranqustei_found found, int number)
 {
     return found.number == number && found.place == 0 && found.plan == 0;
-}
-
-static int bare_count(ranqustei_count counted, int number, int count)
-{
-    return counted.number == number && counted.place == 0 && counted.count == count;
 }
 
 static int lent_stays(void)
@@ -183,41 +177,6 @@ static void small_survey(void)
     check("the last number of all, no output", bare_status(ranqustei_small_survey(UINT32_MAX, NULL, 0), RANQUSTEI_NO_SUCH_SURVEY));
 }
 
-static void count_trees(void)
-{
-    check("tree count, no survey", bare_count(ranqustei_tree_count(NULL, 0), RANQUSTEI_BAD_LENGTH, 0));
-    check("tree count, one station", bare_count(ranqustei_tree_count(single, sizeof single), RANQUSTEI_OK, 1));
-    check("tree count, one at work", bare_count(ranqustei_tree_count(resting, sizeof resting), RANQUSTEI_OK, 1));
-    check("tree count, no link", bare_count(ranqustei_tree_count(without_links, sizeof without_links), RANQUSTEI_OK, 0));
-}
-
-static void hand_out_tree(void)
-{
-    check("tree, no survey", bare_reply(ranqustei_tree(NULL, 0, 0, lent, LENT), RANQUSTEI_BAD_LENGTH));
-    check("tree, neither", bare_reply(ranqustei_tree(NULL, 0, UINT32_MAX, NULL, 0), RANQUSTEI_BAD_LENGTH));
-    check("tree, no buffer", bare_reply(ranqustei_tree(survey_a, sizeof survey_a, 0, NULL, 0), RANQUSTEI_SHORT_BUFFER));
-    check("tree, no buffer for three ceilings", bare_reply(ranqustei_tree(triple, sizeof triple, 0, NULL, 0), RANQUSTEI_SHORT_BUFFER));
-    check("no such tree, no buffer", bare_reply(ranqustei_tree(survey_a, sizeof survey_a, 3, NULL, 0), RANQUSTEI_SHORT_BUFFER));
-    check("no such tree", bare_reply(ranqustei_tree(survey_a, sizeof survey_a, 3, lent, LENT), RANQUSTEI_NO_SUCH_PLAN));
-    check("tree, no link", bare_reply(ranqustei_tree(without_links, sizeof without_links, 0, lent, LENT), RANQUSTEI_NO_SUCH_PLAN));
-    check("tree, no buffer for one station", bare_reply(ranqustei_tree(single, sizeof single, 0, NULL, 0), RANQUSTEI_OK));
-    check("tree, no buffer for one at work", bare_reply(ranqustei_tree(resting, sizeof resting, 0, NULL, 0), RANQUSTEI_OK));
-    check("tree, a buffer for one station", bare_reply(ranqustei_tree(single, sizeof single, 0, lent, LENT), RANQUSTEI_OK));
-    check("no such tree of one station", bare_reply(ranqustei_tree(single, sizeof single, 1, NULL, 0), RANQUSTEI_NO_SUCH_PLAN));
-    check("the last number of all", bare_reply(ranqustei_tree(single, sizeof single, UINT32_MAX, NULL, 0), RANQUSTEI_NO_SUCH_PLAN));
-}
-
-static void list_by_trees(void)
-{
-    check("list by trees, no survey", bare_status(ranqustei_list_by_trees(NULL, 0, lent, LENT), RANQUSTEI_BAD_LENGTH));
-    check("list by trees, neither", bare_status(ranqustei_list_by_trees(NULL, 0, NULL, 0), RANQUSTEI_BAD_LENGTH));
-    check("list by trees, no buffer", bare_status(ranqustei_list_by_trees(survey_a, sizeof survey_a, NULL, 0), RANQUSTEI_SHORT_BUFFER));
-    check("list by trees, no buffer for three ceilings",
-        bare_status(ranqustei_list_by_trees(triple, sizeof triple, NULL, 0), RANQUSTEI_SHORT_BUFFER));
-    check("list by trees, no buffer for one station", bare_status(ranqustei_list_by_trees(single, sizeof single, NULL, 0), RANQUSTEI_SHORT_BUFFER));
-    check("list by trees, no buffer for one at work", bare_status(ranqustei_list_by_trees(resting, sizeof resting, NULL, 0), RANQUSTEI_SHORT_BUFFER));
-}
-
 int main(void)
 {
     memset(lent, FILLER, sizeof lent);
@@ -230,9 +189,6 @@ int main(void)
     decline_to_write();
     write_survey();
     small_survey();
-    count_trees();
-    hand_out_tree();
-    list_by_trees();
     check("what was lent stays", lent_stays());
     return failures != 0;
 }

@@ -1,4 +1,4 @@
-/* Every call on survey A of document 01, its list, its figures and its trees, calls on it with the other yard records, and a small survey with its list. */
+/* Every call on survey A of document 01, its list and its figures, calls on it with the other yard records, and a small survey with its list. */
 #include "ranqustei.h"
 
 #include <stdio.h>
@@ -54,14 +54,6 @@ static void print_triple(const char *what, ranqustei_reply reply)
         printf("%s: sum %d, ceiling costs %d %d %d\n", what, (int)reply.sum, reply.y1, reply.y2, reply.y3);
     else
         print_reply(what, reply);
-}
-
-static void print_count(const char *what, ranqustei_count counted)
-{
-    if (counted.number == RANQUSTEI_OK)
-        printf("%s: %u\n", what, (unsigned)counted.count);
-    else
-        printf("%s: refused %d at %d\n", what, counted.number, counted.place);
 }
 
 static void print_found(const char *what, ranqustei_found found)
@@ -175,50 +167,6 @@ static void small_surveys(void)
     print_status("small survey 70, a byte too few", ranqustei_small_survey(q, small, sizeof small - 1));
 }
 
-/* Every tree with its costs, and what comes after the last one. */
-static void trees(const char *what, const uint8_t *bytes, size_t length)
-{
-    uint8_t tree[RANQUSTEI_TREE_BYTES];
-    uint32_t r = 0;
-    ranqustei_reply reply = ranqustei_tree(bytes, length, r, tree, sizeof tree);
-
-    print_count(what, ranqustei_tree_count(bytes, length));
-    for (; reply.number == RANQUSTEI_OK; reply = ranqustei_tree(bytes, length, ++r, tree, sizeof tree)) {
-        printf("tree %u: sum %d, ceiling cost %d, links", (unsigned)r, (int)reply.sum, reply.y1);
-        print_links(tree, 2);
-    }
-    print_reply("after the last tree", reply);
-}
-
-/* Twelve links between two stations, and one more, which a station at rest makes unusable. */
-static void many_links(void)
-{
-    uint8_t many[10 + 13 * 12] = {0x59, 0x46, 3, 0, 0, 0, 13, 4}, tree[1];
-
-    for (uint8_t i = 0; i < 13; i++) {
-        const uint8_t link[12] = {0x4C, 0x4B, 0, i < 12 ? 1 : 2, 1};
-        memcpy(many + 10 + 12 * i, link, sizeof link);
-    }
-    print_count("trees, 13 links", ranqustei_tree_count(many, sizeof many));
-    print_reply("a tree of 13 links", ranqustei_tree(many, sizeof many, 0, tree, sizeof tree));
-    print_status("list by trees, 13 links", ranqustei_list_by_trees(many, sizeof many, list, sizeof list));
-    many[6] = 12;
-    print_count("trees, 12 links", ranqustei_tree_count(many, sizeof many - 12));
-}
-
-/* Both lists have the same bytes but for the four of the solved count. */
-static void list_by_trees(void)
-{
-    static uint8_t by_trees[RANQUSTEI_LIST_BYTES];
-
-    print_status("list by trees", ranqustei_list_by_trees(survey, sizeof survey, by_trees, sizeof by_trees));
-    print_status("list", ranqustei_list(survey, sizeof survey, RANQUSTEI_POSITIONS, list, sizeof list));
-    printf("positions solved: %d and %d\n", by_trees[4], list[4]);
-    memset(list + 4, 0, 4);
-    printf("else the same bytes: %s\n", memcmp(by_trees, list, sizeof list) == 0 ? "yes" : "no");
-    print_status("list by trees, a byte too few", ranqustei_list_by_trees(survey, sizeof survey, by_trees, 45));
-}
-
 int main(void)
 {
     static const uint8_t drawn[] = {0, 2}, ring[] = {0, 1, 2};
@@ -243,8 +191,5 @@ int main(void)
     rest();
     third_ceiling();
     small_surveys();
-    trees("trees", survey, sizeof survey);
-    many_links();
-    list_by_trees();
     return 0;
 }

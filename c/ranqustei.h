@@ -106,10 +106,6 @@
  * of ceiling 2 is 0. Choices rise by ends, then by sum cost, then by cost of ceiling 1; surveys rise by the choice of link 0, then of link 1, then of
  * link 2. So in survey q the choices, counted from 0, are q / 144, q / 12 % 12 and q % 12. Each survey of this kind has one number, and each is
  * accepted.
- *
- * The trees of a survey of at most 12 links, usable or not, are numbered from 0, each once, in dictionary order: of two trees, written as their link
- * numbers, rising, the first numbers that differ decide, and the tree with the smaller one comes first. A yard whose usable links do not connect its
- * working stations has no tree. With one working station there is one tree, which has no links.
  */
 #ifndef RANQUSTEI_H
 #define RANQUSTEI_H
@@ -136,23 +132,17 @@ enum {
     RANQUSTEI_SMALL_SURVEY_BYTES = 42
 };
 
-/* The most links of a survey whose trees are counted and handed out. */
-enum { RANQUSTEI_TREES_LINKS = 12 };
-
 /*
  * The number in every reply: RANQUSTEI_OK, or why the call declined. A call gives the first number of its row whose cause holds:
  *
- *     judge          1, 2 for the yard record, 3, 4, 15, 18, 5, 6; then 2, 7, 8 for link 0, then for link 1, and so on; then 19; then 11
- *     best           as judge up to 19; then 9, 14
- *     list           as judge up to 19; then 9, 10
- *     fetch          12 for head or length; then 13; then 12 for the mark of plan r
- *     index          12 for head or length, or for the mark of any plan; then 16
- *     lookup         as index; then 12 for the index; then 13
- *     write          2 for the kind, 3, 4, 5, 6; then 7, 8 for link 0, then for link 1, and so on; then 17
- *     small          20; then 17
- *     tree count     as judge up to 19; then 21
- *     tree           as tree count; then 9, 13
- *     list by trees  as tree count; then 9
+ *     judge   1, 2 for the yard record, 3, 4, 15, 18, 5, 6; then 2, 7, 8 for link 0, then for link 1, and so on; then 19; then 11
+ *     best    as judge up to 19; then 9, 14
+ *     list    as judge up to 19; then 9, 10
+ *     fetch   12 for head or length; then 13; then 12 for the mark of plan r
+ *     index   12 for head or length, or for the mark of any plan; then 16
+ *     lookup  as index; then 12 for the index; then 13
+ *     write   2 for the kind, 3, 4, 5, 6; then 7, 8 for link 0, then for link 1, and so on; then 17
+ *     small   20; then 17
  *
  * The place is the link's number plus 1 where a link is at fault (2, 7, 8), and 0 everywhere else.
  */
@@ -186,7 +176,7 @@ enum {
     RANQUSTEI_NOT_A_TREE = 11,
     /* The plan list is damaged, or the index is not its own. */
     RANQUSTEI_DAMAGED_LIST = 12,
-    /* The plan list has no plan r, or no plan that meets the value; or the yard has no tree r. */
+    /* The plan list has no plan r, or no plan that meets the value. */
     RANQUSTEI_NO_SUCH_PLAN = 13,
     /* No tree fits the ceilings. */
     RANQUSTEI_NO_TREE_FITS = 14,
@@ -201,9 +191,7 @@ enum {
     /* M is above 1,600, which it can be with three ceilings alone. */
     RANQUSTEI_TOO_MANY_POSITIONS = 19,
     /* There is no small survey q: q is 1,728 or more. */
-    RANQUSTEI_NO_SUCH_SURVEY = 20,
-    /* There are more than 12 links, usable or not: too many for a call that goes through all trees. */
-    RANQUSTEI_TOO_MANY_LINKS_FOR_TREES = 21
+    RANQUSTEI_NO_SUCH_SURVEY = 20
 };
 
 /* The kinds of yard record that a survey is written with: the mark as a number, its first byte high. The others are only read. */
@@ -213,7 +201,7 @@ enum {
 };
 
 /* The version of what this header declares: it changes whenever a struct, a call or the meaning of a reply changes. */
-enum { RANQUSTEI_VERSION = 10 };
+enum { RANQUSTEI_VERSION = 9 };
 
 /* The figures of a yard record that is written: the stations, the ceilings and their ranks. */
 typedef struct {
@@ -223,15 +211,15 @@ typedef struct {
     uint8_t k2;
 } ranqustei_yard;
 
-/* The reply of the two list calls, of the index call, of writing and of the small surveys: RANQUSTEI_OK and place 0, or the refusal and its place. */
+/* The reply of the list call, of the index call, of writing and of the small surveys: RANQUSTEI_OK and place 0, or the refusal and its place. */
 typedef struct {
     uint8_t number;
     uint8_t place;
 } ranqustei_status;
 
 /*
- * The reply of the judge, of the ceilings question and of tree r. With RANQUSTEI_OK and place 0, the costs of a tree: its sum, and its ceiling costs, 0
- * where a ceiling is absent. With another number, the refusal and its place; the costs are then 0.
+ * The reply of the judge and of the ceilings question. With RANQUSTEI_OK and place 0, the costs of a plan: its sum, and its ceiling costs, 0 where a
+ * ceiling is absent. With another number, the refusal and its place; the costs are then 0.
  */
 typedef struct {
     uint8_t number;
@@ -258,16 +246,6 @@ typedef struct {
     uint8_t place;
     uint16_t plan;
 } ranqustei_found;
-
-/*
- * The reply of the number of trees. With RANQUSTEI_OK and place 0, how many trees there are, which may be 0; with another number, the refusal and its
- * place, and count 0.
- */
-typedef struct {
-    uint8_t number;
-    uint8_t place;
-    uint16_t count;
-} ranqustei_count;
 
 /* The version of the archive. Where it is not RANQUSTEI_VERSION, archive and header are of different times: make no other call. */
 uint32_t ranqustei_version(void);
@@ -338,27 +316,6 @@ ranqustei_status ranqustei_write_survey(
  * `survey` is as it was.
  */
 ranqustei_status ranqustei_small_survey(uint32_t q, uint8_t *survey, size_t survey_length);
-
-/*
- * The number of trees of a survey of at most RANQUSTEI_TREES_LINKS links, usable or not. A yard without a tree has 0 of them, and is not declined for
- * it. Nothing is written.
- */
-ranqustei_count ranqustei_tree_count(const uint8_t *survey, size_t survey_length);
-
-/*
- * Tree r, counted from 0, of a survey of at most RANQUSTEI_TREES_LINKS links, usable or not: every tree of the yard, be it a plan or beaten by one. The
- * costs are those that ranqustei_judge gives for it. RANQUSTEI_TREE_BYTES are always enough for `tree`.
- * On success the link numbers of the tree stand, rising, in the first t bytes of `tree`, and the bytes after them are as they were. On a refusal all
- * of `tree` is as it was.
- */
-ranqustei_reply ranqustei_tree(const uint8_t *survey, size_t survey_length, uint32_t r, uint8_t *tree, size_t tree_length);
-
-/*
- * Every plan that no other plan beats, as ranqustei_list gives it, of a survey of at most RANQUSTEI_TREES_LINKS links, usable or not, by way of all its
- * trees: no position is solved, and there is no allowance. RANQUSTEI_LIST_BYTES are always enough for `buffer`.
- * On success all of `buffer` is as ranqustei_list would leave it, but that the head has 0 positions solved. On a refusal it is as it was.
- */
-ranqustei_status ranqustei_list_by_trees(const uint8_t *survey, size_t survey_length, uint8_t *buffer, size_t buffer_length);
 
 #ifdef __cplusplus
 }

@@ -1,8 +1,7 @@
 /*
- * The stack that each call takes, for every survey that is named and its list, that each call on a list takes for one of the most plans, that a
- * small survey takes, and that each call on trees takes for a yard of the most trees. The call runs in a thread whose stack was filled with a pattern;
- * counted are the bytes from the caller's stack pointer down to the lowest byte that lost the pattern. Writing declines a survey whose yard record is
- * only read.
+ * The stack that each call takes, for every survey that is named and its list, that each call on a list takes for one of the most plans, and that a
+ * small survey takes. The call runs in a thread whose stack was filled with a pattern; counted are the bytes from the caller's stack pointer down to
+ * the lowest byte that lost the pattern. Writing declines a survey whose yard record is only read.
  *
  *     cc -std=c11 -O2 -pthread c/stack.c target/staticlib/libcapi.a -o target/c-stack
  *     target/c-stack examples/large.survey examples/large-triple.survey
@@ -17,7 +16,6 @@
 enum { STACK = 1 << 18, PATTERN = 0xA5 };
 enum { LINKS = 40 };
 enum { PLANS = RANQUSTEI_POSITIONS, HEAD_BYTES = 10, TREE_LINKS = 8 };
-enum { TREES = 432 };
 
 static _Alignas(4096) uint8_t stack[STACK];
 static uint8_t survey[4096], list[RANQUSTEI_LIST_BYTES], tree[RANQUSTEI_TREE_BYTES], built[RANQUSTEI_INDEX_BYTES];
@@ -73,28 +71,6 @@ static void *small_survey(void *unused)
     return unused;
 }
 
-static void *tree_count(void *unused)
-{
-    NOTE_CALLER();
-    ranqustei_tree_count(survey, survey_length);
-    return unused;
-}
-
-/* Hands out the last tree of the yard of the most trees. */
-static void *last_tree(void *unused)
-{
-    NOTE_CALLER();
-    ranqustei_tree(survey, survey_length, TREES - 1, tree, sizeof tree);
-    return unused;
-}
-
-static void *list_by_trees(void *unused)
-{
-    NOTE_CALLER();
-    ranqustei_list_by_trees(survey, survey_length, list, sizeof list);
-    return unused;
-}
-
 static void *fetch(void *unused)
 {
     NOTE_CALLER();
@@ -138,7 +114,7 @@ static void measure_list(void)
 {
     printf(" %zu |", taken(fetch));
     printf(" %zu |", taken(build_index));
-    printf(" %zu | | | | |\n", taken(look_up));
+    printf(" %zu | |\n", taken(look_up));
 }
 
 /* The yard records by the second byte of their marks, each with its bytes and those of a link record after it. */
@@ -210,43 +186,17 @@ static int measure_longest_list(uint8_t ceilings)
 static int measure_small_survey(void)
 {
     small_survey(NULL); /* for the dynamic linker, as for a survey */
-    printf("| small survey %d | | | | | | | | %zu | | | |\n", RANQUSTEI_SMALL_SURVEYS - 1, taken(small_survey));
+    printf("| small survey %d | | | | | | | | %zu |\n", RANQUSTEI_SMALL_SURVEYS - 1, taken(small_survey));
     return ranqustei_small_survey(RANQUSTEI_SMALL_SURVEYS - 1, written, sizeof written).number != RANQUSTEI_OK;
-}
-
-/* Three stations, each with a link to each of four others: of 12 links these make the most trees. Three ceilings, with 12 * 12 * 11 positions. */
-static void fill_trees(void)
-{
-    const uint8_t yard[] = {0x59, 0x47, 7, 3, 1, 1, 1, RANQUSTEI_TREES_LINKS, 0, 0, 0};
-
-    memcpy(survey, yard, sizeof yard);
-    survey_length = sizeof yard;
-    for (uint8_t i = 0; i < RANQUSTEI_TREES_LINKS; i++) {
-        const uint8_t link[] = {0x4C, 0x4D, i / 4, 3 + i % 4, i * 5 % 12, 0, 0, 0, i, 0, i * 7 % 12, 0, i % 11, 0};
-        memcpy(survey + survey_length, link, sizeof link);
-        survey_length += sizeof link;
-    }
-}
-
-static int measure_trees(void)
-{
-    fill_trees();
-    list_by_trees(NULL); /* for the dynamic linker, as for a survey */
-    printf("| %d links, %d trees | | | | | | | | |", RANQUSTEI_TREES_LINKS, TREES);
-    printf(" %zu |", taken(tree_count));
-    printf(" %zu |", taken(last_tree));
-    printf(" %zu |\n", taken(list_by_trees));
-    return ranqustei_tree_count(survey, survey_length).count != TREES;
 }
 
 int main(int count, char **names)
 {
     int failures = 0;
 
-    printf("| survey | list | best | judge | write | fetch | index | lookup | small | count | tree | by trees |\n");
-    printf("|---|---|---|---|---|---|---|---|---|---|---|---|\n");
+    printf("| survey | list | best | judge | write | fetch | index | lookup | small |\n|---|---|---|---|---|---|---|---|---|\n");
     for (int i = 1; i < count; i++)
         failures += measure(names[i]);
-    failures += measure_longest_list(2) + measure_longest_list(3) + measure_small_survey() + measure_trees();
+    failures += measure_longest_list(2) + measure_longest_list(3) + measure_small_survey();
     return failures != 0;
 }

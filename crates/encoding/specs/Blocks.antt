@@ -1,6 +1,6 @@
 -- Bytes that hold records of one size, one after the other.
 use Rattle.std.specs.Prelude.{◌≡◌, refl, List, [], ◌∷◌, ◌++◌, ℕ, zero, suc, ◌+◌, ◌*◌, ◌-◌, ◌≤◌, ◌<◌, length, take, drop, get_or}
-use Rattle.std.proofs.Common.{sym, ap, ap₂, ◌∙◌, append_assoc, arith, suc-mul, zero-mul, zero-add, suc-add, add-one, length-append, length-drop, length-take-le, take_at, drop_at, take-take, drop-drop, take-add}
+use Rattle.std.proofs.Common.{sym, ap, ap₂, ◌∙◌, append_assoc, arith, suc-mul, zero-mul, zero-add, suc-add, add-mul, mul-le-mul_right, add-one, length-append, length-drop, length-take-le, take_at, drop_at, take-take, drop-drop, take-add}
 use Rattle.std.proofs.Math.Path.{subst}
 use mathlib.Core.List.Memᴰ.{head as here}
 use mathlib.Core.List.Memᴰ.{tail as there}
@@ -133,6 +133,20 @@ blocks-inserted z d n x room size =
     ap (blocks z n) (drop-overwrite o 0 x z (omega arith) (omega arith))
     ∙ blocks-agree z n (drop z o) d (ap (λ (k : ℕ). take k (drop z o)) (sym ls) ∙ written d z s (omega arith)) in
     ap (λ (k : ℕ). blocks z k o') (add-one n) ∙ ap₂ (λ (b : List ℕ) (r : List (List ℕ)). b ∷ r) new later
+
+-- where n records and one more have room, so have fewer
+pub room_for : (k n z : ℕ) {l : ℕ} → (n + 1) * z ≤ l → k ≤ n → k * z + z ≤ l
+room_for k n z h g =
+    let e : (n + 1) * z ≡ n * z + z = ap (λ (m : ℕ). m * z) (add-one n) ∙ suc-mul n z in
+    let f = mul-le-mul_right z g in
+    omega arith
+
+-- and they have room behind the first i
+pub room-behind : (i n z : ℕ) {l : ℕ} → (n + 1) * z ≤ l → i ≤ n → i * z + (n - i + 1) * z ≤ l
+room-behind i n z h g =
+    let e : i + (n - i + 1) ≡ n + 1 = omega arith in
+    let f = sym (add-mul i (n - i + 1) z) ∙ ap (λ (k : ℕ). k * z) e in
+    omega arith
 
 -- ---- records one after the other
 

@@ -1,6 +1,6 @@
 // The exceptions that Kruskal's method keeps, run over the links of each pattern apart, in one pass.
 ghost use Rattle.std.specs.Prelude.{◌*◌, ◌≡◌, length};
-ghost use Rattle.forest.specs.History.{Near};
+ghost use Rattle.kruskal.specs.Grown.{Near};
 ghost use Rattle.exceptions.specs.Patterns.{Patterned};
 ghost use Rattle.kruskal_order.specs.Collect.{Holding};
 ghost use Rattle.exceptions.specs.Select.{Selectable};

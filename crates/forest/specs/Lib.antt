@@ -2,5 +2,3 @@
 pub mod MapFirst
 -- the forest value in the theory's terms
 pub mod Groups
--- the groups after each link of a list, in rows
-pub mod History

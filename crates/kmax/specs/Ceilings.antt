@@ -109,6 +109,8 @@ module _ {C : Type 0} (O : TotalOrder C) (d : C) where
 
 module _ {C : Type 0} (cost : ℕ → ℕ → C) where
   pub ceilings-ranked : (n i : ℕ) (ks : List ℕ) (bs : List C) → ((k : ℕ) → k ∈ ks → (0 < k) × (k ≤ n)) → Ranked (ceilings cost i ks bs) n
+  ceilings-ranked n i [] bs h c m = elim m [ ]
+  ceilings-ranked n i (k ∷ ks) [] h c m = elim m [ ]
   ceilings-ranked n i (k ∷ ks) (b ∷ bs) h c m =
       ⊎_elim
       (λ (q : c ≡ record { rank = k; bound = b; cost = cost i }). rw q (h k (here refl)))

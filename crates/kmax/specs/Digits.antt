@@ -65,6 +65,7 @@ module _ {C : Type 0} (O : TotalOrder C) where
 
   -- edges with one number exceed the same ceilings
   pub pattern-alike : (cs : List (Ceiling C)) (c : Ceiling C) → c ∈ cs → (x y : ℕ) → pattern O cs x ≡ pattern O cs y → exceeds O c x ≡ exceeds O c y
+  pattern-alike [] c m x y e = elim m [ ]
   pattern-alike (d ∷ cs) c m x y e =
       ⊎_elim
       (λ (q : c ≡ d). rw q (flag_same (exceeds O d x) (exceeds O d y) (sym (low_digit d cs x) ∙ ap (λ (n : ℕ). n % 2) e ∙ low_digit d cs y)))

@@ -36,6 +36,7 @@ count-alike f p same (x ∷ xs) (y ∷ ys) h k l =
 -- ---- an exceptional edge of a tree that fits is admissible by itself
 
 count-one : {A : Type 0} (p : A → Bool) {x : A} {X : List A} → x ∈ X → count p (x ∷ []) ≤ count p X
+count-one {A = A} p {X = []} x3 = elim x3 [ ]
 count-one p {X = y ∷ X} (here q) = rw q (by-test (p y) (λ e. rw e (omega arith)) (λ e. rw e (omega arith)))
 count-one p {X = y ∷ X} (there m) =
     let rest = count-one p m in

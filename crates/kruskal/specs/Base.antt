@@ -1,6 +1,6 @@
 -- The links that Kruskal's method keeps, as a program collects them in an array, and the groups after each of them.
-use Rattle.std.specs.Prelude.{ℕ, ◌+◌, ◌≤◌, ◌<◌, true, false, cond, ◌≡◌, length, get_or, set, take, drop}
-use mathlib.Core.List.{List, [], ◌∷◌, ◌++◌, append-nil, Sublistᴰ}
+use Rattle.std.specs.Prelude.{ℕ, ◌+◌, ◌*◌, ◌≤◌, ◌<◌, true, false, cond, ◌≡◌, length, get_or, set, take, drop}
+use mathlib.Core.List.{List, [], ◌∷◌, ◌++◌, append-nil, foldl, Sublistᴰ}
 use Rattle.std.proofs.Math.Path.{refl, sym}
 use Rattle.std.proofs.Common.{◌∙◌, drop_of_length-le, drop-cons}
 use Rattle.std.proofs.Math.Numerals.{add-one}
@@ -15,7 +15,6 @@ use Rattle.spanning.specs.Tree.{Within}
 use Rattle.network.specs.Capacities.{stations_held, tree_held}
 use Rattle.network.specs.Yard.{ends_at, sum_at}
 use Rattle.forest.specs.Groups.{apart, joined}
-use Rattle.forest.specs.History.{Recorded}
 use Rattle.forest.specs.declared.Forest.{Forest}
 use Rattle.kruskal.specs.declared.links.Base.{Base}
 
@@ -60,6 +59,15 @@ module _ (ends : List ℕ) where
     pub collect-end : length l ≤ k → take n link ≡ w
     unfolding collected kept
     collect-end h = sym (append-nil (take n link)) ∙ rw (drop_of_length-le l h) at i
+
+-- the groups when the links of a list are joined, one after another, with nothing joined before
+unfoldable pub groups_after : List ℕ → List ℕ → Forest
+groups_after ends links = foldl (λ f e. joined f (ends_at ends e).a (ends_at ends e).b) apart links
+
+-- the leaders after each link of a list stand in rows of an array
+pub record Recorded (ends links history : List ℕ) : Type 0 where
+  pub room : length links * stations_held ≤ length history
+  pub row : (k : ℕ) → k < length links → take stations_held (drop (k * stations_held) history) ≡ (groups_after ends (take (k + 1) links)).leader
 
 -- the links of a list join stations, one more than `goal` and each there once, which arrays hold
 pub record Joinable (ends links : List ℕ) (goal : ℕ) : Type 0 where

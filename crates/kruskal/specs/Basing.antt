@@ -1,11 +1,11 @@
 -- The loop that collects the links that are kept, with the leaders after each of them, and stops once all stations that are to be joined are.
 use Rattle.std.specs.Prelude.{ℕ, ◌+◌, ◌*◌, ◌≤◌, ◌<◌, true, false, ◌≡◌, refl, get_or, set, take, drop}
-use mathlib.Core.List.{List, [], ◌∷◌, ◌++◌, append-nil, map}
-use Rattle.std.proofs.Common.{sym, ◌∙◌, subst, add-one, length-set, drop-cons, take-suc-set}
+use mathlib.Core.List.{List, [], ◌∷◌, ◌++◌, append-nil, foldl-append, map}
+use Rattle.std.proofs.Common.{⊎_elim, sym, ◌∙◌, subst, eq-or-lt_of_le, le_of_suc-le-suc, add-one, length-set, drop_at, drop-cons, take-add, take_all, take-suc-set}
 use Rattle.std.proofs.Math.Path.{ap, fun_ext}
 use native.Mathlib.Omega.{arith}
 use Rattle.std.proofs.Math.ListN.{length, length-append}
-use Rattle.std.proofs.lemmas.List.{length-map}
+use Rattle.std.proofs.lemmas.List.{length-map, take-append-le}
 use Rattle.std.proofs.Math.Seq.{length-take-le}
 use Rattle.order.specs.Lists.{get_or-mem, length-nil, map-mem, sublist-⊆}
 use Rattle.order.specs.Perm as perm
@@ -16,14 +16,13 @@ use Rattle.spanning.specs.Count.{forest-few}
 use Rattle.spanning.specs.Kruskal.{greedy-forest, kruskal, kruskal-greedy}
 use Rattle.network.specs.Capacities.{stations_held, sum_held}
 use Rattle.network.specs.Yard.{ends_at, sum_at}
-use Rattle.buffers.specs.Overwrite.{overwrite}
+use Rattle.buffers.specs.Overwrite.{length-overwrite, overwrite, take-overwrite, written}
 use Rattle.forest.specs.Groups.{Led, apart, apart-labels, apart-led, joined, joined-led}
-use Rattle.forest.specs.History.{Near, Recorded, groups-more, groups_after, recorded_more}
 use Rattle.forest.specs.declared.Forest.{Forest}
 use Rattle.kruskal.specs.Tree.{Usable}
-use Rattle.kruskal.specs.Base.{Based, Joinable, collect-end, collect-left, collect-start, collect-taken, collected}
-use Rattle.kruskal.specs.Base.{kept, kept-sublist}
-use Rattle.kruskal.specs.Grown.{kept-kruskal}
+use Rattle.kruskal.specs.Base.{Based, Joinable, Recorded, collect-end, collect-left, collect-start, collect-taken, collected}
+use Rattle.kruskal.specs.Base.{groups_after, kept, kept-sublist}
+use Rattle.kruskal.specs.Grown.{Near, kept-kruskal}
 
 -- ---- no more links are kept than join the stations
 
@@ -45,6 +44,53 @@ module _ {ends links : List ℕ} {goal : ℕ} (j : Joinable ends links goal) whe
       within x m =
           let e = map-mem (ends_at ends) (kept ends apart links) x m in
           subst (λ (y : Edge). Within j.stations y) (sym e.2) (j.within e.0 (sublist-⊆ (kept-sublist ends apart links) e.0 e.1))
+
+-- ---- one row more
+
+-- the groups with a link more
+groups-more : (ends l : List ℕ) (e : ℕ) → groups_after ends (l ++ (e ∷ [])) ≡ joined (groups_after ends l) (ends_at ends e).a (ends_at ends e).b
+unfolding groups_after
+groups-more ends l e = foldl-append _ apart l (e ∷ [])
+
+-- a part of a list is that of its front
+part : (n i : ℕ) (l : List ℕ) → i ≤ length l → take n (drop i l) ≡ drop i (take (i + n) l)
+part n i l h = sym (ap (drop i) (take-add i n l) ∙ drop_at (take i l) (take n (drop i l)) i (length-take-le i l h))
+
+-- it stays where what is written starts behind it
+part_stays : (d s : List ℕ) (j n i : ℕ) → i + n ≤ j → j + length s ≤ length d → take n (drop i (overwrite d j s)) ≡ take n (drop i d)
+part_stays d s j n i h g =
+    part n i (overwrite d j s) (omega (arith, length-overwrite d j s g))
+    ∙ ap (drop i) (take-overwrite d j s (i + n) h (omega arith))
+    ∙ sym (part n i d (omega arith))
+
+module _ {ends l history : List ℕ} (e : ℕ) {leader : List ℕ} (R : Recorded ends l history) (size : length leader ≡ stations_held)
+    (room : (length l + 1) * stations_held ≤ length history) (new : leader ≡ (groups_after ends (l ++ (e ∷ []))).leader) where
+  pub recorded_more : Recorded ends (l ++ (e ∷ [])) (overwrite history (length l * stations_held) leader)
+  recorded_more =
+      let more = length-append l (e ∷ []) in
+      let fits : length l * stations_held + length leader ≤ length history = omega arith in
+      record {
+        room = omega (arith, length-overwrite history (length l * stations_held) leader fits);
+        row = λ k h. ⊎_elim (own k) (earlier k) (eq-or-lt_of_le (le_of_suc-le-suc (let m : k < length l + 1 = omega arith in rw add-one at m)));
+      }
+    where
+      fits : length l * stations_held + length leader ≤ length history
+      fits = omega (arith, size, room)
+
+      earlier : (k : ℕ) → k < length l
+          → take stations_held (drop (k * stations_held) (overwrite history (length l * stations_held) leader))
+          ≡ (groups_after ends (take (k + 1) (l ++ (e ∷ [])))).leader
+      earlier k h =
+          part_stays history leader (length l * stations_held) stations_held (k * stations_held) (omega arith) fits
+          ∙ R.row k h
+          ∙ ap (λ (t : List ℕ). (groups_after ends t).leader) (sym (take-append-le (k + 1) l (e ∷ []) (omega arith)))
+
+      own : (k : ℕ) → k ≡ length l
+          → take stations_held (drop (k * stations_held) (overwrite history (length l * stations_held) leader))
+          ≡ (groups_after ends (take (k + 1) (l ++ (e ∷ [])))).leader
+      own k h =
+          let there = written history (length l * stations_held) leader (omega (arith, size, room)) in
+          rw (h, take_all (length l + 1) (l ++ (e ∷ [])) (omega (arith, length-append l (e ∷ []))), ← new) (rw size at there)
 
 -- ---- the loop
 

@@ -13,6 +13,5 @@ pub mod Unmarked
 pub mod Digits
 -- the values of each ceiling, in its part of one array
 pub mod Parts
--- the grid of a network's ceilings, and the network with it
+-- the grid of a network's ceilings
 pub mod Gridded
-pub mod Ready

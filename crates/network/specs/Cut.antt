@@ -11,7 +11,6 @@ use Rattle.network.specs.Survey.{count_in, has_count, layout_of, link_count, pla
 use Rattle.network.specs.Checked.{refuse_if, ◌or_else◌}
 use Rattle.network.specs.Refusals.{bad_count, bad_length, checked_of, checked_with, outside, records_checked, yard_checked}
 use Rattle.network.specs.Calls.{Reply, asked, asked_checked, drawn_checked, judged, list_checked, list_status, reply, status}
-use Rattle.network.specs.EveryTree.{by_trees_checked, by_trees_status, count_reply, tree_checked, tree_reply, trees_checked}
 use Rattle.network.specs.Layouts.{layout-kept, layout-roomy, layout-short}
 use Rattle.network.specs.Accepted.{RecordsFine, accepted-records, whole-records}
 use Rattle.network.specs.declared.Checked.{Checked}
@@ -130,26 +129,8 @@ pub cut-asked : (bytes : List ℕ) (given : List ℤ) (size : ℕ) {a : Reply} �
 unfolding asked asked_checked ◌or_else◌
 cut-asked bytes given size e = cut-replied bytes (asked_checked bytes given size) _ (λ r k. rw k) e
 
--- the number of trees and tree r are,
-pub cut-counted : (bytes : List ℕ) {a : Reply} → a ≡ count_reply bytes → CutNoticed bytes a.number a.place
-unfolding count_reply trees_checked ◌or_else◌
-cut-counted bytes e = cut-replied bytes (trees_checked bytes) _ (λ r k. rw k) e
-
-pub cut-handed : (bytes : List ℕ) (n size : ℕ) {a : Reply} → a ≡ tree_reply bytes n size → CutNoticed bytes a.number a.place
-unfolding tree_reply tree_checked trees_checked ◌or_else◌
-cut-handed bytes n size e = cut-replied bytes (tree_checked bytes n size) _ (λ r k. rw k) e
-
--- and the calls that fill a list buffer notice it too
-cut-filled : (bytes : List ℕ) (c : Checked) {a : Status} → ((r : Refusal) → checked_of bytes ≡ Refused r → c ≡ Refused r) → a ≡ status c
-    → CutNoticed bytes a.number a.place
-unfolding status
-cut-filled bytes c first e =
-    noticed bytes (λ r k. let q = first r k in (ap (λ (a : Status). a.number) e ∙ rw q, ap (λ (a : Status). a.place) e ∙ rw q))
-
+-- and the list call notices it too
 pub cut-listed : (bytes : List ℕ) (allowance size : ℕ) {a : Status} → a ≡ list_status bytes allowance size → CutNoticed bytes a.number a.place
-unfolding list_status list_checked ◌or_else◌
-cut-listed bytes allowance size e = cut-filled bytes (list_checked bytes allowance size) (λ r k. rw k) e
-
-pub cut-by-trees : (bytes : List ℕ) (size : ℕ) {a : Status} → a ≡ by_trees_status bytes size → CutNoticed bytes a.number a.place
-unfolding by_trees_status by_trees_checked trees_checked ◌or_else◌
-cut-by-trees bytes size e = cut-filled bytes (by_trees_checked bytes size) (λ r k. rw k) e
+unfolding list_status list_checked status ◌or_else◌
+cut-listed bytes allowance size e =
+    noticed bytes (λ r k. (ap (λ (a : Status). a.number) e ∙ rw k, ap (λ (a : Status). a.place) e ∙ rw k))

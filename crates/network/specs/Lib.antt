@@ -25,8 +25,6 @@ pub mod Indexing
 pub mod Writing
 -- all small surveys in order: 20, 17
 pub mod SmallSurveys
--- every tree of a yard of at most 12 links: 21, 9, 13
-pub mod EveryTree
 -- printing
 pub mod Printing
 -- the yards worked through, P1 to P49
@@ -51,12 +49,11 @@ pub mod Alike
 pub mod SameYard
 pub mod Count
 pub mod Cut
--- demands 2 and 3, and what callers rely on in an index, in a survey that is written, in the small surveys and in all trees
+-- demands 2 and 3, and what callers rely on in an index, in a survey that is written and in the small surveys
 pub mod AnswerPromise
 pub mod Promise
 pub mod IndexPromise
 pub mod WritingPromise
 pub mod SmallPromise
-pub mod EveryTreePromise
 -- the stations at rest, byte by byte
 pub mod RestBits

@@ -68,9 +68,9 @@ costs_of net ts = record { sum = tree_sum net ts; y = tabulate (λ j. get_or (ce
 abbrev pub record_of : Network → List ℕ → List ℕ
 record_of net ts = plan_bytes (plan_slots net.p) (costs_of net ts) ts
 
--- the list of a yard with a solved count: its head, then its plans by rising sum, then y1, then y2, then y3
-abbrev pub list_with : Network → ℕ → List ℕ
-list_with net solved = head_bytes (length (plans net)) solved (tree_size net) net.p ++ join (map (record_of net) (plans net))
+-- the list of a yard: its head, then its plans by rising sum, then y1, then y2, then y3
+abbrev pub list_bytes : Network → List ℕ
+list_bytes net = head_bytes (length (plans net)) (solved_count net) (tree_size net) net.p ++ join (map (record_of net) (plans net))
 
 -- what a list buffer needs: 10 + M × (10 + t) bytes, and 10 + M × (12 + t) where p is 3; at most 56,010
 abbrev pub buffer_need : Network → ℕ
@@ -80,10 +80,6 @@ buffer_need net = head_size + position_count net * plan_size (plan_slots net.p) 
 abbrev pub max_need : ℕ
 max_need = head_size + max_plans * plan_size wide_slots max_tree
 
--- a list buffer of `size` bytes with a list in it: 0 after the last plan
-abbrev pub filled_with : Network → ℕ → ℕ → List ℕ
-filled_with net solved size = let list = list_with net solved in list ++ replicate (size - length list) 0
-
--- the list buffer of a list call on success
+-- a list buffer of `size` bytes on success: the list, and 0 after the last plan
 abbrev pub filled : Network → ℕ → List ℕ
-filled net size = filled_with net (solved_count net) size
+filled net size = let list = list_bytes net in list ++ replicate (size - length list) 0

@@ -17,7 +17,7 @@ use Rattle.network.specs.Limits.{max_plans}
 use Rattle.network.specs.Yard.{Tree, dominates, graph, trees, vector, yard}
 use Rattle.network.specs.Walk.{plans, position_count, solved_count, values, walked}
 use Rattle.network.specs.Survey.{network_of}
-use Rattle.network.specs.PlanList.{buffer_need, costs_at, costs_of, filled_with, list_with, max_need}
+use Rattle.network.specs.PlanList.{buffer_need, costs_at, costs_of, filled, list_bytes, max_need}
 use Rattle.network.specs.Fetching.{fetch_links, fetch_number, head_count, head_slots, plan_start}
 use Rattle.network.specs.Checked.{refuse_if, ◌or_else◌}
 use Rattle.network.specs.Refusals.{checked_of}
@@ -104,12 +104,12 @@ pub record Reads (list : List ℕ) (k : ℕ) (net : Network) (ts : List ℕ) : T
   pub costs : costs_at (head_slots list) list (plan_start list k) ≡ costs_of net ts
   pub links : fetch_links list k ≡ ts
 
--- What a call on survey s that replied r and left these bytes in a buffer of `size` bytes, with this solved count, has delivered.
-pub record Delivered (s : List ℕ) (solved size : ℕ) (r : Status) (left : List ℕ) : Type 0 where
+-- What a list call on survey s that replied r and left these bytes in a buffer of `size` bytes has delivered.
+pub record Delivered (s : List ℕ) (size : ℕ) (r : Status) (left : List ℕ) : Type 0 where
   -- it succeeds
   pub succeeds : r ≡ record { number = 0; place = 0 }
-  -- every byte is the one that document 01 gives for the list and the solved count, 0 past the last plan
-  pub bytes : left ≡ filled_with (network_of s) solved size
+  -- every byte is the one that document 01 gives for the list and its solved count, 0 past the last plan
+  pub bytes : left ≡ filled (network_of s) size
   -- the list is what the user relies on
   pub list : Complete (network_of s)
   -- and the bytes say it: the head counts the plans, and record k is that of plan k
@@ -119,16 +119,15 @@ pub record Delivered (s : List ℕ) (solved size : ℕ) (r : Status) (left : Lis
 -- DEMAND 3: for every accepted survey, every buffer long enough, whatever it held before, and every allowance that is at least M.
 pub record Promised (s : List ℕ) (allowance : ℕ) (buffer : List ℕ) (r : Status) (left : List ℕ) : Type 0 where
   pub delivers : checked_of s ≡ Fine → buffer_need (network_of s) ≤ length buffer → position_count (network_of s) ≤ allowance
-      → Delivered s (solved_count (network_of s)) (length buffer) r left
+      → Delivered s (length buffer) r left
 
 -- ---- the archive
 
--- Bytes that begin with the list of an accepted survey: a list that a call made, whatever its solved count, with whatever follows it.
+-- Bytes that begin with the list of an accepted survey: a list that a list call made, with whatever follows it.
 pub record Archived (s list : List ℕ) : Type 0 where
   pub accepted : checked_of s ≡ Fine
-  pub solved : ℕ
   pub rest : List ℕ
-  pub bytes : list ≡ list_with (network_of s) solved ++ rest
+  pub bytes : list ≡ list_bytes (network_of s) ++ rest
 
 -- what a call that fetched plan r from such bytes has replied: 0 for a plan of the list, and 13 past the last
 pub record NumberKept (list : List ℕ) (r number : ℕ) : Type 0 where

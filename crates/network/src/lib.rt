@@ -64,7 +64,7 @@ pub struct Status {
     pub place: u8,
 }
 
-// The reply to a ceilings question, of the judge of a drawn tree, or to the number of a tree.
+// The reply to a ceilings question, or of the judge of a drawn tree.
 #[derive(Drop)]
 pub enum Answer {
     Plan(PlanCosts),
@@ -75,13 +75,6 @@ pub enum Answer {
 #[derive(Drop)]
 pub enum Found {
     Plan(u16),
-    Refused(Refusal),
-}
-
-// The reply to the number of trees: how many there are, or the refusal.
-#[derive(Drop)]
-pub enum Counted {
-    Trees(u16),
     Refused(Refusal),
 }
 

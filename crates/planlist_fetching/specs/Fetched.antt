@@ -15,10 +15,10 @@ use Rattle.network.specs.Capacities.{ceilings_held}
 use Rattle.network.specs.Limits.{max_ceilings, max_plans, max_tree}
 use Rattle.network.specs.Bytes.{bits_of, byte_at, little_endian, mark_at}
 use Rattle.network.specs.Tabulate.{tabulate-length}
-use Rattle.network.specs.PlanList.{ceiling_bytes, costs_at, costs_of, head_bytes, head_mark, head_size, join, list_with}
+use Rattle.network.specs.PlanList.{ceiling_bytes, costs_at, costs_of, head_bytes, head_mark, head_size, join, list_bytes}
 use Rattle.network.specs.PlanList.{plan_bytes, plan_mark, plan_size, plan_slots, record_of}
 use Rattle.network.specs.Yard.{ceiling_costs, tree_size}
-use Rattle.network.specs.Walk.{plans}
+use Rattle.network.specs.Walk.{plans, solved_count}
 use Rattle.network.specs.NetworkFine.{slots-few}
 use Rattle.network.specs.Fetching.{head_count, damaged, fetch_links, fetch_number, fetch_start, head_slots, links_start, plan_start, head_tree_size}
 use Rattle.network.specs.declared.Costs.{Costs}
@@ -168,13 +168,13 @@ module _ {S : Type 0} (costs : S → Costs) (links : S → List ℕ) (solved t p
 
 -- ---- the list of a yard, with whatever follows it
 
-module _ (net : Network) (solved : ℕ) (rest : List ℕ) (full : (ts : List ℕ) → ts ∈ plans net → length ts ≡ tree_size net) (few : length (plans net) ≤ max_plans)
+module _ (net : Network) (rest : List ℕ) (full : (ts : List ℕ) → ts ∈ plans net → length ts ≡ tree_size net) (few : length (plans net) ≤ max_plans)
     (short : tree_size net ≤ max_tree) (flat : net.p ≤ max_ceilings) (r : ℕ) where
   abbrev parts : List ℕ
-  parts = listed (costs_of net) (λ ts. ts) solved (tree_size net) net.p (plans net) rest
+  parts = listed (costs_of net) (λ ts. ts) (solved_count net) (tree_size net) net.p (plans net) rest
 
-  in_parts : list_with net solved ++ rest ≡ parts
-  in_parts = append_assoc (head_bytes (length (plans net)) solved (tree_size net) net.p) (join (map (record_of net) (plans net))) rest
+  in_parts : list_bytes net ++ rest ≡ parts
+  in_parts = append_assoc (head_bytes (length (plans net)) (solved_count net) (tree_size net) net.p) (join (map (record_of net) (plans net))) rest
 
   -- the costs of a tree have every ceiling that a record has room for
   enough : (ts : List ℕ) → plan_slots net.p ≤ length (costs_of net ts).y
@@ -182,28 +182,28 @@ module _ (net : Network) (solved : ℕ) (rest : List ℕ) (full : (ts : List ℕ
 
   within : r < length (plans net) → (fetch_number parts r ≡ 0) × (fetch_links parts r ≡ get_or (plans net) r [])
   within h = (
-    fetched (costs_of net) (λ ts. ts) solved (tree_size net) net.p (plans net) rest full enough few short flat r h [],
-    fetched-links (costs_of net) (λ ts. ts) solved (tree_size net) net.p (plans net) rest full enough few short flat r h [],
+    fetched (costs_of net) (λ ts. ts) (solved_count net) (tree_size net) net.p (plans net) rest full enough few short flat r h [],
+    fetched-links (costs_of net) (λ ts. ts) (solved_count net) (tree_size net) net.p (plans net) rest full enough few short flat r h [],
   )
 
   -- its costs are read back where its record can hold them
   pub listed-costs : r < length (plans net) → Writable (plan_slots net.p) (costs_of net (get_or (plans net) r []))
-      → costs_at (head_slots (list_with net solved ++ rest)) (list_with net solved ++ rest) (plan_start (list_with net solved ++ rest) r) ≡ costs_of net (get_or (plans net) r [])
+      → costs_at (head_slots (list_bytes net ++ rest)) (list_bytes net ++ rest) (plan_start (list_bytes net ++ rest) r) ≡ costs_of net (get_or (plans net) r [])
   listed-costs h w =
       ap (λ (l : List ℕ). costs_at (head_slots l) l (plan_start l r)) in_parts
-      ∙ fetched-costs (costs_of net) (λ ts. ts) solved (tree_size net) net.p (plans net) rest full enough few short flat r h [] w
+      ∙ fetched-costs (costs_of net) (λ ts. ts) (solved_count net) (tree_size net) net.p (plans net) rest full enough few short flat r h [] w
 
   beyond : length (plans net) ≤ r → fetch_number parts r ≡ 13
-  beyond h = past (costs_of net) (λ ts. ts) solved (tree_size net) net.p (plans net) rest full enough few short flat r h
+  beyond h = past (costs_of net) (λ ts. ts) (solved_count net) (tree_size net) net.p (plans net) rest full enough few short flat r h
 
   -- its head counts the plans
-  pub listed-count : head_count (list_with net solved ++ rest) ≡ length (plans net)
+  pub listed-count : head_count (list_bytes net ++ rest) ≡ length (plans net)
   unfolding bytes
   listed-count =
-      ap head_count in_parts ∙ count (costs_of net) (λ ts. ts) solved (tree_size net) net.p (plans net) rest full enough few short flat
+      ap head_count in_parts ∙ count (costs_of net) (λ ts. ts) (solved_count net) (tree_size net) net.p (plans net) rest full enough few short flat
 
   -- every plan of it is found, and none past the last
-  pub listed-number : fetch_number (list_with net solved ++ rest) r ≡ cond (ltb r (length (plans net))) 0 13
+  pub listed-number : fetch_number (list_bytes net ++ rest) r ≡ cond (ltb r (length (plans net))) 0 13
   listed-number =
       ap (λ (l : List ℕ). fetch_number l r) in_parts
       ∙ by-test (ltb r (length (plans net)))
@@ -211,7 +211,7 @@ module _ (net : Network) (solved : ℕ) (rest : List ℕ) (full : (ts : List ℕ
       (λ e. rw e (beyond (ltb-false r (length (plans net)) e)))
 
   -- with its own links
-  pub listed-links : fetch_links (list_with net solved ++ rest) r ≡ get_or (plans net) r []
+  pub listed-links : fetch_links (list_bytes net ++ rest) r ≡ get_or (plans net) r []
   listed-links =
       ap (λ (l : List ℕ). fetch_links l r) in_parts
       ∙ by-test (ltb r (length (plans net)))

@@ -1,6 +1,6 @@
 -- Insertion into the frontier of plans that stand as records in their order: it is that of `frontier`, on records by the costs they hold.
-use Rattle.std.specs.Prelude.{◌≡◌, refl, Bool, true, false, not, cond, List, [], ◌∷◌, ◌++◌, ◌⊎◌, ℕ, suc, ◌≤◌, ℤ, length, take, drop}
-use Rattle.std.proofs.Common.{sym, ap, ap₂, ◌∙◌, inl, inr, ⊎_elim, arith}
+use Rattle.std.specs.Prelude.{◌≡◌, refl, Bool, true, false, not, cond, List, [], ◌∷◌, ◌++◌, ◌⊎◌, ℕ, suc, ℤ, take, drop}
+use Rattle.std.proofs.Common.{sym, ap, ap₂, ◌∙◌, inl, inr, ⊎_elim}
 use mathlib.Core.List.Memᴰ
 use mathlib.Core.List.Memᴰ.{head as here}
 use Rattle.order.specs.Test.{by-test, clash, refute}
@@ -9,7 +9,6 @@ use Rattle.order.specs.Order.{TotalOrder, orderℤ, dictionary_le}
 use Rattle.order.specs.Sorted.{Rising, Sorted, insert, rising-sorted}
 use Rattle.frontier.specs.Dominance.{le_all, le_all-refl, le_all→dictionary_le, dominates, le-cases}
 use Rattle.frontier.specs.Frontier.{Problem, insert_plan, vector, vector_order}
-use Rattle.frontier.specs.Plans.{collect-few}
 use Rattle.network.specs.declared.Costs.{Costs}
 use Rattle.network.specs.PlanList.{costs_at}
 use Rattle.planlist_records.specs.Orders.{at_most, in_order}
@@ -27,11 +26,6 @@ records slots = record {
 -- one more record in the frontier
 unfoldable pub insert_record : ℕ → List ℕ → List (List ℕ) → List (List ℕ)
 insert_record slots x bs = insert_plan (records slots) x bs
-
--- they are at most one more
-pub insert-few : (slots : ℕ) (x : List ℕ) (bs : List (List ℕ)) → length (insert_record slots x bs) ≤ suc (length bs)
-unfolding insert_record
-insert-few slots x bs = omega (arith, collect-few (records slots) (x ∷ []) bs)
 
 -- ---- its parts
 

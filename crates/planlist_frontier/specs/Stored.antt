@@ -2,35 +2,32 @@
 use mathlib.Core.List.Memᴰ
 use mathlib.Core.List.Memᴰ.{head as here}
 use mathlib.Core.List.Memᴰ.{tail as there}
-use Rattle.std.specs.Prelude.{List, [], ◌∷◌, ◌++◌, map, true, ◌⊎◌, ◌≡◌, refl, ℕ, zero, suc, ◌-◌, ◌≤◌, leb, ℤ, pos, drop, get_or, length, replicate}
-use Rattle.std.proofs.Common.{inl, inr, sym, ap, ◌∙◌, arith, length-append, leb-true}
+use Rattle.std.specs.Prelude.{List, [], ◌∷◌, ◌++◌, map, true, ◌⊎◌, ◌≡◌, refl, ℕ, zero, suc, ◌-◌, ◌≤◌, ℤ, pos, get_or, length, replicate}
+use Rattle.std.proofs.Common.{inl, inr, sym, ap, ◌∙◌, arith, length-append}
 use Rattle.std.proofs.Math.Path.{ap₂, subst⁻¹}
 use Rattle.std.proofs.Math.Nat.{sub-zero}
 use Rattle.std.proofs.lemmas.List.{length-map}
 use Rattle.std.specs.Int.Signed.{le_z}
-use Rattle.order.specs.Test.{by-test}
 use Rattle.order.specs.Lists.{◌∈◌, map-mem}
-use Rattle.order.specs.Order.{TotalOrder, dictionary_le, le_refl, orderℤ}
+use Rattle.order.specs.Order.{TotalOrder, dictionary_le, orderℤ}
 use Rattle.order.specs.Sorted.{Rising}
 use Rattle.frontier.specs.Dominance.{le_all}
 use Rattle.frontier.specs.Frontier.{Problem, insert_plan, vector, vector_order}
 use Rattle.frontier.specs.Plans.{collect-member}
 use Rattle.planning.specs.Graph.{Graph, costs_from}
 use Rattle.network.specs.Capacities.{ceilings_held}
-use Rattle.network.specs.Survey.{narrow_slots}
-use Rattle.network.specs.Tabulate.{tabulate, tabulate-first, tabulate-length, tabulate-none}
-use Rattle.network.specs.Yard.{ceiling_costs, graph, ranks, tree_size, tree_sum, yard}
-use Rattle.network.specs.PlanList.{costs_at, costs_of, head_size, plan_size, plan_slots}
+use Rattle.network.specs.Tabulate.{tabulate, tabulate-first, tabulate-none}
+use Rattle.network.specs.Yard.{ceiling_costs, graph, ranks, tree_sum, yard}
+use Rattle.network.specs.PlanList.{costs_at, costs_of}
 use Rattle.network.specs.Calls.{cost_values}
 use Rattle.network.specs.declared.Costs.{Costs}
 use Rattle.network.specs.Network.{Network}
-use Rattle.network.specs.NetworkFine.{NetworkFine}
 use Rattle.encoding.specs.Blocks.{blocks, blocks-none, length-blocks}
 use Rattle.planlist_records.specs.Held.{Writable, costs-encoded}
 use Rattle.planlist_records.specs.Orders.{at_most}
 use Rattle.planlist_records.specs.Records.{encode}
 use Rattle.planlist_frontier.specs.Insertion.{RecordsRise, insert_record, records}
-use Rattle.planlist_frontier.specs.Ranged.{Ranged, own_sum}
+use Rattle.planlist_frontier.specs.Level.{Level}
 use Rattle.planlist_frontier.specs.Alike.{Alike, dictionary-append, insert-alike, le_all-append, rising-alike}
 
 -- Solutions with their costs and links, and records with room for `slots` ceiling costs; `pad` stands for the entries of absent ceilings.
@@ -98,19 +95,18 @@ module _ {S : Type 0} (P : Problem ℤ S) (slots : ℕ) (costs : S → Costs) (l
     compare s t h k = ap₂ (le_all orderℤ) h.values k.values ∙ unpadded s t h k
 
     -- the records of plans that compare with t only where they have its sum
-    pub holds-ranged : {z n : ℕ} {bs : List ℕ} (l : List S) → Holds z n bs l → (t : S) → Padded t
+    pub holds-level : {z n : ℕ} {bs : List ℕ} (l : List S) → Holds z n bs l → (t : S) → Padded t
         → ((s : S) → s ∈ l → le_all P.order (vector P s) (vector P t) ≡ true → le_z (costs t).sum (costs s).sum ≡ true)
         → ((s : S) → s ∈ l → le_all P.order (vector P t) (vector P s) ≡ true → le_z (costs s).sum (costs t).sum ≡ true)
-        → Ranged (own_sum (costs t)) slots (costs t) (blocks z n bs)
-    holds-ranged l h t k low high =
-        subst⁻¹ (Ranged (own_sum (costs t)) slots (costs t)) h.records-are
+        → Level slots (costs t) (blocks z n bs)
+    holds-level l h t k low high =
+        subst⁻¹ (Level slots (costs t)) h.records-are
         (record {
-          not-below = le_refl orderℤ (costs t).sum;
-          none_below = λ b m e.
+          none-lower = λ b m e.
               let w = map-mem (encode slots costs links) l b m in
               let is = costs-of w.0 w.1 b w.2 in
               rw is (low w.0 w.1 (sym (compare w.0 t (h.stored w.0 w.1).padded k) ∙ (rw is at e)));
-          none_above = λ b m e.
+          none-higher = λ b m e.
               let w = map-mem (encode slots costs links) l b m in
               let is = costs-of w.0 w.1 b w.2 in
               rw is (high w.0 w.1 (sym (compare t w.0 k (h.stored w.0 w.1).padded) ∙ (rw is at e)));
@@ -192,24 +188,3 @@ costs-absent net ts j h k =
     behind [] n j h = zeros n j
     behind (x ∷ cs) n zero h = absurd (omega arith)
     behind (x ∷ cs) n (suc j) h = behind cs n j (omega arith)
-
-module _ (net : Network) where
-  -- the first `count` records of a list buffer, behind the head's place, are those of the trees l
-  abbrev pub Recorded : ℕ → List ℕ → List (List ℕ) → Type 0
-  Recorded count bs l =
-      Holds (yard net) (plan_slots net.p) (costs_of net) (λ ts. ts) (absent net) (plan_size (plan_slots net.p) (tree_size net)) count (drop head_size bs) l
-
-  -- the costs of a tree are its vector and the entries of absent ceilings
-  pub padded : NetworkFine net → (ts : List ℕ) → Padded (yard net) (plan_slots net.p) (costs_of net) (λ ts. ts) (absent net) ts
-  padded fine ts = record {
-    values = costs-padded net ts (omega (arith, fine.rank-count, fine.few-ceilings));
-    held = tabulate-length (λ j. get_or (ceiling_costs net ts) j (pos 0)) ceilings_held;
-  }
-
-  -- a record has room for each cost of a tree
-  pub slots-hold : NetworkFine net → net.p ≤ plan_slots net.p
-  unfolding plan_slots
-  slots-hold fine =
-      by-test (leb net.p narrow_slots)
-      (λ e. rw e (leb-true net.p narrow_slots e))
-      (λ e. rw e fine.few-ceilings)

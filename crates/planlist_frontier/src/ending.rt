@@ -5,8 +5,9 @@ ghost use Rattle.network.specs.PlanList.{head_size, plan_size, plan_slots};
 ghost use Rattle.planlist_frontier.specs.Finished.{finished};
 
 use buffers::copies::clear_from;
+use network::records::HEAD_SIZE;
 use planlist_records::head::write_head;
-use planlist_records::records::list_size;
+use planlist_records::records::{plan_size, plan_slots};
 
 // Finishes a list of `count` plans of t links: the head in front of them, and zeros behind them.
 pub fn finish(out: &mut [u8], count: usize, solved: u32, t: u8, p: u8)
@@ -14,7 +15,10 @@ pub fn finish(out: &mut [u8], count: usize, solved: u32, t: u8, p: u8)
     ensures { out.new ≡ finished out.old count solved t p }
 {
     write_head(out, count as u16, solved, t, p);
-    clear_from(out, list_size(count, t, p));
+    clear_from(
+        out,
+        HEAD_SIZE + count * plan_size(plan_slots(p), t as usize),
+    );
 }
 
 // Clears the whole buffer.

@@ -1,10 +1,10 @@
-// The place of a new plan among the records of the frontier: those with a low sum are passed by halving, and the others one after the other.
+// The place of a new plan among the records of the frontier: those with a lower sum are passed by halving, and the others one after the other.
 ghost use Rattle.std.specs.Prelude.{◌≡◌, ◌≤◌, length};
 ghost use Rattle.network.specs.Capacities.{ceilings_held};
 ghost use Rattle.network.specs.PlanList.{plan_size};
 ghost use Rattle.encoding.specs.Blocks.{blocks};
 ghost use Rattle.planlist_frontier.specs.Lower.{Ordered, lower_sums};
-ghost use Rattle.planlist_frontier.specs.Place.{free_from};
+ghost use Rattle.planlist_frontier.specs.Place.{free_place};
 
 use encoding::compare::le32;
 use network::Costs;
@@ -30,31 +30,29 @@ fn below(plans: &[u8], count: usize, size: usize, sum: i32) -> usize
     low
 }
 
-// The number of records that stand before v; one more than all where, before that place, one is at most v. Those with a sum below `lowest` are passed.
-pub fn free_place(
-    plans: &[u8],
-    count: usize,
-    size: usize,
-    slots: usize,
-    v: Costs,
-    lowest: i32,
-) -> usize
+// The number of records that stand before v; one more than all where, before that place, one of no lower sum is at most v.
+pub fn free_place(plans: &[u8], count: usize, size: usize, slots: usize, v: Costs) -> usize
     requires { Ordered size count plans.now × (plan_size slots 0 ≤ size) × (length v.y ≡ ceilings_held) }
-    ensures { result ≡ free_from lowest slots v (blocks size count plans.now) }
+    ensures { result ≡ free_place slots v (blocks size count plans.now) }
 {
-    let low = below(plans, count, size, lowest);
+    let low = below(plans, count, size, v.sum);
     let mut at = low * size;
     let mut left = count - low;
     while 0 < left {
         let w = costs_at(plans, at, slots);
-        if at_most(w, v) {
-            return count + 1;
+        if le32(v.sum, w.sum) {
+            if at_most(w, v) {
+                return count + 1;
+            }
+            if in_order(v, w) {
+                return count - left;
+            }
+            at += size;
+            left -= 1;
+        } else {
+            at += size;
+            left -= 1;
         }
-        if in_order(v, w) {
-            return count - left;
-        }
-        at += size;
-        left -= 1;
     }
     count
 }

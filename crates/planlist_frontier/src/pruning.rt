@@ -3,24 +3,17 @@ ghost use Rattle.std.specs.Prelude.{◌≡◌, ◌*◌, ◌≤◌, length};
 ghost use Rattle.network.specs.Capacities.{ceilings_held};
 ghost use Rattle.network.specs.PlanList.{plan_size};
 ghost use Rattle.encoding.specs.Blocks.{blocks};
-ghost use Rattle.planlist_frontier.specs.Pruned.{pruned_to};
+ghost use Rattle.planlist_frontier.specs.Pruned.{pruned_level};
 
 use buffers::moves::move_down;
 use encoding::compare::le32;
 use network::Costs;
 use planlist_records::costs::{at_most, costs_at};
 
-// Drops the plans that v is at most, up to the first with a sum above `highest`; keeps the others in their order, and returns their count.
-pub fn prune(
-    plans: &mut [u8],
-    count: usize,
-    size: usize,
-    slots: usize,
-    v: Costs,
-    highest: i32,
-) -> usize
+// Drops the plans that v is at most, up to the first with a higher sum; keeps the others in their order, and returns their count.
+pub fn prune(plans: &mut [u8], count: usize, size: usize, slots: usize, v: Costs) -> usize
     requires { (plan_size slots 0 ≤ size) × (count * size ≤ length plans.old) × (length v.y ≡ ceilings_held) }
-    ensures { (result ≤ count) × (blocks size result plans.new ≡ pruned_to highest slots v (blocks size count plans.old)) }
+    ensures { (result ≤ count) × (blocks size result plans.new ≡ pruned_level slots v (blocks size count plans.old)) }
 {
     let mut from = 0;
     let mut to = 0;
@@ -28,7 +21,7 @@ pub fn prune(
     let mut left = count;
     while 0 < left {
         let w = costs_at(plans, from, slots);
-        if le32(w.sum, highest) {
+        if le32(w.sum, v.sum) {
             if at_most(v, w) {
                 from += size;
                 left -= 1;

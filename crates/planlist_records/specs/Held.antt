@@ -5,17 +5,11 @@ use Rattle.std.proofs.Common.{ap, ◌∙◌, arith, SFits, drop_at, drop-drop, g
 use Rattle.std.specs.Int.{w16, w32}
 use Rattle.std.proofs.Math.Seq.{ext_get_or}
 use Rattle.order.specs.Test.{by-test}
-use Rattle.order.specs.Lists.{◌∈◌}
 use Rattle.network.specs.Bytes.{bits_of, byte_at, i16_at, i32_at, little_endian, signed, u16_at}
-use Rattle.network.specs.Calls.{together}
 use Rattle.network.specs.Capacities.{ceilings_held}
-use Rattle.network.specs.PlanList.{ceiling_bytes, costs_at, costs_of, plan_bytes, plan_ceiling, plan_mark, plan_size, plan_slots, plan_sum_at}
-use Rattle.network.specs.Network.{Network}
+use Rattle.network.specs.PlanList.{ceiling_bytes, costs_at, plan_bytes, plan_ceiling, plan_mark, plan_size, plan_sum_at}
 use Rattle.network.specs.Tabulate.{tabulate, tabulate-at, tabulate-length, tabulate-same}
-use Rattle.network.specs.Walk.{plans}
 use Rattle.network.specs.declared.Costs.{Costs}
-use Rattle.network.specs.declared.PlanCosts.{PlanCosts}
-use Rattle.network.specs.declared.Status.{Status}
 use Rattle.encoding.specs.SignedRoundTrip.{i16-bytes, i32-bytes}
 use Rattle.encoding.specs.Blocks.{blocks, blocks-turn}
 use Rattle.planlist_records.specs.Records.{length-mark}
@@ -138,24 +132,3 @@ module _ (bs : List ℕ) (at z : ℕ) where
         → f (take z (drop at bs) ∷ blocks z (left - 1) (drop (at + z) bs)) ≡ g (costs_at slots (take z (drop at bs)) 0)
         → f (blocks z left (drop at bs)) ≡ g (costs_at slots bs at)
     costs-turn left more f g e = ap f (blocks-turn z left at bs more) ∙ e ∙ ap g costs-block
-
--- the costs of an answer whose numbers fit their widths
-pub plan-writable : (slots : ℕ) (v : PlanCosts) → SFits w32 v.sum → SFits w16 v.y1 → SFits w16 v.y2 → SFits w16 v.y3 → slots ≤ ceilings_held
-    → ((j : ℕ) → slots ≤ j → get_or (together v).y j (pos 0) ≡ pos 0) → Writable slots (together v)
-plan-writable slots v sum y1 y2 y3 few none = record { sum_fits = sum; each_fits = each; held = refl; few = few; absent = none }
-  where
-    each : (j : ℕ) → SFits w16 (get_or (together v).y j (pos 0))
-    each zero = y1
-    each (suc zero) = y2
-    each (suc (suc zero)) = y3
-    each (suc (suc (suc j))) = record { sfits = omega arith }
-
--- ---- of the plans of a list
-
--- A list call that succeeds has plans whose costs a record can hold.
-pub record CostsHeld (net : Network) (r : Status) : Type 0 where
-  pub each : r.number ≡ 0 → (ts : List ℕ) → ts ∈ plans net → Writable (plan_slots net.p) (costs_of net ts)
-
--- one that is refused has none to show
-pub none-held : (net : Network) {r : Status} → ¬ (r.number ≡ 0) → CostsHeld net r
-none-held net h = record { each = λ e. absurd (h e) }

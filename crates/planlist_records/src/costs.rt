@@ -1,26 +1,15 @@
-// The costs of a plan, those in a plan record, and their two orders.
+// The costs in a plan record, and their two orders.
 ghost use Rattle.std.specs.Prelude.{◌≡◌, ◌+◌, ◌≤◌, length};
 ghost use Rattle.order.specs.Order.{dictionary_le, orderℤ};
 ghost use Rattle.frontier.specs.Dominance.{le_all};
-ghost use Rattle.network.specs.Calls.{together};
 ghost use Rattle.network.specs.PlanList.{costs_at, plan_ceiling, plan_size, plan_sum_at};
 ghost use Rattle.planlist_records.specs.Orders.{at_most, in_order};
 
 use crate::records::{CEILING_COSTS_AT, SUM_AT};
 use encoding::compare::{le16, le32};
 use encoding::signed::{read_i16, read_i32};
+use network::Costs;
 use network::capacities::CEILINGS_HELD;
-use network::{Costs, PlanCosts};
-
-// The costs of a plan, with its ceiling costs in an array.
-pub fn costs_of(plan: PlanCosts) -> Costs
-    ensures { result ≡ together plan }
-{
-    Costs {
-        sum: plan.sum,
-        y: [plan.y1, plan.y2, plan.y3],
-    }
-}
 
 // No entry of a is above that of b.
 fn all_at_most(a: &[i16], b: &[i16]) -> bool

@@ -1,15 +1,14 @@
-// The records of a plan list, a head and then one for each plan: their marks, and where their fields stand. The sizes of a plan record and of a list, and
-// the bytes of a plan record.
+// The records of a plan list, a head and then one for each plan: their marks, and where their fields stand. The size of a plan record, and its bytes.
 ghost use Rattle.std.specs.Prelude.{◌≡◌, ◌+◌, ◌*◌, ◌≤◌, ◌<◌, length};
-ghost use Rattle.network.specs.Capacities.{ceilings_held, plans_held};
-ghost use Rattle.network.specs.PlanList.{ceiling_bytes, head_size, plan_bytes, plan_mark, plan_size, plan_slots};
+ghost use Rattle.network.specs.Capacities.{ceilings_held};
+ghost use Rattle.network.specs.PlanList.{ceiling_bytes, plan_bytes, plan_mark, plan_size, plan_slots};
 ghost use Rattle.network.specs.Survey.{wide_slots};
 ghost use Rattle.buffers.specs.Overwrite.{overwrite};
 
 use buffers::copies::copy_in;
 use encoding::writes::{write_i16, write_i32};
 use network::Costs;
-use network::records::{HEAD_SIZE, NARROW_SLOTS, PLAN_FIELDS, WIDE_SLOTS};
+use network::records::{NARROW_SLOTS, PLAN_FIELDS, WIDE_SLOTS};
 
 // The marks of a list head, of a plan record with room for two ceiling costs, and of one with room for three.
 pub const HEAD_MARK: [u8; 2] = *b"PH";
@@ -60,14 +59,6 @@ pub fn plan_size(slots: usize, t: usize) -> usize
     ensures { result ≡ plan_size slots t }
 {
     PLAN_FIELDS + 2 * slots + t
-}
-
-// The size of a list of so many plans of t links, of a yard with p ceilings.
-pub fn list_size(plans: usize, t: u8, p: u8) -> usize
-    requires { plans ≤ plans_held }
-    ensures { result ≡ head_size + plans * plan_size (plan_slots p) t }
-{
-    HEAD_SIZE + plans * plan_size(plan_slots(p), t as usize)
 }
 
 // Writes ceiling costs, two bytes each.

@@ -12,7 +12,7 @@ number-kept list r e =
     record {
       found = λ s a.
           let l = listable s a.accepted in
-          e ∙ ap (λ (bs : List ℕ). fetch_number bs r) a.bytes ∙ listed-number (network_of s) a.solved a.rest l.full l.few l.short l.flat r;
+          e ∙ ap (λ (bs : List ℕ). fetch_number bs r) a.bytes ∙ listed-number (network_of s) a.rest l.full l.few l.short l.flat r;
     }
 
 pub links-kept : (list : List ℕ) (r : ℕ) {part : List ℕ} → part ≡ fetch_links list r → LinksKept list r part
@@ -20,5 +20,5 @@ links-kept list r e =
     record {
       links = λ s a.
           let l = listable s a.accepted in
-          e ∙ ap (λ (bs : List ℕ). fetch_links bs r) a.bytes ∙ listed-links (network_of s) a.solved a.rest l.full l.few l.short l.flat r;
+          e ∙ ap (λ (bs : List ℕ). fetch_links bs r) a.bytes ∙ listed-links (network_of s) a.rest l.full l.few l.short l.flat r;
     }

@@ -14,7 +14,7 @@ use Rattle.order.specs.Sorted.{Rising, numbers-length, numbers-mem, sort-mem, so
 use Rattle.network.specs.Bytes.{little_endian}
 use Rattle.network.specs.PlanList.{join}
 use Rattle.network.specs.Fetching.{damaged, head_count}
-use Rattle.network.specs.Indexing.{entries_from, index_in_lem, index_key, index_need, index_of, is_index, plan_numbers, without_ceilings}
+use Rattle.network.specs.Indexing.{entries_from, index_in, index_key, index_need, index_of, is_index, plan_numbers, without_ceilings}
 use Rattle.order.specs.Numbers.{Telling, numbers-once, sorted-numbers}
 use Rattle.planlist_fetching.specs.Found.{whole}
 use Rattle.index_lookup.specs.Entries.{AllBelow}
@@ -57,14 +57,14 @@ module _ (list : List ℕ) where
 
 module _ (list : List ℕ) (intact : damaged list ≡ false) where
   -- the entries of a buffer with the index in it are those of the index
-  pub index-held : (buffer : List ℕ) → entries_from (head_count list) 0 (index_in_lem list buffer) ≡ index_of list
-  unfolding index_in_lem
+  pub index-held : (buffer : List ℕ) → entries_from (head_count list) 0 (index_in list buffer) ≡ index_of list
+  unfolding index_in
   index-held buffer =
       let rest = drop (index_need list) buffer in
       ap (λ (n : ℕ). entries_from n 0 (join (map (little_endian 2) (index_of list)) ++ rest)) (sym (index-length list))
       ∙ entries-held (index_of list) rest (record { below = λ x m. omega (arith, (index_below list).below x m, (whole list intact).few) })
 
   -- so such a buffer holds the index
-  pub index_in_lem : (buffer : List ℕ) → is_index list (index_in_lem list buffer) ≡ true
+  pub index_in_lem : (buffer : List ℕ) → is_index list (index_in list buffer) ≡ true
   unfolding is_index
-  index_in_lem buffer = ≡→equal (dictionary orderℕ) (entries_from (head_count list) 0 (index_in_lem list buffer)) (index_of list) (index-held buffer)
+  index_in_lem buffer = ≡→equal (dictionary orderℕ) (entries_from (head_count list) 0 (index_in list buffer)) (index_of list) (index-held buffer)

@@ -16,7 +16,7 @@ use Rattle.network.specs.Walk.{plans}
 use Rattle.network.specs.Survey.{network_of}
 use Rattle.network.specs.Calls.{Reply}
 use Rattle.network.specs.Fetching.{damaged, fetch_number, head_count, is_marked}
-use Rattle.network.specs.Indexing.{cheapest, declined, entries_from, found_plan, index_after, index_in_lem, index_need, index_of}
+use Rattle.network.specs.Indexing.{cheapest, declined, entries_from, found_plan, index_after, index_in, index_need, index_of}
 use Rattle.network.specs.Indexing.{index_status, is_index, looked_up, lookup_reply, plan_numbers, says_found, unfit}
 use Rattle.network.specs.IndexPromise.{IndexPromised, LookupPromised, Ordered}
 use Rattle.network.specs.Promise.{Archived}
@@ -88,14 +88,14 @@ cases list size =
 
 module _ (list buffer : List ℕ) where
   -- the entries of the index are in order
-  in_order : unfit list ≡ false → Ordered list (entries_from (head_count list) 0 (index_in_lem list buffer))
+  in_order : unfit list ≡ false → Ordered list (entries_from (head_count list) 0 (index_in list buffer))
   in_order e =
       subst⁻¹ (Ordered list) (index-held list (fit-intact list e) buffer)
       (record { once = index-once list; only = λ r m. (index_below list).below r m; rising = index-rising list })
 
   -- an index has its bytes
-  index-long : index_need list ≤ length (index_in_lem list buffer)
-  unfolding index_in_lem
+  index-long : index_need list ≤ length (index_in list buffer)
+  unfolding index_in
   index-long = omega (arith, length-append (entry_bytes (index_of list)) (drop (index_need list) buffer), entry_length (index_of list), index-length list)
 
   pub index-promised : {r : Status} {left : List ℕ} → r ≡ index_status list (length buffer) → left ≡ index_after list buffer → IndexPromised list buffer r left
@@ -171,7 +171,7 @@ module _ (list index : List ℕ) (y : ℤ) where
 
   -- building into the buffer of an index that is the list's own leaves it
   own-index : AllBytes index → Answered → index_after list index ≡ index
-  unfolding index_in_lem is_index
+  unfolding index_in is_index
   own-index bytes a =
       let own = equal→≡ (dictionary orderℕ) (entries_from (head_count list) 0 index) (index_of list) a.held in
       sym (built-fits list index a.fit a.room refl).1
@@ -230,7 +230,7 @@ module _ (list index : List ℕ) (y : ℤ) where
           → ((r : ℕ) × (reply ≡ says_found (Plan r))) ⊎ (reply ≡ says_found (declined 13))
       go s buffer a room made o q =
           let fit = archived-fit s list a in
-          let is : index ≡ index_in_lem list buffer = made ∙ sym (built-fits list buffer fit room refl).1 in
+          let is : index ≡ index_in list buffer = made ∙ sym (built-fits list buffer fit room refl).1 in
           let held : is_index list index ≡ true = ap (is_index list) is ∙ index_in_lem list (fit-intact list fit) buffer in
           let long : index_need list ≤ length index = omega (arith, ap length is, index-long list buffer) in
           answer o (e ∙ ap says_found (sym (looked-held list index y fit long held) ∙ ap found_plan q))

@@ -1,9 +1,9 @@
 -- A reply and bytes that are those of the list call's definitions keep the promise, where records can hold the costs of the plans.
-use Rattle.std.specs.Prelude.{List, ◌≡◌, ℕ, ◌≤◌, length}
+use Rattle.std.specs.Prelude.{List, ◌≡◌, ℕ, ◌-◌, ◌≤◌, length, replicate}
 use Rattle.std.proofs.Common.{ap, ◌∙◌, arith, le-ltb}
 use Rattle.network.specs.Walk.{solved_count}
 use Rattle.network.specs.Survey.{network_of}
-use Rattle.network.specs.PlanList.{buffer_need, filled}
+use Rattle.network.specs.PlanList.{buffer_need, filled, list_bytes}
 use Rattle.network.specs.Checked.{refuse_if, ◌or_else◌}
 use Rattle.network.specs.Refusals.{checked_of}
 use Rattle.network.specs.Calls.{if_fine, list_after, list_checked, list_status, plans_after, plans_checked, room_checked, status}
@@ -13,8 +13,8 @@ use Rattle.network.specs.Network.{Network}
 use Rattle.network.specs.declared.Checked.TheVariants.{Fine, Refused}
 use Rattle.network.specs.declared.Refusal.{Refusal}
 use Rattle.network.specs.declared.Status.{Status}
-use Rattle.planlist_fetching.specs.Listable.{delivered}
-use Rattle.planlist_records.specs.Held.{CostsHeld}
+use Rattle.planlist_fetching.specs.Listable.{list_counted, list-reads}
+use Rattle.walk.specs.Call.{CostsHeld}
 
 -- a survey that is refused is not accepted
 pub refused-held : (s : List ℕ) {q : Refusal} {net : Network} {r : Status} → checked_of s ≡ Refused q → checked_of s ≡ Fine → CostsHeld net r
@@ -34,5 +34,13 @@ promised s allowance buffer {r} {left} e f held =
           let within = le-ltb allowance (solved_count net) few in
           let succeeds : r ≡ record { number = 0; place = 0 } = e ∙ rw (fine, short, within) in
           let bytes : left ≡ filled net (length buffer) = f ∙ rw (fine, short, within) in
-          delivered s (solved_count net) (length buffer) fine succeeds bytes ((held fine).each (ap (λ (a : Status). a.number) succeeds));
+          let costs = (held fine).each (ap (λ (a : Status). a.number) succeeds) in
+          let zeros : List ℕ = replicate (length buffer - length (list_bytes net)) 0 in
+          record {
+            succeeds = succeeds;
+            bytes = bytes;
+            list = list;
+            counted = rw bytes (list_counted s zeros fine);
+            records = λ k h. rw bytes (list-reads s zeros fine costs k h);
+          };
     }

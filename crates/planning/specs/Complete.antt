@@ -72,7 +72,7 @@ module _ (G : Graph) (S : Sound G) where
     pub other : (c : ℕ) → c ∈ others G p → IsLink G c × (p c ≡ false)
     other c k =
         let l = filter (λ c. not (p c)) (links G) in
-        let r = filter-mem (λ c. not (p c)) (links G) (sort-mem (pairs orderℕ orderℕ) _ l k) in
+        let r = filter-mem (λ c. not (p c)) (links G) (sort-mem (pairs orderℕ orderℕ) (ranked weight (λ c. c)) l k) in
         (link-below c r.0, not-true (p c) r.1)
 
     -- they stand by cost, then number

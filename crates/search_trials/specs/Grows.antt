@@ -21,8 +21,7 @@ use Rattle.network.specs.Yard.{ends_at}
 use Rattle.forest.specs.Groups.{Led, apart, apart-labels, apart-led, joined, joined-labels, joined-led}
 use Rattle.forest.specs.declared.Forest as groups
 use Rattle.kruskal.specs.Base.{kept}
-use Rattle.forest.specs.History.{Near}
-use Rattle.kruskal.specs.Grown.{Holds, bare-holds, flags_of, grown-holds, with_flag}
+use Rattle.kruskal.specs.Grown.{Holds, Near, bare-holds, flags_of, grown-holds, with_flag}
 use Rattle.kruskal.specs.Tree.{bare, linked}
 use Rattle.search_trials.specs.BaseAlone.{Kept}
 use Rattle.search_trials.specs.Marks.{flag-turn}

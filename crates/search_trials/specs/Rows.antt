@@ -1,25 +1,29 @@
 -- Rows of leaders: what is joined after each link of the base, and the first row in which two stations are.
 use Prim.Native.Nat.{ℕ, zero, suc, ◌+◌, ◌*◌, ◌<◌}
-use Rattle.std.specs.Prelude.{Bool, true, false, ◌&&◌, ◌||◌, ◌⊎◌, ◌≡◌, eqb, drop}
+use Rattle.std.specs.Prelude.{Bool, true, false, ◌&&◌, ◌||◌, ◌⊎◌, ◌≡◌, refl, eqb, drop}
 use Rattle.std.proofs.Math.Bool.{not-not, not}
 use mathlib.Core.List.Memᴰ
 use mathlib.Core.List.Memᴰ.{head as here}
 use mathlib.Core.List.Memᴰ.{tail as there}
-use mathlib.Core.List.{List, [], ◌∷◌}
+use mathlib.Core.List.{List, [], ◌∷◌, foldl, map}
 use Rattle.std.proofs.Common.{inl, inr, ⊎_elim, ◌∙◌, eq-eqb, eqb-true, ne_eqb, get_or-drop, get_or-take}
-use Rattle.std.proofs.Math.Path.{sym, ap}
+use Rattle.std.proofs.Math.Path.{sym, ap, fun_ext}
 use native.Mathlib.Omega.{arith}
 use Rattle.std.proofs.lemmas.Bool.{not-true}
 use Rattle.std.proofs.Math.ListN.{length, get_or, take}
 use Rattle.order.specs.Test.{by-test, left, right, test_iff}
 use Rattle.order.specs.Lists.{◌⊆◌, get_or_default}
 use Rattle.spanning.specs.Labelling.{Edge, Labelling, Linked, Same, crosses, crosses-false, merge, merge-joins, merge_keeps, same-crosses, same-merge}
-use Rattle.spanning.specs.Tree.{EndsBelow, identity}
+use Rattle.spanning.specs.LabelList.{label_of}
+use Rattle.spanning.specs.Tree.{EndsBelow, identity, merge_all}
 use Rattle.spanning.specs.Places.{first-same, first_place}
 use Rattle.spanning.specs.Lost.{first_row, lost_one, lost_two, row_at}
 use Rattle.network.specs.Capacities.{stations_held}
 use Rattle.network.specs.Yard.{ends_at}
-use Rattle.forest.specs.History.{Near, Recorded, groups-labels, groups-led, groups_after}
+use Rattle.forest.specs.Groups.{Led, apart, apart-labels, apart-led, joined, joined-labels, joined-led}
+use Rattle.forest.specs.declared.Forest.{Forest}
+use Rattle.kruskal.specs.Base.{Recorded, groups_after}
+use Rattle.kruskal.specs.Grown.{Near}
 
 -- the leader of station v in row k
 abbrev pub leader_at : List ℕ → ℕ → ℕ → ℕ
@@ -104,18 +108,44 @@ take-among (suc n) [] e m = m
 take-among (suc n) (x ∷ l) e m = ⊎_elim (λ q. here q) (λ k. there (take-among n l e k)) (Memᴰ.cases_cons m)
 
 module _ (ends : List ℕ) where
+  -- the groups with the ends of a link joined
+  abbrev step : Forest → ℕ → Forest
+  step f e = joined f (ends_at ends e).a (ends_at ends e).b
+
+  after-led : (f : Forest) (l : List ℕ) → Led f → Near ends l → Led (foldl step f l)
+  after-led f [] led near = led
+  after-led f (e ∷ l) led near =
+      let w = near e (here refl) in
+      after-led (step f e) l (joined-led f (ends_at ends e).a (ends_at ends e).b led w.0 w.1) (λ x m. near x (there m))
+
+  after-labels : (f : Forest) (l : List ℕ) → Led f → Near ends l → label_of (foldl step f l).leader ≡ merge_all (label_of f.leader) (map (ends_at ends) l)
+  after-labels f [] led near = refl
+  after-labels f (e ∷ l) led near =
+      let w = near e (here refl) in
+      after-labels (step f e) l (joined-led f (ends_at ends e).a (ends_at ends e).b led w.0 w.1) (λ x m. near x (there m))
+      ∙ ap (λ (L : Labelling). merge_all L (map (ends_at ends) l)) (joined-labels f (ends_at ends e).a (ends_at ends e).b led w.0 w.1)
+
+  groups-led : (l : List ℕ) → Near ends l → Led (groups_after ends l)
+  unfolding groups_after
+  groups-led l near = after-led apart l apart-led near
+
+  groups-labels : (l : List ℕ) → Near ends l → label_of (groups_after ends l).leader ≡ merge_all identity (map (ends_at ends) l)
+  unfolding groups_after
+  groups-labels l near =
+      after-labels apart l apart-led near ∙ ap (λ (L : Labelling). merge_all L (map (ends_at ends) l)) (fun_ext apart-labels)
+
   module _ (base history : List ℕ) (near : Near ends base) (rows : Recorded ends base history) where
     row_label : (k v : ℕ) → k < length base → v < stations_held → leader_at history k v ≡ row_at (ends_at ends) identity base k v
     unfolding row_at
     row_label k v h s =
         let l : List ℕ = take (k + 1) base in
         let some_near : Near ends l = λ e m. near e (take-among (k + 1) base e m) in
-        let led = groups-led ends l some_near in
+        let led = groups-led l some_near in
         sym (get_or-drop (k * stations_held) history v 0)
         ∙ sym (get_or-take stations_held (drop (k * stations_held) history) v 0 s)
         ∙ ap (λ (r : List ℕ). get_or r v 0) (rows.row k h)
         ∙ get_or_default (groups_after ends l).leader v 0 v (omega (arith, led.stations.size))
-        ∙ ap (λ (L : Labelling). L v) (groups-labels ends l some_near)
+        ∙ ap (λ (L : Labelling). L v) (groups-labels l some_near)
 
     -- the place that joins the ends of e
     pub place-one : (e : Edge) → EndsBelow stations_held e

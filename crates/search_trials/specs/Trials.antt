@@ -14,8 +14,8 @@ use Rattle.spanning.specs.Places.{at_places, length-sum, other, other_two, sum-w
 use Rattle.spanning.specs.Lost.{kept-one, kept-two, lost-apart, lost_one, lost_two}
 use Rattle.network.specs.Capacities.{links_held, stations_held, sum_held}
 use Rattle.network.specs.Yard.{ends_at, sum_at}
-use Rattle.forest.specs.History.{Near, Recorded}
-use Rattle.kruskal.specs.Grown.{Holds}
+use Rattle.kruskal.specs.Base.{Recorded}
+use Rattle.kruskal.specs.Grown.{Holds, Near}
 use Rattle.kruskal.specs.Tree.{Columns, Tree, Usable, Walkable}
 use Rattle.search_trials.specs.BaseAlone.{Kept}
 use Rattle.search_trials.specs.Search.{Best, offered, tried}

@@ -8,8 +8,7 @@ use Rattle.order.specs.Lists.{◌∈◌, filter, filter-among, sublist-⊆}
 use Rattle.forest.specs.Groups.{apart}
 use Rattle.kruskal.specs.Base.{Based, Joinable, kept, kept-sublist}
 use Rattle.kruskal.specs.Basing.{joinable-near}
-use Rattle.forest.specs.History.{Near}
-use Rattle.kruskal.specs.Grown.{flags_of}
+use Rattle.kruskal.specs.Grown.{Near, flags_of}
 use Rattle.kruskal.specs.Tree.{Columns, Tree, bare, linked}
 use Rattle.kruskal.specs.declared.links.Base.{Base}
 use Rattle.exceptions.specs.Patterns.{Patterned, admitted, normal}

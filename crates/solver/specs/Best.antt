@@ -7,7 +7,7 @@ use Rattle.std.proofs.Math.Path.{sym, ap, fun_ext}
 use Rattle.std.proofs.Common.{◌∙◌, subst, arith}
 use borrow.Author.Tests.{not-false, not-true}
 use Rattle.order.specs.Test.{both, left, right}
-use Rattle.order.specs.Lists.{◌∈◌, ◌⊆◌, filter, filter-ext, filter-mem, mem-filter, numbers_from, sublist-⊆}
+use Rattle.order.specs.Lists.{◌∈◌, ◌⊆◌, filter, filter-mem, mem-filter, numbers_from, sublist-⊆}
 use Rattle.order.specs.Order.{orderℕ, orderℤ, pairs}
 use Rattle.order.specs.Perm.{pairwise-filter, pairwise-imp, pairwise-sublist}
 use Rattle.order.specs.Sorted.{Apart, Rising, mem-numbers, numbers-rising, rising-apart, sort-mem, sublist-rising}
@@ -31,7 +31,7 @@ use Rattle.kruskal_order.specs.ByCost.{link_order}
 use Rattle.kruskal_order.specs.Usable.{usable-apart, usable-below, usable-joins, usable_of, usable_order}
 use Rattle.kruskal.specs.Base.{kept}
 use Rattle.kruskal.specs.Grown.{kept-kruskal}
-use Rattle.solver.specs.Filter.{filter-sort}
+use Rattle.solver.specs.Filter.{filter-ext, filter-sort}
 use Rattle.search_trials.specs.Sets.{trials, trials-among, trials-complete, trials-sound}
 use Rattle.exceptions.specs.Patterns.{admitted, normal, pattern_at}
 use Rattle.exceptions.specs.OfNetwork.{net-admitted, net-normal, net-pattern, net-patterned, net_patterns}

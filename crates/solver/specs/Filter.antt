@@ -1,11 +1,20 @@
--- A filter before or after a sort.
-use Rattle.std.specs.Prelude.{Bool, List, ◌≡◌}
-use Rattle.order.specs.Lists.{filter, filter-mem, mem-filter}
+-- Filters: by tests that agree, and before or after a sort.
+use Rattle.std.specs.Prelude.{Bool, List, [], ◌∷◌, ◌≡◌, refl}
+use mathlib.Core.List.Memᴰ.{head as here}
+use mathlib.Core.List.Memᴰ.{tail as there}
+use Rattle.order.specs.Test.{by-test}
+use Rattle.order.specs.Lists.{◌∈◌, filter, filter-mem, mem-filter}
 use Rattle.order.specs.Perm.{pairwise-filter}
 use Rattle.order.specs.Order.{Less, TotalOrder}
 use Rattle.order.specs.Sorted.{Apart, mem-sort, rising-unique, sort, sort-mem, sort-rising}
 
 module _ {A : Type 0} where
+  pub filter-ext : (p q : A → Bool) (l : List A) → ((x : A) → x ∈ l → p x ≡ q x) → filter p l ≡ filter q l
+  filter-ext p q [] h = refl
+  filter-ext p q (x ∷ l) h =
+      let rest = filter-ext p q l (λ y m. h y (there m)) in
+      by-test (q x) (λ e. rw (h x (here refl), e, rest)) (λ e. rw (h x (here refl), e, rest))
+
   -- where no two have the same key
   pub filter-sort : {K : Type 0} (O : TotalOrder K) (key : A → K) (p : A → Bool) (l : List A) → Apart key l → filter p (sort O key l) ≡ sort O key (filter p l)
   filter-sort O key p l a =

@@ -29,8 +29,7 @@ use Rattle.network.specs.Yard.{ends_at, graph, stations, sum_at, tree_size, usab
 use Rattle.network.specs.NetworkFine.{NetworkFine, graph-sound}
 use Rattle.network.specs.Network.{Network}
 use Rattle.kruskal.specs.Tree.{bare, linked}
-use Rattle.forest.specs.History.{Near}
-use Rattle.kruskal.specs.Grown.{Holds, bare-holds, grown-holds}
+use Rattle.kruskal.specs.Grown.{Holds, Near, bare-holds, grown-holds}
 use Rattle.kruskal.specs.Tree.{Tree}
 use Rattle.search_trials.specs.Flags.{first, first-dictionary, flags-length, flags-rising, rising}
 use Rattle.exceptions.specs.Patterns.{admitted}

@@ -116,14 +116,14 @@ module _ (ends : ℕ → Edge) where
       (λ t.
       let k = crosses→Crosses N e t in
       let up : Crosses M (ends b) = Crosses-≈ (ends b) (≈-sym h) (crosses-second L (ends b) e f.0 k) in
-      rw (row-later test L b bs (ap not t), without-later (lost_one N bs e) b bs)
-      (kruskal-taken M b bs up
-      ∙ ap (◌∷◌ b) (kept-one N bs e (merge M (ends b)) f.1 k (≈-trans (merge-≈ (ends b) h) (merge-swap L e (ends b))))))
+      kruskal-taken M b bs up
+      ∙ ap (◌∷◌ b) (kept-one N bs e (merge M (ends b)) f.1 k (≈-trans (merge-≈ (ends b) h) (merge-swap L e (ends b))))
+      ∙ sym (ap (λ (i : ℕ). at_places (other i) 0 (b ∷ bs)) (row-later test L b bs (ap not t)) ∙ without-later (lost_one N bs e) b bs))
       (λ t.
       let s = crosses-false N e t in
-      rw (row_here test L b bs (ap not t), without-first b bs)
-      (kruskal-left M b bs (h.1 (ends b).a (ends b).b (trade L e (ends b) c s))
-      ∙ kruskal-all M bs (forest-≈ (map ends bs) (≈-trans (merge-same L e (ends b) c s) (≈-sym h)) f.1)))
+      kruskal-left M b bs (h.1 (ends b).a (ends b).b (trade L e (ends b) c s))
+      ∙ kruskal-all M bs (forest-≈ (map ends bs) (≈-trans (merge-same L e (ends b) c s) (≈-sym h)) f.1)
+      ∙ sym (ap (λ (i : ℕ). at_places (other i) 0 (b ∷ bs)) (row_here test L b bs (ap not t)) ∙ without-first b bs))
 
   -- ---- two edges
 

@@ -6,13 +6,18 @@ use Rattle.std.proofs.Common.{◌∙◌, eq-eqb, ne_eqb, drop_of_length-le, drop
 use Rattle.std.proofs.Math.Bool.{and-false}
 use mathlib.Core.List.{List, [], ◌∷◌, map}
 use Rattle.std.proofs.Math.Numerals.{add-one}
-use Rattle.order.specs.Test.{by-test}
-use Rattle.order.specs.Lists.{all}
-use Rattle.spanning.specs.Labelling.{crosses}
+use Rattle.std.proofs.lemmas.List.{length-map}
+use Rattle.order.specs.Test.{by-test, test_iff}
+use Rattle.order.specs.Lists.{all, all-mem}
+use Rattle.order.specs.Sorted.{Apart}
+use Rattle.spanning.specs.Labelling.{Edge, crosses}
 use Rattle.spanning.specs.LabelList.{label_of}
-use Rattle.spanning.specs.Tree.{EndsBelow, identity, is_forest}
-use Rattle.spanning.specs.Rising.{is_rising_in}
-use Rattle.spanning.specs.Listing.{is_listed, listed-forest}
+use Rattle.spanning.specs.Tree.{AllWithin, EndsBelow, Within, identity, is_forest, is_tree}
+use Rattle.spanning.specs.Size.{is_forest-iff, is_tree-iff}
+use Rattle.spanning.specs.Count.{forest-spans}
+use Rattle.spanning.specs.Rising.{is_rising_in, is_rising_in-iff, rising-range}
+use Rattle.spanning.specs.Best.{edges-within}
+use Rattle.spanning.specs.Listing.{is_listed}
 use Rattle.forest.specs.Groups.{Led, apart, apart-labels, apart-led, joined-labels}
 use Rattle.network.specs.Capacities.{stations_held}
 use Rattle.network.specs.Resting.{joins-within, working-apart}
@@ -85,6 +90,31 @@ module _ (rest : ℕ) (ends : List ℕ) (m : ℕ) where
         draws-from blank ts apart-led refl
         ∙ ap (λ (L : ℕ → ℕ). is_rising_in 0 m ts && (all (usable_at rest ends) ts && is_forest L (map (ends_at ends) ts))) (fun_ext apart-labels)
 
+-- as many rising usable links as a tree has are a tree where they have no ring
+module _ (ends : ℕ → Edge) (vs : List ℕ) (m : ℕ) (usable : ℕ → Bool) (some : 0 < length vs) (distinct : Apart (λ x. x) vs)
+    (within : (c : ℕ) → c < m → usable c ≡ true → Within vs (ends c)) where
+  -- links that rise below m and are usable join stations
+  all-within : (ts : List ℕ) → is_rising_in 0 m ts ≡ true → all usable ts ≡ true → AllWithin vs (map ends ts)
+  all-within ts e u =
+      edges-within ends vs m usable some distinct within ts
+      (λ t k. ((rising-range 0 m ts ((is_rising_in-iff 0 m ts).0 e) t k).1, all-mem usable ts u t k))
+
+  listed-forest : (ts : List ℕ) → length ts ≡ length vs - 1
+      → is_listed ends vs m usable ts ≡ is_rising_in 0 m ts && (all usable ts && is_forest identity (map ends ts))
+  unfolding is_listed
+  listed-forest ts size =
+      rw (eq-eqb (length ts) (length vs - 1) size) (by-test (is_rising_in 0 m ts)
+      (λ e. by-test (all usable ts)
+      (λ u. rw (e, u) (test_iff (is_tree vs (map ends ts)) (is_forest identity (map ends ts)) (
+        λ t. (is_forest-iff identity (map ends ts)).1 ((is_tree-iff vs (map ends ts)).0 t).forest,
+        λ f.
+            let ringless = (is_forest-iff identity (map ends ts)).0 f in
+            (is_tree-iff vs (map ends ts)).1
+            (forest-spans vs some distinct (map ends ts) (all-within ts e u) ringless (length-map ts ends ∙ size)),
+      )))
+      (λ u. rw (e, u)))
+      (λ e. rw e))
+
 -- ---- of a shape and its ends
 
 -- links between stations, of which trees have t
@@ -110,14 +140,10 @@ module _ (shape : Shape) (ends : List ℕ) (can : Drawable shape ends) (ts : Lis
   vs = working shape.n shape.rest
 
   pub tree-drawn : length ts ≡ shape.t → draws_forest shape.rest ends shape.m ts ≡ is_listed (ends_at ends) vs shape.m (usable_at shape.rest ends) ts
-  unfolding is_listed
   tree-drawn size =
-      let usable = usable_at shape.rest ends in
       draws-forest shape.rest ends shape.m can.stations.within ts
-      ∙ rw (eq-eqb (length ts) (length vs - 1) (size ∙ can.tree)) (by-test (is_rising_in 0 shape.m ts)
-      (λ e. rw e (sym (listed-forest (ends_at ends) vs shape.m usable can.some-station (working-apart shape.n shape.rest)
-      (λ c h u. let w = can.within c h in joins-within shape.n shape.rest (ends_at ends c) w.0 w.1 u) ts e (size ∙ can.tree))))
-      (λ e. rw e))
+      ∙ sym (listed-forest (ends_at ends) vs shape.m (usable_at shape.rest ends) can.some-station (working-apart shape.n shape.rest)
+      (λ c h u. let w = can.within c h in joins-within shape.n shape.rest (ends_at ends c) w.0 w.1 u) ts (size ∙ can.tree))
 
   pub size-drawn : (length ts ≡ shape.t → ⊥) → false ≡ is_listed (ends_at ends) vs shape.m (usable_at shape.rest ends) ts
   unfolding is_listed

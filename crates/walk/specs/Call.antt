@@ -6,18 +6,27 @@ use Rattle.std.proofs.Math.Path.{sym, ap}
 use Rattle.std.proofs.Common.{◌∙◌, arith, le-ltb, lt-ltb}
 use Prim.Native.Nat.{ℕ, ◌≤◌, ◌<◌}
 use Rattle.order.specs.Test.{by-test}
+use Rattle.order.specs.Lists.{◌∈◌}
 use Rattle.network.specs.Walk.{passes, plans}
-use Rattle.network.specs.PlanList.{buffer_need, filled}
+use Rattle.network.specs.PlanList.{buffer_need, costs_of, filled, plan_slots}
 use Rattle.network.specs.Checked.{refuse_if, ◌or_else◌}
 use Rattle.network.specs.Calls.{if_fine, plans_after, plans_checked, room_checked, status}
 use Rattle.network.specs.Yard.{tree_size}
 use Rattle.network.specs.Network.{Network}
 use Rattle.network.specs.declared.Status.{Status}
-use Rattle.planlist_records.specs.Held.{CostsHeld, none-held}
+use Rattle.planlist_records.specs.Held.{Writable}
 use Rattle.planlist_frontier.specs.Finished.{finished}
 use Rattle.walk.specs.Walked.{Outcome}
 use Rattle.walk.specs.declared.positions.Walked.{Walked}
 use Rattle.walk.specs.Concluded.{concluded, list-filled}
+
+-- A list call that succeeds has plans whose costs a record can hold.
+pub record CostsHeld (net : Network) (r : Status) : Type 0 where
+  pub each : r.number ≡ 0 → (ts : List ℕ) → ts ∈ plans net → Writable (plan_slots net.p) (costs_of net ts)
+
+-- one that is refused has none to show
+pub none-held : (net : Network) {r : Status} → ¬ (r.number ≡ 0) → CostsHeld net r
+none-held net h = record { each = λ e. absurd (h e) }
 
 -- a walk that ended has put them into records
 pub walk-held : (net : Network) {allowance : ℕ} {bs : List ℕ} {w : Walked} → Outcome net allowance bs w → {r : Status} → r ≡ status (refuse_if w.spent 10 0)

@@ -1,22 +1,26 @@
 -- The walk as its loop does it: what the marks and the records are when the first n positions have been visited.
-use Rattle.std.specs.Prelude.{Bool, true, false, cond, ◌||◌, List, [], ◌∷◌, ◌⊎◌, ◌≡◌, refl, ℕ, ◌+◌, ◌*◌, ◌≤◌, ◌<◌, ℤ, drop, get_or, length, replicate}
+use Rattle.std.specs.Prelude.{Bool, true, false, cond, ◌||◌, List, [], ◌∷◌, ◌⊎◌, ◌≡◌, refl, ℕ, ◌+◌, ◌*◌, ◌≤◌, ◌<◌, leb, ℤ, pos, drop, get_or, length, replicate}
 use mathlib.Core.List.Memᴰ
-use Rattle.std.proofs.Common.{inl, inr, sym, ap, ◌∙◌, subst, arith, length-append}
+use Rattle.std.proofs.Common.{inl, inr, sym, ap, ◌∙◌, subst, arith, length-append, leb-true}
 use Rattle.std.proofs.Math.Option.{Option, none, some}
 use Rattle.std.proofs.Math.Path.{subst⁻¹}
 use Rattle.std.proofs.lemmas.List.{get_or-replicate}
+use Rattle.order.specs.Test.{by-test}
 use Rattle.order.specs.Lists.{◌∈◌, any_snoc}
 use Rattle.frontier.specs.Frontier.{Entry, answers, collect, covered, covers, solve}
 use Rattle.frontier.specs.Plans.{Front, collect-front, collect-member}
 use Rattle.frontier.specs.Walk.{positions-length}
 use Rattle.planning.specs.Grid.{walk-lists}
+use Rattle.network.specs.Capacities.{ceilings_held}
 use Rattle.network.specs.Resting.{working-few}
-use Rattle.network.specs.Yard.{best, graph, tree_size, yard}
+use Rattle.network.specs.Survey.{narrow_slots}
+use Rattle.network.specs.Tabulate.{tabulate-length}
+use Rattle.network.specs.Yard.{best, ceiling_costs, graph, tree_size, yard}
 use Rattle.network.specs.Walk.{plans, position_count, positions, solved_count, values}
-use Rattle.network.specs.PlanList.{costs_of, head_size, plan_size}
+use Rattle.network.specs.PlanList.{costs_of, head_size, plan_size, plan_slots}
 use Rattle.network.specs.NetworkFine.{NetworkFine, graph-sound, slots-few}
 use Rattle.network.specs.Network.{Network}
-use Rattle.planlist_frontier.specs.Stored.{Recorded, absent, costs-absent, holds-inserted, holds-none, holds-ranged, holds-rise, padded, slots-hold}
+use Rattle.planlist_frontier.specs.Stored.{Holds, Padded, absent, costs-absent, costs-padded, holds-inserted, holds-level, holds-none, holds-rise}
 use Rattle.marking.specs.Unmarked.{next_unmarked, unmarked-keeps}
 use Rattle.walk_visit.specs.Visit.{best_at}
 use Rattle.walk_visit.specs.Visited.{Prepared, Visited, records_of, slots_of, take_record}
@@ -44,10 +48,28 @@ bit-one false e = absurd (e refl)
 -- ---- what holds between positions
 
 module _ (net : Network) where
+  -- the first `count` records behind the head's place are those of the plans l
+  abbrev pub Recorded : ℕ → List ℕ → List (List ℕ) → Type 0
+  Recorded count bs l = Holds (yard net) (slots_of net) (costs_of net) (λ ts. ts) (absent net) (plan_size (slots_of net) (tree_size net)) count (drop head_size bs) l
+
+  padded : NetworkFine net → (ts : List ℕ) → Padded (yard net) (slots_of net) (costs_of net) (λ ts. ts) (absent net) ts
+  padded fine ts = record {
+    values = costs-padded net ts (omega (arith, fine.rank-count, fine.few-ceilings));
+    held = tabulate-length (λ j. get_or (ceiling_costs net ts) j (pos 0)) ceilings_held;
+  }
+
+  -- a record has room for each cost of a tree
+  slots-hold : NetworkFine net → net.p ≤ slots_of net
+  unfolding plan_slots
+  slots-hold fine =
+      by-test (leb net.p narrow_slots)
+      (λ e. rw e (leb-true net.p narrow_slots e))
+      (λ e. rw e fine.few-ceilings)
+
   -- the marks, the records and the counts when the entries es have been solved
   pub record Reached (es : List (Entry ℤ (List ℕ))) (ms bs : List ℕ) (count done : ℕ) : Type 0 where
     pub marks : (x : ℕ) → x < position_count net → get_or ms x 0 ≡ bit (covered (yard net) es (get_or (positions net) x []))
-    pub records : Recorded net count bs (collect (yard net) [] (answers (yard net) es))
+    pub records : Recorded count bs (collect (yard net) [] (answers (yard net) es))
     pub counted : done ≡ length es
 
   -- when the first n positions have been visited
@@ -76,11 +98,11 @@ module _ (net : Network) where
       room = room;
       rise = holds-rise (yard net) (slots_of net) (costs_of net) (λ ts. ts) (absent net) refl plans p.records front.rising;
       level = λ ts e.
-          holds-ranged (yard net) (slots_of net) (costs_of net) (λ ts. ts) (absent net) refl plans p.records ts (padded net fine ts)
+          holds-level (yard net) (slots_of net) (costs_of net) (λ ts. ts) (absent net) refl plans p.records ts (padded fine ts)
           (λ s m h. let w = best-at s m in no_lower (yard net) (get_or (positions net) n []) w.0 s ts e w.1 h)
           (λ s m h. let w = best-at s m in no_lower (yard net) w.0 (get_or (positions net) n []) ts s w.1 e h);
       absent = λ ts e j h.
-          costs-absent net ts j (omega (arith, fine.rank-count, fine.few-ceilings)) (omega (arith, fine.rank-count, slots-hold net fine));
+          costs-absent net ts j (omega (arith, fine.rank-count, fine.few-ceilings)) (omega (arith, fine.rank-count, slots-hold fine));
     }
       where
         found : List (List ℕ)
@@ -123,7 +145,7 @@ module _ (net : Network) where
             marks = λ x g. v.marks x g ∙ ap (cond (covers (yard net) new (get_or (positions net) x [])) 1) (p.marks x g)
                 ∙ bit_or (covered (yard net) es (get_or (positions net) x [])) (covers (yard net) new (get_or (positions net) x []))
                 ∙ ap bit (sym (any_snoc (λ z. covers (yard net) z (get_or (positions net) x [])) es new));
-            records = subst⁻¹ (Recorded net count' bs') (collect-more (yard net) es new) (taken new.answer refl v.records);
+            records = subst⁻¹ (Recorded count' bs') (collect-more (yard net) es new) (taken new.answer refl v.records);
             counted = omega (arith, p.counted, length-append es (new ∷ []));
           })
         where
@@ -132,11 +154,11 @@ module _ (net : Network) where
 
           -- the answer's plan among those recorded
           taken : (o : Option (List ℕ)) → best_at net n ≡ o
-              → records_of net count' bs' ≡ take_record net o (records_of net count bs) → Recorded net count' bs' (take_answer (yard net) o plans)
+              → records_of net count' bs' ≡ take_record net o (records_of net count bs) → Recorded count' bs' (take_answer (yard net) o plans)
           taken none b e = record { records-are = e ∙ p.records.records-are; stored = p.records.stored }
           taken (some ts) b e =
               holds-inserted (yard net) (slots_of net) (costs_of net) (λ ts. ts) (absent net) refl ts plans p.records
-              (record { writable = v.writable ts b; padded = padded net fine ts }) e
+              (record { writable = v.writable ts b; padded = padded fine ts }) e
 
   -- all marked positions among n from number `at` on are skipped
   pub skip_all : {ms bs : List ℕ} {count done : ℕ} (n at : ℕ) → at + n ≤ position_count net → Progress at ms bs count done
@@ -145,8 +167,8 @@ module _ (net : Network) where
 
   -- at the end all positions are visited: the count is the walk's, and the promised plans are recorded
   pub finish : NetworkFine net → (n : ℕ) → position_count net ≤ n → {ms bs : List ℕ} {count done : ℕ} → Progress n ms bs count done
-      → (done ≡ solved_count net) × Recorded net count bs (plans net)
+      → (done ≡ solved_count net) × Recorded count bs (plans net)
   finish fine n h {ms} {bs} {count} {done} p =
       let all = entries-all (yard net) n (omega (arith, positions-length (values net))) in
       let r = subst (λ (es : List (Entry ℤ (List ℕ))). Reached es ms bs count done) all p in
-      (r.counted, subst (Recorded net count bs) (walk-lists (graph net) (graph-sound net fine)) r.records)
+      (r.counted, subst (Recorded count bs) (walk-lists (graph net) (graph-sound net fine)) r.records)

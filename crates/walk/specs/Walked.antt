@@ -6,8 +6,9 @@ use Rattle.network.specs.PlanList.{costs_of}
 use Rattle.network.specs.Walk.{passes, plans, position_count, solved_count}
 use Rattle.network.specs.Yard.{yard}
 use Rattle.network.specs.Network.{Network}
-use Rattle.planlist_frontier.specs.Stored.{Recorded, absent, holds-count}
+use Rattle.planlist_frontier.specs.Stored.{absent, holds-count}
 use Rattle.walk_visit.specs.Visited.{slots_of}
+use Rattle.walk.specs.Progress.{Recorded}
 use Rattle.walk.specs.declared.positions.Walked.{Walked}
 
 -- The walk w of a network with an allowance, and the buffer bs after it: the solved count is the definition's and never passes the allowance.

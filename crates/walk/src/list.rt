@@ -5,15 +5,24 @@ ghost use Rattle.network.specs.Capacities.{plans_held};
 ghost use Rattle.network.specs.Checked.{refuse_if};
 ghost use Rattle.network.specs.PlanList.{head_size, plan_size, plan_slots};
 ghost use Rattle.network.specs.Shaped.{Plannable, net_of};
-ghost use Rattle.planlist_records.specs.Held.{CostsHeld};
+ghost use Rattle.walk.specs.Call.{CostsHeld};
 ghost use Rattle.walk.specs.Concluded.{concluded};
 
 use crate::positions::{Walked, visit_all};
 use marking::grid::grid_of;
 use network::capacities::{CEILINGS_HELD, LINKS_HELD};
+use network::records::HEAD_SIZE;
 use network::{Shape, Status};
 use planlist_frontier::ending::{clear, finish};
-use planlist_records::records::list_size;
+use planlist_records::records::{plan_size, plan_slots};
+
+// What a list buffer needs, by the numbers of positions, of links of a tree and of ceilings.
+fn need(total: usize, t: u8, p: u8) -> usize
+    requires { total ≤ plans_held }
+    ensures { result ≡ head_size + total * plan_size (plan_slots p) t }
+{
+    HEAD_SIZE + total * plan_size(plan_slots(p), t as usize)
+}
 
 // Clears the buffer where the walk gave up, and finishes the list where it ended; t links make a tree, and p ceilings are present.
 fn conclude(out: &mut [u8], walked: Walked, t: u8, p: u8) -> Status
@@ -53,7 +62,7 @@ pub fn list_plans(
     let size = costs.len();
     let mut values = [0i16; CEILINGS_HELD * LINKS_HELD];
     let grid = grid_of(shape, ends, costs, &mut values[..size]);
-    if out.len() < list_size(grid.total, shape.t, shape.p) {
+    if out.len() < need(grid.total, shape.t, shape.p) {
         return Status {
             number: 9,
             place: 0,

@@ -2,7 +2,7 @@
 ghost use Rattle.std.specs.Prelude.{◌≡◌, ◌≤◌, length};
 ghost use Rattle.network.specs.PlanList.{buffer_need};
 ghost use Rattle.network.specs.Shaped.{net_of};
-ghost use Rattle.marking.specs.Ready.{Ready};
+ghost use Rattle.walk_visit.specs.Visit.{Ready};
 ghost use Rattle.walk.specs.Walked.{Outcome};
 
 use kruskal_order::usable::order_usable;

@@ -1,7 +1,8 @@
 -- What an answer at a position does to the marks and to the records of plans, by its costs alone.
-use Rattle.std.specs.Prelude.{List, ◌≡◌, ℕ, ◌+◌, ◌*◌, ◌≤◌, ◌<◌, ℤ, pos, drop, get_or, length, take}
+use Rattle.std.specs.Prelude.{List, ◌≡◌, refl, ℕ, zero, suc, ◌+◌, ◌*◌, ◌≤◌, ◌<◌, ℤ, pos, drop, get_or, length, take}
 use Rattle.std.proofs.Math.Path.{sym}
-use Rattle.std.proofs.Common.{ap, ◌∙◌, subst, arith}
+use Rattle.std.proofs.Common.{ap, ◌∙◌, subst, arith, SFits}
+use Rattle.std.specs.Int.{w16, w32}
 use Rattle.network.specs.Calls.{together}
 use Rattle.network.specs.Capacities.{ceilings_held}
 use Rattle.network.specs.PlanList.{head_size, plan_bytes, plan_size}
@@ -12,7 +13,7 @@ use Rattle.network.specs.declared.Refusal.{Refusal}
 use Rattle.network.specs.declared.Shape.{Shape}
 use Rattle.encoding.specs.Blocks.{blocks}
 use Rattle.planlist_frontier.specs.Insertion.{RecordsRise, insert_record}
-use Rattle.planlist_frontier.specs.Ranged.{Ranged, own_sum}
+use Rattle.planlist_frontier.specs.Level.{Level}
 use Rattle.planlist_records.specs.Held.{Writable}
 use Rattle.marking.specs.Paint.{paint}
 use Rattle.marking.specs.Sides.{Inside, runs}
@@ -72,7 +73,7 @@ pub record Takes (slots : ℕ) (a : Answer) (links : List ℕ) (count : ℕ) (bs
   pub few-links : length links < 256
   pub room : head_size + (count + 1) * plan_size slots (length links) ≤ length bs
   pub rise : RecordsRise slots (records_in slots (length links) count bs)
-  pub level : (v : PlanCosts) → a ≡ Plan v → Ranged (own_sum (together v)) slots (together v) (records_in slots (length links) count bs)
+  pub level : (v : PlanCosts) → a ≡ Plan v → Level slots (together v) (records_in slots (length links) count bs)
   pub absent : (v : PlanCosts) → a ≡ Plan v → (j : ℕ) → slots ≤ j → get_or (plan_costs v) j (pos 0) ≡ pos 0
 
 -- what it leaves in bs'; a record can hold the plan's costs
@@ -80,6 +81,17 @@ pub record Taken (slots : ℕ) (a : Answer) (links : List ℕ) (count count' : �
   pub bounded : count' ≤ count + 1
   pub records : records_in slots (length links) count' bs' ≡ with_plan slots a links (records_in slots (length links) count bs)
   pub writable : (v : PlanCosts) → a ≡ Plan v → Writable slots (together v)
+
+-- costs whose numbers fit their widths
+pub plan-writable : (slots : ℕ) (v : PlanCosts) → SFits w32 v.sum → SFits w16 v.y1 → SFits w16 v.y2 → SFits w16 v.y3 → slots ≤ ceilings_held
+    → ((j : ℕ) → slots ≤ j → get_or (plan_costs v) j (pos 0) ≡ pos 0) → Writable slots (together v)
+plan-writable slots v sum y1 y2 y3 few none = record { sum_fits = sum; each_fits = each; held = refl; few = few; absent = none }
+  where
+    each : (j : ℕ) → SFits w16 (get_or (plan_costs v) j (pos 0))
+    each zero = y1
+    each (suc zero) = y2
+    each (suc (suc zero)) = y3
+    each (suc (suc (suc j))) = record { sfits = omega arith }
 
 -- no plan, and a plan v
 pub none-taken : (slots : ℕ) {a : Answer} {r : Refusal} (links : List ℕ) (count : ℕ) (bs : List ℕ) → a ≡ Refused r → Taken slots a links count count bs bs

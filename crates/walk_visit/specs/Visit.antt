@@ -15,7 +15,7 @@ use Rattle.frontier.specs.Places as by
 use Rattle.frontier.specs.Places.{AllFalling, InRange, pick, places-number, places-range}
 use Rattle.planning.specs.Graph.{Sound}
 use Rattle.planning.specs.Grid.{all-fall, on-grid}
-use Rattle.network.specs.Yard.{best, ceiling_costs, graph, yard}
+use Rattle.network.specs.Yard.{best, ceiling_costs, graph, usable_at, yard}
 use Rattle.network.specs.Walk.{position_count, positions, values}
 use Rattle.network.specs.PlanList.{costs_of}
 use Rattle.network.specs.Calls.{apart}
@@ -23,7 +23,7 @@ use Rattle.network.specs.Meaning.{together-apart}
 use Rattle.network.specs.declared.Costs.{Costs}
 use Rattle.network.specs.NetworkFine.{NetworkFine, graph-sound}
 use Rattle.network.specs.Network.{Network}
-use Rattle.network.specs.Shaped.{net_of}
+use Rattle.network.specs.Shaped.{Plannable, net_of}
 use Rattle.network.specs.declared.Answer.{Answer}
 use Rattle.network.specs.declared.Shape.{Shape}
 use Rattle.planlist_frontier.specs.Stored.{absent, costs-padded}
@@ -34,8 +34,8 @@ use Rattle.marking.specs.Box.{sides}
 use Rattle.marking.specs.Settle.{Settled, lasts, lasts-le, lasts-range, own-later, position_at, settled-none, settled-some}
 use Rattle.marking.specs.Sides.{runs}
 use Rattle.marking.specs.Digits.{Steps, digits_by, sizes, weights}
-use Rattle.marking.specs.Gridded.{grid-places, grid-steps, value-count}
-use Rattle.marking.specs.Ready.{Ready}
+use Rattle.marking.specs.Gridded.{Griddable, Gridded, ceiling-values, grid-places, grid-steps, value-count}
+use Rattle.marking.specs.Parts.{ceiling_values}
 use Rattle.marking.specs.declared.grid.Grid.{Grid}
 use Rattle.walk_visit.specs.Found.{Within, bounds_at, last_sides, own_sides}
 use Rattle.walk_visit.specs.Boxes.{bounds-are, box-inside, box-sides, last-sides, lengths, own-sides, range_at, range_length}
@@ -89,6 +89,28 @@ module _ (net : Network) (sound : Sound (graph net)) (n : ℕ) (h : n < position
       }
 
 -- ---- a network with its grid
+
+-- what the walk sets out with: a network that can be planned, and the grid of its ceilings with their values in an array
+pub record Ready (shape : Shape) (ends sums : List ℕ) (costs array : List ℤ) (grid : Grid) : Type 0 where
+  pub plannable : Plannable shape ends sums costs
+  pub gridded : Gridded (values (net_of shape ends sums costs)) shape.m array grid
+
+-- it can be found, and is what `grid_of` finds
+module _ {shape : Shape} {ends sums : List ℕ} {costs array : List ℤ} (plannable : Plannable shape ends sums costs) where
+  pub griddable : length array ≡ length costs → Griddable shape.p shape.m costs array
+  griddable e = record {
+    costs-are = plannable.fine.cost-count;
+    array-is = e ∙ plannable.fine.cost-count;
+    links = plannable.fine.few-links;
+    ceilings = plannable.fine.few-ceilings;
+  }
+
+  pub ready-grid : {grid : Grid} → Gridded (ceiling_values (usable_at shape.rest ends) shape.p shape.m costs) shape.m array grid
+      → Ready shape ends sums costs array grid
+  ready-grid {grid} g = record {
+    plannable = plannable;
+    gridded = subst (λ (ls : List (List ℤ)). Gridded ls shape.m array grid) (ceiling-values (net_of shape ends sums costs) plannable.fine.rank-count) g;
+  }
 
 module _ {shape : Shape} {ends sums : List ℕ} {costs array : List ℤ} {grid : Grid} (ready : Ready shape ends sums costs array grid) where
   open ready use {gridded}

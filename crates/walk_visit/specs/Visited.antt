@@ -15,7 +15,7 @@ use Rattle.network.specs.declared.Answer.TheVariants.{Plan}
 use Rattle.network.specs.declared.Costs.{Costs}
 use Rattle.network.specs.Network.{Network}
 use Rattle.planlist_frontier.specs.Insertion.{RecordsRise, insert_record}
-use Rattle.planlist_frontier.specs.Ranged.{Ranged, own_sum}
+use Rattle.planlist_frontier.specs.Level.{Level}
 use Rattle.planlist_records.specs.Held.{Writable}
 use Rattle.solver.specs.Question.{answer-found, answer_of, best-length, tree-front}
 use Rattle.marking.specs.Settle.{Settled}
@@ -50,7 +50,7 @@ module _ (net : Network) where
     pub few-links : tree_size net < 256
     pub room : head_size + (count + 1) * plan_size slots_of (tree_size net) ≤ length bs
     pub rise : RecordsRise slots_of (records_of count bs)
-    pub level : (ts : List ℕ) → best_at net n ≡ some ts → Ranged (own_sum (costs_of net ts)) slots_of (costs_of net ts) (records_of count bs)
+    pub level : (ts : List ℕ) → best_at net n ≡ some ts → Level slots_of (costs_of net ts) (records_of count bs)
     pub absent : (ts : List ℕ) → best_at net n ≡ some ts → (j : ℕ) → slots_of ≤ j → get_or (costs_of net ts).y j (pos 0) ≡ pos 0
 
   -- Position n has the answer a, and left the tree buffer so; the links are the first t bytes there.
@@ -78,8 +78,8 @@ module _ (net : Network) where
           rise = subst⁻¹ (λ (t : ℕ). RecordsRise slots_of (records_in slots_of t count bs)) size p.rise;
           level = λ v q.
               let f = answer-found net (best_at net n) answered q in
-              subst⁻¹ (λ (t : ℕ). Ranged (own_sum (together v)) slots_of (together v) (records_in slots_of t count bs)) size
-              (subst⁻¹ (λ (w : Costs). Ranged (own_sum w) slots_of w (records_of count bs)) f.costs-are (p.level f.tree f.best-is));
+              subst⁻¹ (λ (t : ℕ). Level slots_of (together v) (records_in slots_of t count bs)) size
+              (subst⁻¹ (λ (w : Costs). Level slots_of w (records_of count bs)) f.costs-are (p.level f.tree f.best-is));
           absent = λ v q j h.
               let f = answer-found net (best_at net n) answered q in
               ap (λ (w : Costs). get_or w.y j (pos 0)) f.costs-are ∙ p.absent f.tree f.best-is j h;

@@ -1,5 +1,6 @@
 // One position of the threshold walk: its places and bounds, what its answer settles, and its plan taken into the frontier.
 ghost use Rattle.std.specs.Prelude.{◌≡◌, length};
+ghost use Rattle.network.specs.Calls.{together};
 ghost use Rattle.walk_visit.specs.Found.{Parted, Placed, Within, bounds_at, last_sides, own_sides};
 ghost use Rattle.walk_visit.specs.Position.{Locatable, places_at};
 ghost use Rattle.walk_visit.specs.Answered.{Reaches, Taken, Takes, settled_by};
@@ -8,9 +9,8 @@ use marking::grid::{Grid, put_places};
 use marking::mark::mark_box;
 use marking::place::place_of;
 use network::capacities::CEILINGS_HELD;
-use network::{Answer, Shape};
-use planlist_frontier::insertion::{Sums, insert_plan};
-use planlist_records::costs::costs_of;
+use network::{Answer, Costs, PlanCosts, Shape};
+use planlist_frontier::insertion::insert_plan;
 
 // The values at some places, each in the ceiling's part of `values`, which holds m for each.
 fn put_bounds(values: &[i16], m: usize, places: &[usize], bounds: &mut [i16])
@@ -74,6 +74,16 @@ fn put_own_sides(
     }
 }
 
+// The costs of a plan, with its ceiling costs in an array.
+fn costs_of(plan: PlanCosts) -> Costs
+    ensures { result ≡ together plan }
+{
+    Costs {
+        sum: plan.sum,
+        y: [plan.y1, plan.y2, plan.y3],
+    }
+}
+
 // Marks the positions that the answer at position n settles.
 pub fn settle(
     marks: &mut [u8],
@@ -117,9 +127,5 @@ pub fn take_in(out: &mut [u8], count: usize, slots: usize, answer: Answer, links
     let Answer::Plan(plan) = answer else {
         return count;
     };
-    let own = Sums {
-        lowest: plan.sum,
-        highest: plan.sum,
-    };
-    insert_plan(out, count, slots, costs_of(plan), links, own)
+    insert_plan(out, count, slots, costs_of(plan), links)
 }

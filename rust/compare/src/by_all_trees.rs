@@ -103,25 +103,6 @@ impl Planner for ByAllTrees<'_> {
         plan.map(|plan| plan as u16).ok_or(Refusal::whole(13))
     }
 
-    fn tree_count(&self, _: &[u8]) -> Result<u16, Refusal> {
-        Ok(self.all.trees.len() as u16)
-    }
-
-    fn tree(&self, _: &[u8], number: u32, tree: &mut [u8]) -> Result<Costs, Refusal> {
-        let links = tree.get_mut(..self.all.yard.tree_len());
-        let links = links.ok_or(Refusal::whole(9))?;
-        let found = self.all.trees.get(number as usize);
-        let found = found.ok_or(Refusal::whole(13))?;
-        links.copy_from_slice(&found.links);
-        Ok(costs(found))
-    }
-
-    fn list_by_trees(&self, survey: &[u8], buffer: &mut [u8]) -> Result<(), Refusal> {
-        self.list(survey, u32::MAX, buffer)?;
-        buffer[4..8].fill(0);
-        Ok(())
-    }
-
     fn write_survey(&self, _: u32, _: &Figures, survey: &mut [u8]) -> Result<(), Refusal> {
         let written = survey.get_mut(..self.survey.len());
         written

@@ -7,7 +7,6 @@ use crate::list_bytes::Plans;
 use crate::planner::Planner;
 use crate::small_rules::due_small_survey;
 use crate::tally::{Call, Tally};
-use crate::tree_rules::{by_trees_fault, count_fault, tree_fault};
 use crate::write_rules::{write_fault, Request};
 use peer::records::MAX_CEILINGS;
 use peer::{Costs, Refusal};
@@ -188,50 +187,6 @@ impl<'a> Comparison<'a> {
         let outcome = hold(outcome, fault, describe)?;
         self.tally.smalls.count(number, lent.len(), outcome.reply);
         Ok(outcome)
-    }
-
-    /// Asks for the number of trees.
-    pub fn tree_count(&mut self, survey: &[u8]) -> Result<Outcome<u16>, Difference> {
-        let outcomes = self.planners.map(|planner| Outcome {
-            reply: planner.tree_count(survey),
-            bytes: Vec::new(),
-        });
-        let describe = || "tree count".to_string();
-        let outcome = self.settle(Call::TreeCount, outcomes, describe)?;
-        let fault = count_fault(survey, &outcome);
-        self.tally.trees.count_reply(survey, outcome.reply);
-        hold(outcome, fault, describe)
-    }
-
-    /// Asks for the tree of a number, with a buffer that holds the bytes of `lent`.
-    pub fn tree(
-        &mut self,
-        survey: &[u8],
-        number: u32,
-        lent: &[u8],
-    ) -> Result<Outcome<Costs>, Difference> {
-        let outcomes = self.planners.map(|planner| {
-            let mut bytes = lent.to_vec();
-            let reply = planner.tree(survey, number, &mut bytes);
-            Outcome { reply, bytes }
-        });
-        let describe = || format!("tree {number} lent {lent:?}");
-        let outcome = self.settle(Call::Tree, outcomes, describe)?;
-        let fault = tree_fault(survey, lent, &outcome);
-        hold(outcome, fault, describe)
-    }
-
-    /// Lists the plans by way of all trees, with a buffer that holds the bytes of `lent`.
-    pub fn list_by_trees(&mut self, survey: &[u8], lent: &[u8]) -> Result<Outcome<()>, Difference> {
-        let outcomes = self.planners.map(|planner| {
-            let mut bytes = lent.to_vec();
-            let reply = planner.list_by_trees(survey, &mut bytes);
-            Outcome { reply, bytes }
-        });
-        let describe = || format!("list by trees lent {} bytes", lent.len());
-        let outcome = self.settle(Call::ByTrees, outcomes, describe)?;
-        let fault = by_trees_fault(survey, lent, &outcome);
-        hold(outcome, fault, describe)
     }
 
     /// What is wrong if a planner does not take a survey that was written. One that it takes is

@@ -49,10 +49,9 @@ pub const DUE: Summary = Summary {
 };
 
 /// How often each call has to be made, in the order of `Call`: all lists of up to three of four links
-/// are drawn, and each list is fetched from, indexed and looked up in by its plans. Each tree is
-/// handed out, and one more is asked for.
+/// are drawn, and each list is fetched from, indexed and looked up in by its plans.
 pub fn due_calls() -> [u64; CALLS.len()] {
-    let [surveys, plans, trees] = [DUE.surveys, DUE.plans, DUE.trees].map(|count| count as u64);
+    let (surveys, plans) = (DUE.surveys as u64, DUE.plans as u64);
     [
         surveys * (1 + 4 + 16 + 64),
         surveys * 4 * 4,
@@ -62,9 +61,6 @@ pub fn due_calls() -> [u64; CALLS.len()] {
         surveys * 4,
         surveys * 3,
         0,
-        surveys,
-        (trees + surveys) * 4,
-        surveys * 3,
     ]
 }
 
@@ -80,7 +76,6 @@ pub fn run(planner: &dyn Planner, tally: &mut Tally) -> Result<Summary, Differen
         tree_calls(&mut comparison, survey)?;
         list_calls(&mut comparison, survey, &by_all_trees)?;
         write_back(&mut comparison, survey, &by_all_trees.all().yard)?;
-        calls_on_all_trees(&mut comparison, survey, &by_all_trees)?;
         summary.count(&by_all_trees);
     }
     Ok(summary)
@@ -167,26 +162,6 @@ fn list_calls(c: &mut Comparison, survey: &[u8], due: &ByAllTrees) -> Result<(),
     let index = c.index(&list, &vec![FILLING; 2 * plans])?.bytes;
     for value in VALUES {
         c.lookup(&list, &index, value)?;
-    }
-    Ok(())
-}
-
-/// Counts the trees, asks for each and for one more in buffers of all lengths, and lists by way of
-/// them in buffers around the need.
-fn calls_on_all_trees(
-    c: &mut Comparison,
-    survey: &[u8],
-    due: &ByAllTrees,
-) -> Result<(), Difference> {
-    c.tree_count(survey)?;
-    for number in 0..=due.all().trees.len() {
-        for room in 0..4 {
-            c.tree(survey, number as u32, &vec![FILLING; room])?;
-        }
-    }
-    let need = due.all().list_need();
-    for room in [need - 1, need, need + 1] {
-        c.list_by_trees(survey, &vec![FILLING; room])?;
     }
     Ok(())
 }

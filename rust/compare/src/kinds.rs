@@ -48,7 +48,7 @@ enum Damage {
 }
 
 /// All kinds, legal surveys first.
-pub const KINDS: [Kind; 43] = [
+pub const KINDS: [Kind; 35] = [
     legal(1, "small", 3000, small(Any, Free)),
     legal(2, "small, connected", 3000, small(Connected, Free)),
     legal(3, "small, opposed", 3000, small(Connected, Opposed)),
@@ -129,39 +129,6 @@ pub const KINDS: [Kind; 43] = [
         hard(40, Different).with_any_values(),
         EachPair,
     )),
-    legal(76, "12 links", 300, twelve(Any, Free)),
-    legal(77, "12 links, tied", 600, twelve(Connected, Tied)),
-    legal(78, "12 links, opposed", 300, twelve(Connected, Opposed)),
-    legal(79, "around 12 links", 1000, around_twelve(Any, Tied)),
-    triple(legal(
-        80,
-        "triple, 12 links",
-        200,
-        around_twelve(Connected, Opposed),
-    )),
-    with(
-        RESTING,
-        legal(
-            81,
-            "resting, around 12 links",
-            600,
-            around_twelve(Connected, Tied),
-        ),
-    ),
-    kind(
-        82,
-        "around 12 links, damaged",
-        20_000,
-        around_twelve(Any, Tied),
-        Random,
-    ),
-    kind(
-        83,
-        "around 12 links, damaged in pairs",
-        30,
-        around_twelve(Any, Free),
-        EachPair,
-    ),
 ];
 
 const fn legal(number: u64, name: &'static str, seeds: u64, recipe: Recipe) -> Kind {
@@ -251,16 +218,6 @@ pub const fn small(layout: Layout, values: Values) -> Recipe {
 /// Yards of at least two stations, small enough to list all trees.
 const fn few_links(values: Values) -> Recipe {
     Recipe::new(2..=6, 0..=9, Any, values)
-}
-
-/// Yards of as many links as those whose trees are gone through can have.
-const fn twelve(layout: Layout, values: Values) -> Recipe {
-    Recipe::new(2..=13, 12..=12, layout, values)
-}
-
-/// Yards of a few links less or more.
-const fn around_twelve(layout: Layout, values: Values) -> Recipe {
-    Recipe::new(2..=13, 11..=14, layout, values)
 }
 
 /// Yards of any legal size.

@@ -49,21 +49,6 @@ pub trait Planner {
     fn small_survey(&self, number: u32, survey: &mut [u8]) -> Result<(), Refusal> {
         peer::small_survey(number, survey)
     }
-
-    /// The number of trees.
-    fn tree_count(&self, survey: &[u8]) -> Result<u16, Refusal> {
-        peer::tree_count(survey)
-    }
-
-    /// The tree of a number.
-    fn tree(&self, survey: &[u8], number: u32, tree: &mut [u8]) -> Result<Costs, Refusal> {
-        peer::tree(survey, number, tree)
-    }
-
-    /// The list of plans by way of all trees.
-    fn list_by_trees(&self, survey: &[u8], buffer: &mut [u8]) -> Result<(), Refusal> {
-        peer::list_by_trees(survey, buffer)
-    }
 }
 
 /// The independent planner.
@@ -127,19 +112,6 @@ impl Planner for Archive {
 
     fn small_survey(&self, number: u32, survey: &mut [u8]) -> Result<(), Refusal> {
         ranqustei::small_survey(number, survey).map_err(refusal)
-    }
-
-    fn tree_count(&self, survey: &[u8]) -> Result<u16, Refusal> {
-        ranqustei::tree_count(survey).map_err(refusal)
-    }
-
-    fn tree(&self, survey: &[u8], number: u32, tree: &mut [u8]) -> Result<Costs, Refusal> {
-        let reply = ranqustei::tree(survey, number, tree);
-        reply.map(costs).map_err(refusal)
-    }
-
-    fn list_by_trees(&self, survey: &[u8], buffer: &mut [u8]) -> Result<(), Refusal> {
-        ranqustei::list_by_trees(survey, buffer).map_err(refusal)
     }
 }
 

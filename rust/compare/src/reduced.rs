@@ -5,7 +5,7 @@ use crate::planner::Planner;
 use peer::plan_list::HEAD_BYTES;
 use peer::records::{YardRecord, MAX_CEILINGS};
 use peer::rest::REST_BYTES;
-use peer::{Costs, Refusal, MAX_TREE_LINKS};
+use peer::{Costs, Refusal};
 
 /// Stands for a link that there is not.
 const NO_LINK: u8 = u8::MAX;
@@ -66,15 +66,6 @@ impl Reduced {
             *link = former.copied().unwrap_or(NO_LINK);
         }
     }
-
-    /// Puts the former numbers of links in the plans of a list.
-    fn restore_list(&self, list: &mut [u8]) {
-        let (used, len) = (used_bytes(list), plan_bytes(list));
-        let costs_bytes = plan_record(list[9]).costs_bytes;
-        for plan in list[HEAD_BYTES..used].chunks_exact_mut(len) {
-            self.restore(&mut plan[costs_bytes..]);
-        }
-    }
 }
 
 fn index_of(numbers: &[u8], number: u8) -> Option<u8> {
@@ -88,17 +79,6 @@ pub struct ByReduction<'a> {
     pub planner: &'a dyn Planner,
     /// The yard record of what is left.
     pub record: YardRecord,
-}
-
-impl ByReduction<'_> {
-    /// What is left of a survey, unless its own links are too many for all trees to be gone through.
-    fn with_few_links(&self, survey: &[u8]) -> Result<Reduced, Refusal> {
-        let own = YardRecord::of(survey);
-        match (survey.len() - own.bytes) / own.link.bytes {
-            0..=MAX_TREE_LINKS => Ok(Reduced::of(survey, self.record)),
-            _ => Err(Refusal::whole(21)),
-        }
-    }
 }
 
 impl Planner for ByReduction<'_> {
@@ -122,26 +102,11 @@ impl Planner for ByReduction<'_> {
     fn list(&self, survey: &[u8], allowance: u32, buffer: &mut [u8]) -> Result<(), Refusal> {
         let reduced = Reduced::of(survey, self.record);
         self.planner.list(&reduced.survey, allowance, buffer)?;
-        reduced.restore_list(buffer);
-        Ok(())
-    }
-
-    fn tree_count(&self, survey: &[u8]) -> Result<u16, Refusal> {
-        self.planner
-            .tree_count(&self.with_few_links(survey)?.survey)
-    }
-
-    fn tree(&self, survey: &[u8], number: u32, tree: &mut [u8]) -> Result<Costs, Refusal> {
-        let reduced = self.with_few_links(survey)?;
-        let costs = self.planner.tree(&reduced.survey, number, tree)?;
-        reduced.restore(&mut tree[..reduced.tree_len()]);
-        Ok(costs)
-    }
-
-    fn list_by_trees(&self, survey: &[u8], buffer: &mut [u8]) -> Result<(), Refusal> {
-        let reduced = self.with_few_links(survey)?;
-        self.planner.list_by_trees(&reduced.survey, buffer)?;
-        reduced.restore_list(buffer);
+        let (used, len) = (used_bytes(buffer), plan_bytes(buffer));
+        let costs_bytes = plan_record(buffer[9]).costs_bytes;
+        for plan in buffer[HEAD_BYTES..used].chunks_exact_mut(len) {
+            reduced.restore(&mut plan[costs_bytes..]);
+        }
         Ok(())
     }
 }

@@ -7,7 +7,6 @@ use crate::records::RecordTally;
 use crate::rests::{RestTally, REST_RECORDS};
 use crate::small_tally::SmallTally;
 use crate::sums::SumTally;
-use crate::tree_tally::TreeTally;
 use crate::triple_reasons::ReasonTally;
 use crate::write_tally::WriteTally;
 
@@ -30,19 +29,13 @@ pub enum Call {
     Write,
     /// A small survey.
     Small,
-    /// The number of trees.
-    TreeCount,
-    /// The tree of a number.
-    Tree,
-    /// The list of plans by way of all trees.
-    ByTrees,
 }
 
 /// The numbers that are replied end here; 0 is success.
-pub const NUMBERS: usize = 22;
+pub const NUMBERS: usize = 21;
 
 /// The name of each call in reports, and the numbers that it replies with, in the order of `Call`.
-pub const CALLS: [(&str, &[usize]); 11] = [
+pub const CALLS: [(&str, &[usize]); 8] = [
     ("judge", &[0, 1, 2, 3, 4, 5, 6, 7, 8, 11, 15, 18, 19]),
     ("best", &[0, 1, 2, 3, 4, 5, 6, 7, 8, 9, 14, 15, 18, 19]),
     ("list", &[0, 1, 2, 3, 4, 5, 6, 7, 8, 9, 10, 15, 18, 19]),
@@ -51,12 +44,6 @@ pub const CALLS: [(&str, &[usize]); 11] = [
     ("lookup", &[0, 12, 13, 16]),
     ("write", &[0, 2, 3, 4, 5, 6, 7, 8, 17]),
     ("small survey", &[0, 17, 20]),
-    ("tree count", &[0, 1, 2, 3, 4, 5, 6, 7, 8, 15, 18, 19, 21]),
-    ("tree", &[0, 1, 2, 3, 4, 5, 6, 7, 8, 9, 13, 15, 18, 19, 21]),
-    (
-        "list by trees",
-        &[0, 1, 2, 3, 4, 5, 6, 7, 8, 9, 15, 18, 19, 21],
-    ),
 ];
 
 /// How much was compared.
@@ -88,8 +75,6 @@ pub struct Tally {
     pub writes: WriteTally,
     /// Which small surveys were asked for.
     pub smalls: SmallTally,
-    /// Which yards all trees were asked for.
-    pub trees: TreeTally,
 }
 
 impl Tally {
@@ -121,7 +106,6 @@ impl Tally {
         self.indexes.add(&other.indexes);
         self.writes.add(&other.writes);
         self.smalls.add(&other.smalls);
-        self.trees.add(&other.trees);
         let replies = self.replies.as_flattened_mut().iter_mut();
         for (count, more) in replies.zip(other.replies.as_flattened()) {
             *count += more;

@@ -3,7 +3,7 @@
 //!
 //! It is written from the documents alone and shares nothing with the proved planner, so that
 //! the two can be held against each other. `walk` answers for any yard, `listing` by
-//! listing all trees for yards that have few, and the calls on all trees go by `spanning`.
+//! listing all trees for yards that have few.
 
 #![forbid(unsafe_code)]
 
@@ -18,9 +18,7 @@ pub mod records;
 mod reply;
 pub mod rest;
 mod small;
-mod spanning;
 pub mod survey;
-mod trees;
 pub mod walk;
 mod writing;
 
@@ -33,9 +31,7 @@ use positions::Positions;
 use records::MAX_CEILINGS;
 pub use reply::{Costs, Refusal};
 pub use small::{small_survey, SMALL_SURVEYS, SMALL_SURVEY_BYTES};
-pub use spanning::MAX_TREE_LINKS;
 use survey::Yard;
-pub use trees::{list_by_trees, tree, tree_count};
 use walk::Walk;
 pub use writing::{write_survey, Figures};
 

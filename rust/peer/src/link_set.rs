@@ -5,11 +5,6 @@
 pub struct LinkSet(u64);
 
 impl LinkSet {
-    /// The set of the links whose bits are set.
-    pub fn of(bits: u16) -> LinkSet {
-        LinkSet(bits.into())
-    }
-
     /// The set with one more link.
     pub fn with(self, link: u8) -> LinkSet {
         LinkSet(self.0 | 1 << link)

@@ -33,12 +33,6 @@ impl Plan {
 
 /// The k-th largest of at least k values, equal ones counted separately.
 fn kth_largest(values: impl Iterator<Item = i16>, k: usize) -> i16 {
-    largest(values, k)[k - 1]
-}
-
-/// The k largest of some values, falling, equal ones counted separately; where they are fewer, the
-/// lowest value there is stands for the others.
-pub fn largest(values: impl Iterator<Item = i16>, k: usize) -> [i16; MAX_RANK] {
     let mut largest = [i16::MIN; MAX_RANK];
     for mut value in values {
         for slot in &mut largest[..k] {
@@ -47,7 +41,7 @@ pub fn largest(values: impl Iterator<Item = i16>, k: usize) -> [i16; MAX_RANK] {
             }
         }
     }
-    largest
+    largest[k - 1]
 }
 
 #[cfg(test)]

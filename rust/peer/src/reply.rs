@@ -5,7 +5,7 @@ use crate::records::MAX_CEILINGS;
 /// Why a call declined: its number, and the place where the number has one.
 #[derive(Clone, Copy, PartialEq, Eq, Debug)]
 pub struct Refusal {
-    /// The number of the cause, 1 to 21.
+    /// The number of the cause, 1 to 20.
     pub number: u8,
     /// 0 for the yard record, link number plus 1 for a link.
     pub place: u8,

@@ -5,16 +5,13 @@
 #![allow(unsafe_code)]
 
 /// The version of what is declared here; [`ranqustei_version`] is the archive's own.
-pub const VERSION: u32 = 10;
+pub const VERSION: u32 = 9;
 
 /// The number of small surveys.
 pub const SMALL_SURVEYS: u32 = 1728;
 
 /// The bytes of each small survey.
 pub const SMALL_SURVEY_BYTES: usize = 42;
-
-/// The most links of a survey whose trees are counted and handed out.
-pub const TREES_LINKS: usize = 12;
 
 /// The figures of a yard record that is written.
 #[repr(C)]
@@ -30,8 +27,8 @@ pub struct Yard {
     pub k2: u8,
 }
 
-/// The reply of the two list calls, of the index call, of writing and of the small surveys: number 0
-/// and place 0, or the refusal and its place.
+/// The reply of the list call, of the index call, of writing and of the small surveys: number 0 and
+/// place 0, or the refusal and its place.
 #[repr(C)]
 #[derive(Clone, Copy, PartialEq, Eq, Debug)]
 pub struct Status {
@@ -41,8 +38,8 @@ pub struct Status {
     pub place: u8,
 }
 
-/// The reply of the judge, of the ceilings question and of tree r: number 0, place 0 and a plan's
-/// costs, or the refusal and its place with costs 0.
+/// The reply of the judge and of the ceilings question: number 0, place 0 and a plan's costs, or
+/// the refusal and its place with costs 0.
 #[repr(C)]
 #[derive(Clone, Copy, PartialEq, Eq, Debug)]
 pub struct Reply {
@@ -84,19 +81,6 @@ pub struct Found {
     pub place: u8,
     /// The number of the plan.
     pub plan: u16,
-}
-
-/// The reply of the number of trees: number 0, place 0 and the count, or the refusal and its place
-/// with count 0.
-#[repr(C)]
-#[derive(Clone, Copy, PartialEq, Eq, Debug)]
-pub struct Count {
-    /// The number.
-    pub number: u8,
-    /// The place.
-    pub place: u8,
-    /// How many trees there are.
-    pub count: u16,
 }
 
 unsafe extern "C" {
@@ -192,33 +176,4 @@ unsafe extern "C" {
     /// # Safety
     /// The pointer points to as many bytes as its length says.
     pub unsafe fn ranqustei_small_survey(q: u32, survey: *mut u8, survey_length: usize) -> Status;
-
-    /// The number of trees of a yard of at most 12 links.
-    ///
-    /// # Safety
-    /// The pointer points to as many bytes as its length says.
-    pub unsafe fn ranqustei_tree_count(survey: *const u8, survey_length: usize) -> Count;
-
-    /// Tree r of a yard of at most 12 links, from 0 in dictionary order.
-    ///
-    /// # Safety
-    /// Each pointer points to as many bytes as its length says; `tree` overlaps nothing else.
-    pub unsafe fn ranqustei_tree(
-        survey: *const u8,
-        survey_length: usize,
-        r: u32,
-        tree: *mut u8,
-        tree_length: usize,
-    ) -> Reply;
-
-    /// The list of plans of a yard of at most 12 links, by way of all its trees.
-    ///
-    /// # Safety
-    /// Each pointer points to as many bytes as its length says; `buffer` overlaps nothing else.
-    pub unsafe fn ranqustei_list_by_trees(
-        survey: *const u8,
-        survey_length: usize,
-        buffer: *mut u8,
-        buffer_length: usize,
-    ) -> Status;
 }

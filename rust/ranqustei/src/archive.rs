@@ -4,8 +4,7 @@ use crate::refusal::{Refusal, DAMAGED};
 use crate::{Costs, Figures, CEILINGS};
 use ranqustei_sys::{
     ranqustei_best, ranqustei_fetch, ranqustei_index, ranqustei_index_lookup, ranqustei_judge,
-    ranqustei_list, ranqustei_list_by_trees, ranqustei_small_survey, ranqustei_tree,
-    ranqustei_tree_count, ranqustei_write_survey, Reply, Yard,
+    ranqustei_list, ranqustei_small_survey, ranqustei_write_survey, Reply, Yard,
 };
 
 /// Nothing for number 0, else the refusal.
@@ -189,60 +188,5 @@ pub fn write_survey(kind: u32, figures: &Figures, survey: &mut [u8]) -> Result<(
 pub fn small_survey(number: u32, survey: &mut [u8]) -> Result<(), Refusal> {
     // SAFETY: the pointer is that of a live slice, borrowed for writing, and goes with its length.
     let status = unsafe { ranqustei_small_survey(number, survey.as_mut_ptr(), survey.len()) };
-    settle(status.number, status.place)
-}
-
-/// Counts the trees of a yard of at most 12 links, which are [`TREES_LINKS`](crate::TREES_LINKS),
-/// usable or not. A yard that has no tree has 0 of them.
-///
-/// # Errors
-/// 1 to 8, 15, 18 or 19 for the survey, 21 at place 0 if it has over 12 links.
-pub fn tree_count(survey: &[u8]) -> Result<u16, Refusal> {
-    // SAFETY: the pointer is that of a live slice and goes with its length. The call only reads.
-    let counted = unsafe { ranqustei_tree_count(survey.as_ptr(), survey.len()) };
-    settle(counted.number, counted.place)?;
-    Ok(counted.count)
-}
-
-/// Hands out a tree of a yard of at most 12 links, by its number: its costs. Trees are numbered from
-/// 0 in dictionary order of their link numbers. Its t link numbers go to the first t bytes of `tree`;
-/// the bytes after them stay.
-///
-/// # Errors
-/// 1 to 8, 15, 18 or 19 for the survey, 21 if it has over 12 links, 9 if `tree` is below t bytes, 13
-/// if `number` is not below the number of trees. `tree` then stays as it was.
-pub fn tree(survey: &[u8], number: u32, tree: &mut [u8]) -> Result<Costs, Refusal> {
-    // SAFETY: each pointer is that of a live slice and goes with its length. `tree` is borrowed
-    // for writing, so that it does not overlap the survey.
-    let reply = unsafe {
-        ranqustei_tree(
-            survey.as_ptr(),
-            survey.len(),
-            number,
-            tree.as_mut_ptr(),
-            tree.len(),
-        )
-    };
-    costs(reply)
-}
-
-/// Writes the list of plans of a yard of at most 12 links into `buffer`, by way of all its trees: the
-/// same bytes as [`list`], also after the last plan, but with the solved count 0. No position is
-/// solved, and there is no allowance. 56,010 bytes are always enough.
-///
-/// # Errors
-/// 1 to 8, 15, 18 or 19 for the survey, 21 if it has over 12 links, 9 if `buffer` is below its need:
-/// it then stays as it was.
-pub fn list_by_trees(survey: &[u8], buffer: &mut [u8]) -> Result<(), Refusal> {
-    // SAFETY: each pointer is that of a live slice and goes with its length. `buffer` is borrowed
-    // for writing, so that it does not overlap the survey.
-    let status = unsafe {
-        ranqustei_list_by_trees(
-            survey.as_ptr(),
-            survey.len(),
-            buffer.as_mut_ptr(),
-            buffer.len(),
-        )
-    };
     settle(status.number, status.place)
 }

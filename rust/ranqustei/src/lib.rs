@@ -1,10 +1,9 @@
 //! The planner of the radio links of bee yards, for Rust callers.
 //!
 //! The planner itself is proved and comes as an archive. [`judge`], [`best`], [`list`], [`fetch`],
-//! [`index`], [`index_lookup`], [`write_survey`], [`small_survey`], [`tree_count`], [`tree`] and
-//! [`list_by_trees`] are its calls on slices: they allocate nothing and take any bytes and figures.
-//! [`Yard`], [`Survey`], [`Plan`], [`PlanList`], [`PlanIndex`], [`SmallSurveys`] and [`Trees`] are the
-//! same calls on values.
+//! [`index`], [`index_lookup`], [`write_survey`] and [`small_survey`] are its calls on slices: they
+//! allocate nothing and take any bytes and figures. [`Yard`], [`Survey`], [`Plan`], [`PlanList`],
+//! [`PlanIndex`] and [`SmallSurveys`] are the same calls on values.
 //!
 //! A yard has stations and links between them; some stations may rest. A plan is a tree: it connects
 //! all working stations without a ring, by links that end at none that rests. Its sum is taken over
@@ -42,10 +41,6 @@
 //! // The costs of a drawn plan.
 //! let drawn = survey.judge(&[0, 2])?;
 //! assert_eq!((drawn.costs.sum, drawn.ceiling_costs()), (5, vec![9]));
-//!
-//! // Every tree, whether another beats it or not: at most 12 links.
-//! let lines: Vec<String> = survey.trees()?.map(|tree| tree.to_string()).collect();
-//! assert_eq!(lines, ["7 7 links 0 1", "5 9 links 0 2", "4 9 links 1 2"]);
 //! # Ok::<(), Box<dyn std::error::Error>>(())
 //! ```
 //!
@@ -64,12 +59,6 @@
 //! assert_eq!(index, [1, 0, 0, 0]);
 //! assert_eq!(ranqustei::index_lookup(&buffer, &index, 8)?, 1);
 //! assert_eq!(ranqustei::judge(survey, &[0, 2])?.sum, 5);
-//! let mut tree = [0; 2];
-//! assert_eq!(ranqustei::tree_count(survey)?, 3);
-//! assert_eq!(ranqustei::tree(survey, 1, &mut tree)?.sum, 5);
-//! assert_eq!(tree, [0, 2]);
-//! ranqustei::list_by_trees(survey, &mut buffer)?;
-//! assert_eq!(ranqustei::fetch(&buffer, 1)?, [0, 1]);
 //! # Ok::<(), ranqustei::Refusal>(())
 //! ```
 
@@ -91,21 +80,16 @@ mod refusal;
 mod rest;
 mod small_surveys;
 mod survey;
-mod trees;
 mod yard;
 
-pub use archive::{
-    best, fetch, index, index_lookup, judge, list, list_by_trees, small_survey, tree, tree_count,
-    write_survey,
-};
+pub use archive::{best, fetch, index, index_lookup, judge, list, small_survey, write_survey};
 pub use figures::Figures;
 pub use plan::{Costs, Plan, CEILINGS};
 pub use plan_index::PlanIndex;
 pub use plan_list::PlanList;
-pub use ranqustei_sys::{SMALL_SURVEYS, SMALL_SURVEY_BYTES, TREES_LINKS};
+pub use ranqustei_sys::{SMALL_SURVEYS, SMALL_SURVEY_BYTES};
 pub use record::YardRecord;
 pub use refusal::{Cause, Refusal};
 pub use small_surveys::{small_surveys, SmallSurveys};
 pub use survey::Survey;
-pub use trees::Trees;
 pub use yard::{Link, Yard, YardError};

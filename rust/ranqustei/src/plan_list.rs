@@ -44,8 +44,7 @@ impl PlanList {
         self.len == 0
     }
 
-    /// The solved count: the number of positions that the walk solved; 0 in a list that was made by
-    /// way of all trees.
+    /// The solved count: the number of positions that the walk solved.
     pub fn solved(&self) -> u32 {
         self.solved
     }

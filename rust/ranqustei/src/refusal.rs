@@ -7,7 +7,7 @@ use std::fmt;
 #[derive(Clone, Copy, PartialEq, Eq, Debug)]
 #[non_exhaustive]
 pub struct Refusal {
-    /// The number of the cause, 1 to 21.
+    /// The number of the cause, 1 to 20.
     pub number: u8,
     /// 0 for the yard record or no record, else the link number plus 1.
     pub place: u8,
@@ -49,8 +49,7 @@ pub enum Cause {
     Drawn,
     /// 12: the plan list is damaged, or the index is not its own.
     Damaged,
-    /// 13: the list has no plan of this number, or none that meets the value, or the yard has no tree
-    /// of this number.
+    /// 13: the list has no plan of this number, or none that meets the value.
     PlanNumber,
     /// 14: no tree fits the ceilings.
     NoTree,
@@ -66,8 +65,6 @@ pub enum Cause {
     Positions,
     /// 20: the number of a small survey is not below 1,728.
     SurveyNumber,
-    /// 21: there are over 12 links, and the call goes through all trees.
-    TreesLinks,
     /// A number that the planner never gives.
     Unknown(u8),
 }
@@ -96,7 +93,6 @@ impl Refusal {
             18 => Cause::Resting,
             19 => Cause::Positions,
             20 => Cause::SurveyNumber,
-            21 => Cause::TreesLinks,
             number => Cause::Unknown(number),
         }
     }
@@ -145,7 +141,7 @@ impl Cause {
             Cause::Allowance => "the walk would solve more positions than the allowance",
             Cause::Drawn => DRAWN_RULE,
             Cause::Damaged => "the plan list is damaged, or the index is not its own",
-            Cause::PlanNumber => "the list has no such plan, or the yard no such tree",
+            Cause::PlanNumber => "the list has no such plan",
             Cause::NoTree => "no tree fits the ceilings",
             Cause::LinkCount => {
                 "the survey has more or fewer links than its yard record counts: it may be cut off"
@@ -158,9 +154,6 @@ impl Cause {
                  ceiling, multiplied"
             }
             Cause::SurveyNumber => "there are 1,728 small surveys, numbered from 0",
-            Cause::TreesLinks => {
-                "the yard has over 12 links, usable or not: too many to go through all its trees"
-            }
             Cause::Unknown(_) => "refused for an unknown cause",
         }
     }
@@ -191,7 +184,7 @@ mod tests {
 
     #[test]
     fn numbers_that_the_planner_never_gives() {
-        for number in [0, 22, 255] {
+        for number in [0, 21, 255] {
             let refusal = Refusal { number, place: 2 };
             assert_eq!(refusal.cause(), Cause::Unknown(number));
             assert_eq!(

@@ -1,9 +1,8 @@
 //! A survey that the planner accepts, and the questions to it.
 
 use crate::record::{plan_len, HEAD_LEN};
-use crate::{best, judge, list, list_by_trees, small_survey, tree, tree_count};
-use crate::{Cause, Costs, Plan, PlanList, Refusal, Trees, Yard, YardRecord};
-use crate::{CEILINGS, SMALL_SURVEY_BYTES};
+use crate::{best, judge, list, small_survey, Cause, Costs, Plan, PlanList, Refusal, Yard};
+use crate::{YardRecord, CEILINGS, SMALL_SURVEY_BYTES};
 use std::collections::BTreeSet;
 
 /// Survey bytes that the planner accepts.
@@ -114,35 +113,6 @@ impl Survey {
     pub fn list(&self, allowance: u32) -> Result<PlanList, Refusal> {
         let mut buffer = vec![0; self.list_need()];
         list(&self.bytes, allowance, &mut buffer)?;
-        PlanList::from_bytes(buffer)
-    }
-
-    /// Every tree of the yard by rising number, whether another beats it or not.
-    ///
-    /// # Errors
-    /// 21 if the yard has over 12 links, usable or not.
-    pub fn trees(&self) -> Result<Trees<'_>, Refusal> {
-        Ok(Trees::numbered(self, tree_count(&self.bytes)?))
-    }
-
-    /// The tree of one number; [`Trees`] says how they are numbered.
-    ///
-    /// # Errors
-    /// 21 if the yard has over 12 links, usable or not; 13 if it has no such tree.
-    pub fn tree(&self, number: u32) -> Result<Plan, Refusal> {
-        let mut links = vec![0; self.yard.tree_links()];
-        let costs = tree(&self.bytes, number, &mut links)?;
-        Ok(self.plan(costs, links))
-    }
-
-    /// Every plan that no other plan beats, by way of all trees: the plans of [`Survey::plans`] with a
-    /// solved count of 0.
-    ///
-    /// # Errors
-    /// 21 if the yard has over 12 links, usable or not.
-    pub fn list_by_trees(&self) -> Result<PlanList, Refusal> {
-        let mut buffer = vec![0; self.list_need()];
-        list_by_trees(&self.bytes, &mut buffer)?;
         PlanList::from_bytes(buffer)
     }
 

@@ -58,5 +58,4 @@ fn the_header_has_the_same_figures() {
     assert_eq!(figure("SMALL_SURVEYS"), Some(surveys));
     let bytes = ranqustei_sys::SMALL_SURVEY_BYTES;
     assert_eq!(figure("SMALL_SURVEY_BYTES"), Some(bytes));
-    assert_eq!(figure("TREES_LINKS"), Some(ranqustei_sys::TREES_LINKS));
 }

@@ -5,46 +5,39 @@ use crate::drawing::draw;
 use crate::failure::Failure;
 use crate::figures::counted;
 use crate::files::{named, read_index, read_list, read_survey, shown};
-use crate::refused::{refused, refused_as, OF_INDEX, OF_LIST};
 use crate::table::table;
 use crate::text;
-use crate::trees::trees;
 use crate::words::{number, Words};
-use ranqustei::{fetch, Plan, PlanIndex, PlanList, Survey, YardRecord, CEILINGS};
+use ranqustei::{fetch, Cause, Plan, PlanIndex, PlanList, Refusal, Survey, YardRecord, CEILINGS};
 use std::ffi::{OsStr, OsString};
 use std::io::Read;
 
-/// The commands, what they take, and their options.
-const COMMANDS: [(&str, &str, &[&str]); 12] = [
-    ("plans", "YARD", &[]),
-    ("best", "YARD BOUND...", &[]),
-    ("judge", "YARD LINK...", &[]),
-    (
-        "trees",
-        "YARD [--from R] [--count N]",
-        &["--from", "--count"],
-    ),
-    ("text", "YARD", &[]),
-    (
-        "survey",
-        "YARD [--record plain|counted|resting|triple]",
-        &["--record"],
-    ),
-    ("list", "YARD", &[]),
-    ("fetch", "FILE.list PLAN", &[]),
-    ("index", "FILE.list", &[]),
-    ("cheapest", "FILE.list FILE.index BOUND", &[]),
-    ("draw", "YARD [--plan PLAN]", &["--plan"]),
-    ("frontier", "YARD", &[]),
+/// The commands and what they take.
+const COMMANDS: [(&str, &str); 11] = [
+    ("plans", "YARD"),
+    ("best", "YARD BOUND..."),
+    ("judge", "YARD LINK..."),
+    ("text", "YARD"),
+    ("survey", "YARD [--record plain|counted|resting|triple]"),
+    ("list", "YARD"),
+    ("fetch", "FILE.list PLAN"),
+    ("index", "FILE.list"),
+    ("cheapest", "FILE.list FILE.index BOUND"),
+    ("draw", "YARD [--plan PLAN]"),
+    ("frontier", "YARD"),
 ];
 
 /// What a bound is.
 const BOUND: &str = "bound, a number from -32768 to 32767";
+/// What number 12 says of a list.
+const DAMAGED_LIST: &str = "the plan list is damaged";
+/// What number 12 says of an index, where the list is not damaged.
+const OTHER_INDEX: &str = "the index is not that of the plan list";
 
 /// The result of a command.
 pub fn answer(command: &OsStr, words: &Words, input: &mut dyn Read) -> Result<Vec<u8>, Failure> {
-    let known = COMMANDS.iter().find(|(name, ..)| command == *name);
-    let Some(&(command, takes, options)) = known else {
+    let known = COMMANDS.iter().find(|(name, _)| command == *name);
+    let Some(&(command, takes)) = known else {
         return Err(Failure::usage(format!(
             "`{}` is no command",
             command.display()
@@ -55,23 +48,37 @@ pub fn answer(command: &OsStr, words: &Words, input: &mut dyn Read) -> Result<Ve
             "the command is `yard {command} {takes} [-o FILE]`"
         )))
     };
-    let ([file, rest @ ..], true) = (words.operands.as_slice(), words.has_only(options)) else {
+    let ([file, rest @ ..], false) = (words.operands.as_slice(), words.all) else {
         return wrong();
     };
-    match (command, rest) {
-        ("fetch", [plan]) => fetched(file, plan, input),
-        ("index", []) => index(file, &read_plans(file, input)?),
-        ("cheapest", [index, bound]) => cheapest(file, index, bound, input),
-        ("draw", []) => drawn(file, &read_survey(file, input)?, words.plan),
-        ("best", bounds) => best(file, &read_survey(file, input)?, bounds),
-        ("judge", links) => judge(file, &read_survey(file, input)?, links),
-        ("trees", []) => trees(file, &read_survey(file, input)?, words.from, words.count),
-        ("plans", []) => plans(file, &read_survey(file, input)?),
-        ("text", []) => Ok(text::write(read_survey(file, input)?.yard()).into_bytes()),
-        ("survey", []) => survey(file, &read_survey(file, input)?, words.record),
-        ("list", []) => list(file, &read_survey(file, input)?),
-        ("frontier", []) => frontier(file, &read_survey(file, input)?),
+    match (command, rest, words.plan, words.record) {
+        ("fetch", [plan], None, None) => fetched(file, plan, input),
+        ("index", [], None, None) => index(file, &read_plans(file, input)?),
+        ("cheapest", [index, bound], None, None) => cheapest(file, index, bound, input),
+        ("draw", [], plan, None) => drawn(file, &read_survey(file, input)?, plan),
+        ("best", bounds, None, None) => best(file, &read_survey(file, input)?, bounds),
+        ("judge", links, None, None) => judge(file, &read_survey(file, input)?, links),
+        ("plans", [], None, None) => plans(file, &read_survey(file, input)?),
+        ("text", [], None, None) => Ok(text::write(read_survey(file, input)?.yard()).into_bytes()),
+        ("survey", [], None, record) => survey(file, &read_survey(file, input)?, record),
+        ("list", [], None, None) => list(file, &read_survey(file, input)?),
+        ("frontier", [], None, None) => frontier(file, &read_survey(file, input)?),
         _ => wrong(),
+    }
+}
+
+/// A refusal that speaks of a file.
+fn refused(file: &OsStr) -> impl Fn(Refusal) -> Failure + '_ {
+    move |refusal| named(file, refusal)
+}
+
+/// A refusal that speaks of a stored file; number 12 has the words for this file.
+fn refused_as<'a>(file: &'a OsStr, words: &'a str) -> impl Fn(Refusal) -> Failure + 'a {
+    move |refusal| match (refusal.cause(), refusal.number, refusal.place) {
+        (Cause::Damaged, number, place) => {
+            named(file, format!("{words} (number {number}, place {place})"))
+        }
+        _ => named(file, refusal),
     }
 }
 
@@ -103,14 +110,14 @@ fn list(file: &OsStr, survey: &Survey) -> Result<Vec<u8>, Failure> {
 fn fetched(file: &OsStr, plan: &OsStr, input: &mut dyn Read) -> Result<Vec<u8>, Failure> {
     let plan = number(plan, "plan number")?;
     let list = read_list(file, input)?;
-    let links = fetch(&list, plan).map_err(refused_as(file, OF_LIST))?;
+    let links = fetch(&list, plan).map_err(refused_as(file, DAMAGED_LIST))?;
     let links: Vec<String> = links.iter().map(u8::to_string).collect();
     Ok((links.join(" ") + "\n").into_bytes())
 }
 
 /// The plans of a stored list, all of which can be fetched.
 fn read_plans(file: &OsStr, input: &mut dyn Read) -> Result<PlanList, Failure> {
-    PlanList::from_bytes(read_list(file, input)?).map_err(refused_as(file, OF_LIST))
+    PlanList::from_bytes(read_list(file, input)?).map_err(refused_as(file, DAMAGED_LIST))
 }
 
 fn index(file: &OsStr, plans: &PlanList) -> Result<Vec<u8>, Failure> {
@@ -126,10 +133,8 @@ fn cheapest(
     let bound = number(bound, BOUND)?;
     let plans = read_plans(list_file, input)?;
     let index = PlanIndex::from_bytes(&plans, read_index(index_file, input)?)
-        .map_err(refused_as(index_file, OF_INDEX))?;
-    let (number, plan) = index
-        .cheapest(bound)
-        .map_err(refused_as(list_file, OF_LIST))?;
+        .map_err(refused_as(index_file, OTHER_INDEX))?;
+    let (number, plan) = index.cheapest(bound).map_err(refused(list_file))?;
     Ok(table(&[], &[plan], Some(number)).into_bytes())
 }
 
@@ -165,7 +170,7 @@ fn drawn(file: &OsStr, survey: &Survey, number: Option<u32>) -> Result<Vec<u8>, 
     let plan = survey
         .plans()
         .and_then(|list| list.get(number))
-        .map_err(refused_as(file, OF_LIST))?;
+        .map_err(refused(file))?;
     Ok(draw(yard, Some((number, &plan))).into_bytes())
 }
 

@@ -16,13 +16,11 @@ mod figures;
 mod files;
 mod labels;
 mod layout;
-mod refused;
 mod small;
 mod store;
 mod svg;
 mod table;
 mod text;
-mod trees;
 mod words;
 
 pub use failure::Failure;

@@ -1,58 +1,39 @@
-//! Plans and trees as tables for people.
+//! Plans as a table for people.
 
 use ranqustei::{Link, Plan};
-
-/// A column of a table: its heading, then a cell for each row.
-type Column = Vec<String>;
 
 /// A table of plans: their numbers from `first` on if they stand in a list, costs and links. The
 /// links have their stations where the yard's links are known.
 pub fn table(yard_links: &[Link], plans: &[Plan], first: Option<u32>) -> String {
-    let numbers = first.map(|first| numbers("plan", first, plans));
-    let figures: Vec<Column> = numbers.into_iter().chain(costs(plans)).collect();
-    lines(&figures, &links(yard_links, plans))
-}
-
-/// A table of trees: their numbers from `first` on, costs, what each is in the list of plans, links.
-pub fn tree_table(yard_links: &[Link], trees: &[Plan], first: u32, listed: Vec<String>) -> String {
-    let mut figures = vec![numbers("tree", first, trees)];
-    figures.extend(costs(trees));
-    figures.push(column("plan", listed));
-    lines(&figures, &links(yard_links, trees))
-}
-
-fn column(heading: &str, cells: impl IntoIterator<Item = String>) -> Column {
-    [heading.to_string()].into_iter().chain(cells).collect()
-}
-
-fn numbers(heading: &str, first: u32, plans: &[Plan]) -> Column {
-    let numbers = (first..).zip(plans).map(|(number, _)| number.to_string());
-    column(heading, numbers)
-}
-
-/// The column of sums, and one for each ceiling.
-fn costs(plans: &[Plan]) -> Vec<Column> {
     let ceilings = plans.first().map_or(0, |plan| plan.ceilings);
-    let sums = plans.iter().map(|plan| plan.costs.sum.to_string());
-    let mut columns = vec![column("sum", sums)];
-    for ceiling in 0..ceilings {
-        let costs = plans
-            .iter()
-            .flat_map(|plan| plan.costs.ceilings.get(ceiling));
-        columns.push(column(
-            &format!("ceiling {}", ceiling + 1),
-            costs.map(i16::to_string),
-        ));
+    let mut rows = vec![heading(ceilings, first.is_some())];
+    for (plan, place) in plans.iter().zip(0..) {
+        rows.push(row(yard_links, plan, first.map(|first| first + place)));
     }
-    columns
+    let widths = widths(&rows);
+    rows.iter().map(|row| aligned(row, &widths)).collect()
 }
 
-fn links(yard_links: &[Link], plans: &[Plan]) -> Column {
-    column("links", plans.iter().map(|plan| links_of(yard_links, plan)))
+fn heading(ceilings: usize, numbered: bool) -> Vec<String> {
+    let mut row = Vec::new();
+    row.extend(numbered.then(|| "plan".to_string()));
+    row.push("sum".to_string());
+    row.extend((1..=ceilings).map(|ceiling| format!("ceiling {ceiling}")));
+    row.push("links".to_string());
+    row
+}
+
+fn row(yard_links: &[Link], plan: &Plan, number: Option<u32>) -> Vec<String> {
+    let mut row = Vec::new();
+    row.extend(number.map(|number| number.to_string()));
+    row.push(plan.costs.sum.to_string());
+    row.extend(plan.ceiling_costs().iter().map(i16::to_string));
+    row.push(links(yard_links, plan));
+    row
 }
 
 /// The links of a plan with their stations, as in `0: 0–1, 1: 1–2`, or without, as in `0, 1`.
-fn links_of(yard_links: &[Link], plan: &Plan) -> String {
+fn links(yard_links: &[Link], plan: &Plan) -> String {
     if plan.links.is_empty() {
         return "none".to_string();
     }
@@ -64,17 +45,26 @@ fn links_of(yard_links: &[Link], plan: &Plan) -> String {
     links.join(", ")
 }
 
-/// The lines of a table: figures to the right, and the links last, to the left.
-fn lines(figures: &[Column], links: &[String]) -> String {
-    let width = |column: &Column| column.iter().map(|cell| cell.chars().count()).max();
-    let widths: Vec<usize> = figures.iter().filter_map(width).collect();
-    let mut text = String::new();
-    for (row, links) in links.iter().enumerate() {
-        for (column, &width) in figures.iter().zip(&widths) {
-            let cell = column.get(row).map_or("", String::as_str);
-            text += &format!("{cell:>width$}  ");
+/// The width of each column.
+fn widths(rows: &[Vec<String>]) -> Vec<usize> {
+    let mut widths = Vec::new();
+    for row in rows {
+        widths.resize(row.len(), 0);
+        for (width, cell) in widths.iter_mut().zip(row) {
+            *width = cell.chars().count().max(*width);
         }
-        text += &format!("{links}\n");
     }
-    text
+    widths
+}
+
+/// A line of the table: figures to the right, and the links last, to the left.
+fn aligned(row: &[String], widths: &[usize]) -> String {
+    let Some((links, figures)) = row.split_last() else {
+        return String::new();
+    };
+    let figures = figures
+        .iter()
+        .zip(widths)
+        .map(|(cell, &width)| format!("{cell:>width$}  "));
+    figures.chain([format!("{links}\n")]).collect()
 }

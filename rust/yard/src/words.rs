@@ -3,11 +3,7 @@
 use crate::failure::Failure;
 use ranqustei::YardRecord;
 use std::ffi::{OsStr, OsString};
-use std::num::IntErrorKind;
 use std::str::FromStr;
-
-/// The options that some commands take; every command takes `-o`.
-const OPTIONS: [&str; 5] = ["--all", "--plan", "--record", "--from", "--count"];
 
 /// The words after the command.
 #[derive(Default)]
@@ -22,12 +18,6 @@ pub struct Words {
     pub plan: Option<u32>,
     /// The yard record of `--record`.
     pub record: Option<YardRecord>,
-    /// The tree number of `--from`.
-    pub from: Option<u32>,
-    /// The number of trees of `--count`.
-    pub count: Option<u32>,
-    /// The options that are there, but for `-o`.
-    given: Vec<&'static str>,
 }
 
 impl Words {
@@ -36,31 +26,20 @@ impl Words {
         let mut sorted = Words::default();
         let mut words = words.into_iter();
         while let Some(word) = words.next() {
-            let mut next = || value(&word, words.next());
             match word.to_str() {
-                Some("-o") => sorted.output = Some(next()?),
+                Some("-o") => sorted.output = Some(value(&word, words.next())?),
                 Some("--all") => sorted.all = true,
-                Some("--plan") => sorted.plan = Some(number(&next()?, "plan number")?),
-                Some("--record") => sorted.record = Some(record(&next()?)?),
-                Some("--from") => sorted.from = Some(call_number(&next()?, "tree number")?),
-                Some("--count") => sorted.count = Some(call_number(&next()?, "number of trees")?),
+                Some("--plan") => {
+                    sorted.plan = Some(number(&value(&word, words.next())?, "plan number")?)
+                }
+                Some("--record") => sorted.record = Some(record(&value(&word, words.next())?)?),
                 Some(text) if is_option(text) => {
                     return Err(Failure::usage(format!("`{text}` is no option")))
                 }
-                _ => {
-                    sorted.operands.push(word);
-                    continue;
-                }
+                _ => sorted.operands.push(word),
             }
-            let given = OPTIONS.into_iter().filter(|option| word == *option);
-            sorted.given.extend(given);
         }
         Ok(sorted)
-    }
-
-    /// Whether no option is there but these, and perhaps `-o`.
-    pub fn has_only(&self, options: &[&str]) -> bool {
-        self.given.iter().all(|given| options.contains(given))
     }
 }
 
@@ -91,14 +70,4 @@ fn record(word: &OsStr) -> Result<YardRecord, Failure> {
 pub fn number<T: FromStr>(word: &OsStr, what: &str) -> Result<T, Failure> {
     let parsed = word.to_str().and_then(|text| text.parse().ok());
     parsed.ok_or_else(|| Failure::usage(format!("`{}` is no {what}", word.display())))
-}
-
-/// A number for a call. One that is too large for it counts as the largest that is not: what the
-/// planner says of both is the same.
-pub fn call_number(word: &OsStr, what: &str) -> Result<u32, Failure> {
-    let parsed = word.to_str().map(str::parse::<u32>);
-    match parsed {
-        Some(Err(error)) if *error.kind() == IntErrorKind::PosOverflow => Ok(u32::MAX),
-        _ => number(word, what),
-    }
 }

@@ -7,8 +7,8 @@ use Rattle.network.specs.Network.{Network}
 use Rattle.network.specs.Refusals.{checked_of}
 use Rattle.network.specs.Survey.{network_of}
 use Rattle.network.specs.declared.Checked.TheVariants.{Fine}
-use Rattle.planlist_records.specs.Held.{CostsHeld}
 use Rattle.survey_reading.specs.Survey.{Read}
+use Rattle.walk.specs.Call.{CostsHeld}
 use Rattle.planner_list.specs.Delivery.{promised, refused-held}
 use Rattle.planner_list.specs.Listing.{list-accepted, list-refused}
 use Rattle.planner_list.proofs.list.Statement.{statement}

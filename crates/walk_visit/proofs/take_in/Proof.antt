@@ -2,19 +2,15 @@
 use mathlib.Core.Path.{ap, ◌∙◌, subst⁻¹}
 use borrow.Author.Rules.{rules}
 use native.Mathlib.Omega.{arith}
-use lib.IntN.{ℤ}
 use lib.ListN.{drop, length, length-drop}
-use mir.Syntax.{w32}
-use mir.ValLaws.{to_z-of_z}
 use Rattle.network.specs.Calls.{together}
 use Rattle.network.specs.PlanList.{head_size, plan_bytes}
 use Rattle.network.specs.declared.Costs.{Costs}
 use Rattle.network.specs.declared.PlanCosts.{PlanCosts}
-use Rattle.planlist_records.specs.Held.{Writable, plan-writable}
+use Rattle.planlist_records.specs.Held.{Writable}
 use Rattle.planlist_frontier.specs.Insertion.{insert_record}
-use Rattle.planlist_frontier.specs.Ranged.{own_sum}
-use Rattle.planlist_frontier.specs.Taken.{Insertable, room-enough}
-use Rattle.walk_visit.specs.Answered.{none-taken, plan-taken, records_in}
+use Rattle.planlist_frontier.specs.Taken.{Insertable}
+use Rattle.walk_visit.specs.Answered.{none-taken, plan-taken, plan-writable, records_in}
 use Rattle.walk_visit.proofs.take_in.Statement.{statement}
 use Rattle.walk_visit.proofs.take_in.Tie as tie
 
@@ -34,41 +30,33 @@ costs-of-requires c κs = search rules
 
 -- the plan of the answer, and that a record can hold its costs
 abbrev plan : tie.After-costs-of → PlanCosts
-plan c = c.before.before.before.before.answer.given.0.0
+plan c = c.before.before.before.answer.given.0.0
 
 abbrev start : tie.After-costs-of → tie.Start
-start c = c.before.before.before.before.before.before.before.before
+start c = c.before.before.before.before.before.before.before
 
 writable : (c : tie.After-costs-of) → Writable (start c).args.slots (together (plan c))
 writable c =
     let pre = (start c).requires in
-    let fits = c.before.before.before.known-told.given.0.1.1 in
+    let fits = c.before.before.known-told.given.0.1.1 in
     plan-writable (start c).args.slots (plan c) (record { sfits = fits.0.1 }) (record { sfits = fits.1.0.1 }) (record { sfits = fits.1.1.0.1 })
-    (record { sfits = fits.1.1.1.0.1 }) pre.few (pre.absent (plan c) c.before.before.before.before.answer.given.1)
+    (record { sfits = fits.1.1.1.0.1 }) pre.few (pre.absent (plan c) c.before.before.before.answer.given.1)
 
 insert-plan-requires : tie.Need-insert-plan-requires
 insert-plan-requires c κs =
     let s = start c in
-    let a = s.args in
     let pre = s.pre in
-    let links = a.links.now in
-    let bs = drop head_size a.out.now in
-    let behind = length-drop head_size a.out.now in
-    let x = plan_bytes a.slots (together (plan c)) links in
-    let room = room-enough a.slots x (length links) a.count bs (omega (arith, pre.room)) in
-    let can : Insertable (own_sum (together (plan c))) a.slots (together (plan c)) links a.count bs =
-    record {
-      writable = writable c;
-      few-links = pre.few-links;
-      room = room.0;
-      more = room.1;
-      rise = pre.rise;
-      ranged = pre.level (plan c) c.before.before.before.before.answer.given.1;
-    } in (
+    let behind = length-drop head_size s.args.out.now in (
       omega (arith, pre.room),
-      subst⁻¹ (λ (y : ℤ). Insertable (record { lowest = y; highest = y }) a.slots c.costs-of.result links a.count bs)
-          (to_z-of_z w32 (plan c).sum (writable c).sum_fits)
-          (subst⁻¹ (λ (v : Costs). Insertable (own_sum (together (plan c))) a.slots v links a.count bs) c.costs-of.ensures can),
+      subst⁻¹ (λ (v : Costs). Insertable s.args.slots v (length s.args.links.now) s.args.count (drop head_size s.args.out.now))
+          c.costs-of.ensures
+          (record {
+            writable = writable c;
+            few-links = pre.few-links;
+            room = omega (arith, pre.room);
+            rise = pre.rise;
+            level = pre.level (plan c) c.before.before.before.answer.given.1;
+          }),
     )
 
 same_length : tie.Need-same-length
@@ -80,7 +68,7 @@ returns-2 c =
     let a = (start made).args in
     let links = a.links.now in
     let new = c.before.before.insert-plan.ensures in
-    plan-taken made.before.before.before.before.answer.given.1 (writable made) new.few
+    plan-taken made.before.before.before.answer.given.1 (writable made) new.few
     (new.records-are
     ∙ ap (λ (v : Costs). insert_record a.slots (plan_bytes a.slots v links) (records_in a.slots (length links) a.count a.out.now))
     made.costs-of.ensures)

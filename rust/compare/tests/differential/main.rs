@@ -1,7 +1,7 @@
 //! Holds the proved planner against the independent one, call by call and byte by byte.
 //!
-//! It runs all kinds of surveys, of hand-made lists and of figures, the small surveys, and hand-made
-//! yards of twelve links, or with a seed as its argument the samples of that seed alone.
+//! It runs all kinds of surveys, of hand-made lists and of figures, and the small surveys, or with a
+//! seed as its argument the samples of that seed alone.
 
 mod figures;
 mod lists;
@@ -11,8 +11,6 @@ mod report;
 mod rest_report;
 mod seeds;
 mod small;
-mod tree_report;
-mod trees;
 mod write_report;
 
 use compare::by_listing::ByListing;
@@ -27,7 +25,6 @@ use compare::rng::Rng;
 use compare::round::survey_calls;
 use compare::round_trip::round_trip;
 use compare::tally::Tally;
-use compare::tree_calls::tree_calls;
 use figures::compare_figures;
 use lists::{compare_lists, with_list};
 use peer::records::{YardRecord, TRIPLE, WRITTEN_RECORDS};
@@ -40,8 +37,6 @@ use rest_report::print_rests;
 use seeds::{over_seeds, total_of, Tallies};
 use small::{compare_small, print_small, run_complete_set};
 use std::process::ExitCode;
-use tree_report::{print_trees, unreached_trees};
-use trees::{compare_by_all_trees, compare_by_hand, compare_trees};
 use write_report::print_writes;
 
 fn main() -> ExitCode {
@@ -72,24 +67,21 @@ fn compare_all(seed: Option<u64>) -> Result<Vec<String>, String> {
     let written = total_of(&figures);
     print_calls("figures", &figures, &written);
     print_writes(&written);
-    let [numbered, twelve] = match seed {
-        None => [compare_numbers()?, compare_twelve()?],
-        Some(_) => [Tally::default(); 2],
+    let numbered = match seed {
+        None => compare_numbers()?,
+        Some(_) => Tally::default(),
     };
     let all = total_of(&[
         ("surveys", total),
         ("lists", by_hand),
         ("figures", written),
         ("numbers", numbered),
-        ("twelve links", twelve),
     ]);
-    print_trees(&all.trees);
     print_numbers(&all);
     let mut missing = unreached(&surveys, &total);
     missing.extend(unreached_lists(&by_hand.indexes));
     missing.extend(unreached_figures(&written));
     missing.extend(unreached_small(&numbered.smalls));
-    missing.extend(unreached_trees(&all.trees));
     missing.extend(unreached_numbers(&all));
     Ok(missing)
 }
@@ -101,14 +93,6 @@ fn compare_numbers() -> Result<Tally, String> {
     let total = total_of(&tallies);
     print_calls("numbers", &tallies, &total);
     print_small(&total.smalls);
-    Ok(total)
-}
-
-/// Compares on hand-made yards of twelve links.
-fn compare_twelve() -> Result<Tally, String> {
-    let tallies = compare_by_hand()?;
-    let total = total_of(&tallies);
-    print_calls("yards of twelve links", &tallies, &total);
     Ok(total)
 }
 
@@ -165,11 +149,6 @@ fn compare_seed(kind: &Kind, seed: u64, tally: &mut Tally) -> Result<(), String>
             .and_then(|()| {
                 let mut comparison = Comparison::new(&Archive, &Peer, tally);
                 round_trip(&mut comparison, &survey, &mut filler)
-            })
-            .and_then(|()| compare_trees(&survey, &mut filler, tally))
-            .and_then(|()| match kind.is_legal() {
-                true => compare_by_all_trees(&survey, &mut filler, tally),
-                false => Ok(()),
             })
             .map_err(|difference| report(difference.to_string()))?;
         if survey != before {
@@ -246,6 +225,5 @@ fn compare_reduced(survey: &[u8], rng: &mut Rng, tally: &mut Tally) -> Result<()
         rests.reduced += u64::from(record == own);
     }
     let mut comparison = Comparison::new(&Archive, &by_reduction, tally);
-    survey_calls(&mut comparison, survey, rng)?;
-    tree_calls(&mut comparison, survey, rng)
+    survey_calls(&mut comparison, survey, rng).map(|_| ())
 }

@@ -146,7 +146,7 @@ pub fn unreached_lists(tally: &IndexTally) -> Vec<String> {
 }
 
 /// The names of what was counted and is not there.
-pub fn lacking(counted: impl Iterator<Item = (String, u64)>) -> Vec<String> {
+fn lacking(counted: impl Iterator<Item = (String, u64)>) -> Vec<String> {
     let lacking = counted.filter(|(_, count)| *count == 0);
     lacking.map(|(name, _)| name).collect()
 }

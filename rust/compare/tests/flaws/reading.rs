@@ -25,18 +25,6 @@ impl<R: Fn(&[u8]) -> Result<Vec<u8>, Refusal>> Planner for Reading<R> {
     fn list(&self, survey: &[u8], allowance: u32, buffer: &mut [u8]) -> Result<(), Refusal> {
         peer::list(&(self.0)(survey)?, allowance, buffer)
     }
-
-    fn tree_count(&self, survey: &[u8]) -> Result<u16, Refusal> {
-        peer::tree_count(&(self.0)(survey)?)
-    }
-
-    fn tree(&self, survey: &[u8], number: u32, tree: &mut [u8]) -> Result<Costs, Refusal> {
-        peer::tree(&(self.0)(survey)?, number, tree)
-    }
-
-    fn list_by_trees(&self, survey: &[u8], buffer: &mut [u8]) -> Result<(), Refusal> {
-        peer::list_by_trees(&(self.0)(survey)?, buffer)
-    }
 }
 
 /// Refuses the surveys that the peer refuses, in its own way.

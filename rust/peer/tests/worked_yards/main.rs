@@ -7,6 +7,5 @@ mod resting;
 mod samples;
 mod signed_sums;
 mod small;
-mod trees;
 mod triple;
 mod two_ranks;

@@ -5,7 +5,7 @@ use peer::survey::Yard;
 use peer::{best, judge, list, write_survey, Costs, Figures, Refusal};
 
 /// A survey with the third yard record: mark 59 46, the link count, and the rest bytes.
-pub fn with_rest(rest: [u8; 3], survey: &[u8]) -> Vec<u8> {
+fn with_rest(rest: [u8; 3], survey: &[u8]) -> Vec<u8> {
     let (front, links) = survey.split_at(6);
     let count = (links.len() / 12) as u8;
     [&[0x59, 0x46], &front[2..], &[count], &rest, links].concat()

@@ -3,8 +3,8 @@
 use crate::random::Random;
 use crate::samples::{bytes_of, three_a, yard_a, RECORDS};
 use ranqustei::{
-    best, fetch, index, index_lookup, judge, list, list_by_trees, small_surveys, tree, tree_count,
-    Link, PlanList, Survey, Yard, YardRecord, TREES_LINKS,
+    best, fetch, index, index_lookup, judge, list, small_surveys, Link, PlanList, Survey, Yard,
+    YardRecord,
 };
 
 /// Puts a survey to every call.
@@ -18,17 +18,13 @@ fn ask(survey: Vec<u8>, random: &mut Random) {
         random.below(2_000) as u32,
         &mut vec![1; random.below(2_000)],
     );
-    let counted = tree_count(&survey);
-    let number = random.below(8) as u32;
-    let handed_out = tree(&survey, number, &mut vec![0; random.below(30)]);
-    let by_trees = list_by_trees(&survey, &mut vec![1; random.below(2_000)]);
     match Survey::new(survey) {
         Err(refusal) => {
             assert!(matches!(refusal.number, 1..=8 | 15 | 18 | 19));
-            let refusals = [judged.err(), found.err(), handed_out.err()];
-            assert_eq!(refusals, [Some(refusal); 3]);
-            let refusals = [counted.err(), listed.err(), by_trees.err()];
-            assert_eq!(refusals, [Some(refusal); 3]);
+            assert_eq!(
+                (judged.err(), found.err(), listed.err()),
+                (Some(refusal), Some(refusal), Some(refusal))
+            );
         }
         Ok(survey) => {
             let plans = survey.plans().expect("an accepted survey lists");
@@ -40,22 +36,8 @@ fn ask(survey: Vec<u8>, random: &mut Random) {
             let looked_up = index.cheapest(bounds[0]).map(|(_, plan)| plan.costs.sum);
             let solved = survey.best([bounds[0], i16::MAX, i16::MAX]);
             assert_eq!(solved.map(|plan| plan.costs.sum).ok(), looked_up.ok());
-            ask_for_trees(&survey, &plans);
         }
     }
-}
-
-/// Holds the trees of an accepted survey against the judge, and its list by trees against its list.
-fn ask_for_trees(survey: &Survey, plans: &PlanList) {
-    let is_in_limit = survey.yard().links.len() <= TREES_LINKS;
-    assert_eq!(survey.trees().is_ok(), is_in_limit);
-    let Ok(mut trees) = survey.trees() else {
-        return;
-    };
-    assert_eq!(trees.len() == 0, plans.is_empty());
-    assert!(trees.all(|tree| survey.judge(&tree.links) == Ok(tree)));
-    let by_trees = survey.list_by_trees().expect("the yard is in the limit");
-    assert!(by_trees.iter().eq(plans.iter()));
 }
 
 #[test]

@@ -1,7 +1,7 @@
 //! The counted yard record: a survey that is cut off is declined, wherever the cut is.
 
 use crate::samples::{bytes_a, bytes_of, largest, told, yard, yards, RECORDS};
-use ranqustei::{best, judge, list, list_by_trees, tree_count, Survey, YardError, YardRecord};
+use ranqustei::{best, judge, list, Survey, YardError, YardRecord};
 
 /// A plain survey with the counted record instead, and this count in it.
 fn counting(plain: &[u8], count: u8) -> Vec<u8> {
@@ -16,11 +16,8 @@ pub fn declined(survey: &[u8]) -> Option<(u8, u8)> {
         judge(survey, &[0, 1]).err(),
         best(survey, [i16::MAX; 3], &mut tree).err(),
         list(survey, 1_600, &mut buffer).err(),
-        tree_count(survey).err(),
-        ranqustei::tree(survey, 0, &mut tree).err(),
-        list_by_trees(survey, &mut buffer).err(),
     ];
-    assert_eq!(refusals, [refusals[0]; 6]);
+    assert_eq!(refusals, [refusals[0]; 3]);
     assert!(tree.iter().chain(&buffer).all(|&byte| byte == 0xA5));
     refusals[0].map(told)
 }

@@ -2,7 +2,7 @@
 
 use crate::random::Random;
 use crate::samples::told;
-use ranqustei::{Link, Plan, Survey, Yard, YardError, YardRecord, TREES_LINKS};
+use ranqustei::{Link, Plan, Survey, Yard, YardError, YardRecord};
 
 /// A yard whose links are legal; its ranks and its resting stations may not be.
 fn random_yard(random: &mut Random) -> Yard {
@@ -62,13 +62,6 @@ fn check(whole: &Survey, reduced: &Survey, numbers: &[u8], random: &mut Random) 
     );
     for (plan, expected) in plans.iter().zip(expected.iter()) {
         assert_eq!(plan, with_former(expected, numbers));
-    }
-    // The limit of links is one of usable and other links together.
-    if whole.yard().links.len() <= TREES_LINKS {
-        let [trees, expected] = [whole, reduced].map(|survey| survey.trees().expect("few links"));
-        assert!(trees.eq(expected.map(|tree| with_former(tree, numbers))));
-    } else {
-        assert_eq!(whole.trees().map(|_| ()).map_err(told), Err((21, 0)));
     }
     for _ in 0..4 {
         let bounds = [0; 3].map(|_: u8| random.below(6) as i16 - 3);

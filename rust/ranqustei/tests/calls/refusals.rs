@@ -2,12 +2,9 @@
 
 use crate::samples::{bytes_a, bytes_of, figures_a, told, yard, yard_a};
 use ranqustei::{
-    best, fetch, index, index_lookup, judge, list, list_by_trees, small_survey, tree, tree_count,
-    write_survey, Cause, Link, Refusal, YardError, YardRecord,
+    best, fetch, index, index_lookup, judge, list, small_survey, write_survey, Cause, Link,
+    Refusal, YardError, YardRecord,
 };
-
-/// What 13 says.
-const NO_SUCH: &str = "the list has no such plan, or the yard no such tree";
 
 /// Holds a refusal against what document 01 and the sentences say.
 fn check(refusal: Option<Refusal>, number: u8, place: u8, cause: Cause, sentence: &str) {
@@ -32,9 +29,6 @@ fn edited_in(mut survey: Vec<u8>, at: usize, byte: u8) -> Option<Refusal> {
     let refusal = list(&survey, 9, &mut [0; 60]).err();
     assert_eq!(judge(&survey, &[0, 1]).err(), refusal);
     assert_eq!(best(&survey, [9; 3], &mut [0; 2]).err(), refusal);
-    assert_eq!(tree_count(&survey).err(), refusal);
-    assert_eq!(tree(&survey, 0, &mut [0; 2]).err(), refusal);
-    assert_eq!(list_by_trees(&survey, &mut [0; 60]).err(), refusal);
     refusal
 }
 
@@ -223,7 +217,13 @@ fn plan_lists() {
             "the plan list is damaged, or the index is not its own",
         );
     };
-    check(fetch(&stored, 2).err(), 13, 0, Cause::PlanNumber, NO_SUCH);
+    check(
+        fetch(&stored, 2).err(),
+        13,
+        0,
+        Cause::PlanNumber,
+        "the list has no such plan",
+    );
     damaged(&stored[..33], 0);
     damaged(&[], 0);
     stored[22] = 0;
@@ -254,7 +254,13 @@ fn indexes() {
         Cause::Damaged,
         "the plan list is damaged, or the index is not its own",
     );
-    check(look_up(&[1, 0, 0, 0], 6), 13, 0, Cause::PlanNumber, NO_SUCH);
+    check(
+        look_up(&[1, 0, 0, 0], 6),
+        13,
+        0,
+        Cause::PlanNumber,
+        "the list has no such plan",
+    );
 }
 
 #[test]
@@ -294,46 +300,5 @@ fn small_surveys() {
         0,
         Cause::Output,
         "the output has no room for the survey",
-    );
-}
-
-#[test]
-fn trees() {
-    let survey = bytes_a();
-    let mut links = [7; 3];
-    check(
-        tree(&survey, 3, &mut links).err(),
-        13,
-        0,
-        Cause::PlanNumber,
-        NO_SUCH,
-    );
-    assert_eq!(links, [7; 3]);
-    let many = bytes_of(
-        &yard(2, &[], &[(0, 1, 1, &[][..]); 13]),
-        YardRecord::Counted,
-    );
-    let words = "the yard has over 12 links, usable or not: too many to go through all its trees";
-    for refusal in [
-        tree_count(&many).err(),
-        tree(&many, 0, &mut links).err(),
-        list_by_trees(&many, &mut [0; 60]).err(),
-    ] {
-        check(refusal, 21, 0, Cause::TreesLinks, words);
-    }
-    let short = "the buffer is too short";
-    check(
-        tree(&survey, 0, &mut links[..1]).err(),
-        9,
-        0,
-        Cause::Buffer,
-        short,
-    );
-    check(
-        list_by_trees(&survey, &mut [0; 45]).err(),
-        9,
-        0,
-        Cause::Buffer,
-        short,
     );
 }

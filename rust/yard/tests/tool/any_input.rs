@@ -3,9 +3,9 @@
 use crate::random::Random;
 use crate::tool::{repository, run_bytes, scratch, text_a};
 
-const COMMANDS: [&str; 13] = [
-    "plans", "best", "judge", "trees", "text", "survey", "list", "fetch", "index", "cheapest",
-    "draw", "frontier", "small",
+const COMMANDS: [&str; 12] = [
+    "plans", "best", "judge", "text", "survey", "list", "fetch", "index", "cheapest", "draw",
+    "frontier", "small",
 ];
 const WORDS: [&str; 21] = [
     "stations", "ceilings", "resting", "0", "1", "2", "3", "24", "-1", "255", "1000001",
@@ -59,9 +59,8 @@ fn any_words() {
     let mut random = Random(6);
     let text = text_a();
     let words = [
-        "-o", "--plan", "--record", "--all", "--from", "--count", "plain", "counted", "resting",
-        "triple", "-", "0", "1", "-5", "300", "2000", "help", "", "--", "–", "x.list", "x.index",
-        "x.survey",
+        "-o", "--plan", "--record", "--all", "plain", "counted", "resting", "triple", "-", "0",
+        "1", "-5", "300", "2000", "help", "", "--", "–", "x.list", "x.index", "x.survey",
     ];
     for _ in 0..4_000 {
         let command = COMMANDS[random.below(COMMANDS.len())];

@@ -152,7 +152,7 @@ fn yards_without_a_frontier() {
 #[test]
 fn files_that_are_not_what_a_command_needs() {
     for command in [
-        "plans", "best", "judge", "trees", "text", "survey", "list", "draw", "frontier",
+        "plans", "best", "judge", "text", "survey", "list", "draw", "frontier",
     ] {
         for (name, what) in [("needs.list", "a plan list"), ("needs.index", "an index")] {
             let needs = format!("{name}: a yard is needed here, and this name is that of {what}");
@@ -184,7 +184,6 @@ fn wrong_words() {
     assert_eq!(run(&["plan", "-"], ""), misused("`plan` is no command"));
     for (command, takes) in [
         ("plans", "YARD"),
-        ("trees", "YARD [--from R] [--count N]"),
         ("text", "YARD"),
         ("survey", "YARD [--record plain|counted|resting|triple]"),
         ("list", "YARD"),
@@ -218,7 +217,6 @@ fn options_of_other_commands() {
         &["plans", "-"][..],
         &["best", "-", "8"],
         &["judge", "-", "0", "2"],
-        &["trees", "-", "--from", "0"],
         &["text", "-"],
         &["list", "-"],
         &["fetch", "a.list", "0"],
@@ -227,26 +225,17 @@ fn options_of_other_commands() {
         &["draw", "-", "--plan", "0"],
         &["frontier", "-"],
     ] {
-        let of_trees: &[&[&str]] = match words[0] {
-            "trees" => &[],
-            _ => &[&["--from", "0"], &["--count", "1"]],
-        };
-        for option in [&["--record", "plain"][..], &["--all"]]
-            .iter()
-            .chain(of_trees)
-        {
+        for option in [&["--record", "plain"][..], &["--all"]] {
             let answer = run(&[words, option].concat(), text_a());
             let (status, message) = answer.expect_err("the option is of another command");
             let command = format!("the command is `yard {} ", words[0]);
             assert_eq!((status, message.starts_with(&command)), (2, true));
         }
     }
+    let survey = run(&["survey", "-", "--all"], text_a());
     let takes = "YARD [--record plain|counted|resting|triple] [-o FILE]";
     let takes = format!("the command is `yard survey {takes}`");
-    for option in [&["--all"][..], &["--from", "0"], &["--count", "1"]] {
-        let survey = run(&[&["survey", "-"], option].concat(), text_a());
-        assert_eq!(survey, misused(&takes));
-    }
+    assert_eq!(survey, misused(&takes));
 }
 
 #[test]
@@ -300,8 +289,8 @@ fn help_names_every_command() {
     let help = run(&["help"], "").expect("help is there");
     assert_eq!(run(&["--help"], ""), Ok(help.clone()));
     for command in [
-        "plans", "best", "judge", "trees", "text", "survey", "list", "fetch", "index", "cheapest",
-        "draw", "frontier", "small", "help",
+        "plans", "best", "judge", "text", "survey", "list", "fetch", "index", "cheapest", "draw",
+        "frontier", "small", "help",
     ] {
         assert!(help.contains(&format!("  yard {command}")), "{command}");
     }

@@ -13,6 +13,5 @@ mod resting;
 mod signed_sums;
 mod small;
 mod tool;
-mod trees;
 mod triple;
 mod yard_text;

@@ -190,8 +190,6 @@ fn wrong_words() {
         &["--all", "1", "-o", "x"],
         &["1", "--plan", "0"],
         &["1", "--record", "plain"],
-        &["1", "--from", "0"],
-        &["1", "--count", "1"],
     ] {
         let answer = run(&[&["small"], words].concat(), "");
         assert_eq!(answer, misused(forms), "{words:?}");

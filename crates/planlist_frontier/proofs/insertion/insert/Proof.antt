@@ -4,21 +4,17 @@ use mathlib.Core.Path.{◌≡◌, sym, ap, ap₂, ◌∙◌, subst⁻¹}
 use mathlib.Core.List.{List, ◌∷◌, ◌++◌}
 use Prim.Native.Nat.{ℕ, ◌+◌, ◌*◌, ◌-◌, ◌≤◌}
 use native.Mathlib.Omega.{arith}
-use lib.IntN.{ℤ}
 use lib.ListN.{length, take, drop, length-drop}
-use mir.Syntax.{w32}
-use mir.ValLaws.{to_z-of_z}
 use Rattle.network.specs.PlanList.{costs_at, plan_bytes, plan_size}
 use Rattle.buffers.specs.Tail.{tail-back, tail-lent}
-use Rattle.encoding.specs.Blocks.{blocks, blocks-behind, take-blocks, drop-blocks, length-blocks}
+use Rattle.encoding.specs.Blocks.{blocks, blocks-behind, take-blocks, drop-blocks, length-blocks, room-behind, room_for}
 use Rattle.planlist_records.specs.Records.{plan_records}
 use Rattle.planlist_records.specs.Held.{costs-encoded}
 use Rattle.planlist_frontier.specs.Insertion.{covered_by, insert-covered, insert-free, place_of, pruned_by}
-use Rattle.planlist_frontier.specs.Ranged.{free-covered, free-place, pruned-behind, room-left, sums-sorted}
-use Rattle.planlist_frontier.specs.Lower.{SumsRise, records-split}
-use Rattle.planlist_frontier.specs.Place.{free_from}
-use Rattle.planlist_frontier.specs.Pruned.{pruned_to}
-use Rattle.planlist_frontier.specs.Taken.{Roomy}
+use Rattle.planlist_frontier.specs.Level.{free-covered, free-place, pruned-behind, sums-sorted}
+use Rattle.planlist_frontier.specs.Lower.{SumsRise}
+use Rattle.planlist_frontier.specs.Place.{free_place}
+use Rattle.planlist_frontier.specs.Pruned.{pruned_level}
 use borrow.Author.Rules.{rules}
 use Rattle.planlist_frontier.proofs.insertion.insert.Statement.{statement}
 use Rattle.planlist_frontier.proofs.insertion.insert.Tie as tie
@@ -37,7 +33,7 @@ holds s = costs-encoded s.args.slots s.args.v s.args.links.now s.requires.writab
 
 -- the start, from where the plan's place is free
 abbrev entry : tie.Else1 → tie.Start
-entry c = c.before.before.before.before.before.before.before
+entry c = c.before.before.before.before.before.before
 
 -- the records that are searched are those that are stored
 searched : (c : tie.After-plan-size)
@@ -47,20 +43,18 @@ searched c = let a = c.before.before.before.args in ap (λ (z : ℕ). blocks z a
 
 -- the place that is found is that among them
 placed : (c : tie.After-free-place)
-    → let s = c.before.before.before.before.before.before in
-    c.free-place.result ≡ free_from s.args.against.lowest s.args.slots s.args.v (stored s)
+    → let s = c.before.before.before.before.before in
+    c.free-place.result ≡ free_place s.args.slots s.args.v (stored s)
 placed c =
-    let a = c.before.before.before.before.before.before.args in
-    c.free-place.ensures
-    ∙ ap₂ (λ (x : ℤ) (l : List (List ℕ)). free_from x a.slots a.v l) (to_z-of_z w32 a.against.lowest (search rules))
-    (searched c.before.before.before)
+    let a = c.before.before.before.before.before.args in
+    c.free-place.ensures ∙ ap (free_place a.slots a.v) (searched c.before.before)
 
 -- where it starts
 start_is : (c : tie.Else1)
     → let a = (entry c).args in
     let i = c.before.free-place.result in
-    i * c.before.before.before.before.plan-size.result ≡ i * plan_size a.slots (length a.links.now)
-start_is c = ap (λ (z : ℕ). c.before.free-place.result * z) c.before.before.before.before.plan-size.ensures
+    i * c.before.before.before.plan-size.result ≡ i * plan_size a.slots (length a.links.now)
+start_is c = ap (λ (z : ℕ). c.before.free-place.result * z) c.before.before.before.plan-size.ensures
 
 -- no stored plan is at most it, and the place is its place in the order
 free : (c : tie.Else1)
@@ -68,63 +62,33 @@ free : (c : tie.Else1)
     (covered_by s.args.slots s.args.v (stored s) ≡ false) × (c.before.free-place.result ≡ place_of s.args.slots s.args.v (stored s))
 free c =
     let s = entry c in
-    let a = s.args in
     let e = placed c.before in
-    let r = free-place a.slots a.v a.against (stored s) s.pre.rise s.pre.ranged (omega (arith, counted s, c.if1.false)) in
+    let r = free-place s.args.slots s.args.v (stored s) s.pre.rise s.pre.level (omega (arith, counted s, c.if1.false)) in
     (r.0, e ∙ r.1)
 
--- the records from there on have room
+-- and the records from there on and one more have room
 room : (c : tie.Else1)
     → let a = (entry c).args in
     let size = plan_size a.slots (length a.links.now) in
-    let i = c.before.free-place.result in
-    i * size + (a.count - i) * size ≤ length a.plans.now
+    c.before.free-place.result * size + (a.count - c.before.free-place.result + 1) * size ≤ length a.plans.now
 room c =
     let s = entry c in
     let size = plan_size s.args.slots (length s.args.links.now) in
-    omega (arith, records-split c.before.free-place.result s.args.count size (omega (arith, c.if1.false)), s.pre.room)
-
--- and so have those that are left of them, and one more
-room-more : (c : tie.Else1)
-    → let a = (entry c).args in
-    let size = plan_size a.slots (length a.links.now) in
-    let i = c.before.free-place.result in
-    i * size + (length (pruned_to a.against.highest a.slots a.v (drop i (stored (entry c)))) + 1) * size ≤ length a.plans.now
-room-more c =
-    let s = entry c in
-    let a = s.args in
-    let few = counted s in
-    let f = free c in
-    room-left a.slots a.v a.against (stored s) s.pre.rise s.pre.ranged _ _ _ _ (holds s) f.0 f.1
-    (omega (arith, c.if1.false)) s.pre.more
-
--- the records from there on are lent to `put`
-lent : (c : tie.Else1)
-    → let a = (entry c).args in
-    let size = plan_size a.slots (length a.links.now) in
-    let d = a.plans.now in
-    let i = c.before.free-place.result in
-    let start = i * c.before.before.before.before.plan-size.result in
-    blocks size (a.count - i) (take (length d - start) (drop start d)) ≡ drop i (stored (entry c))
-lent c =
-    let a = (entry c).args in
-    let size = plan_size a.slots (length a.links.now) in
-    let d = a.plans.now in
-    let i = c.before.free-place.result in
-    ap (blocks size (a.count - i)) (tail-lent _ d ∙ ap (λ (k : ℕ). drop k d) (start_is c))
-    ∙ sym (drop-blocks size i a.count d (omega (arith, c.if1.false)))
+    room-behind c.before.free-place.result s.args.count size s.pre.room (omega (arith, c.if1.false))
 
 plan-size-requires : tie.Need-plan-size-requires
 plan-size-requires c κs = search rules
 
 free-place-requires : tie.Need-free-place-requires
 free-place-requires c κs =
-    let sized = c.before.before in
+    let sized = c.before in
     let s = sized.before.before.before in
-    let product = ap (λ (z : ℕ). s.args.count * z) sized.plan-size.ensures in (
+    let count = s.args.count in
+    let size = plan_size s.args.slots (length s.args.links.now) in
+    let product = ap (λ (z : ℕ). count * z) sized.plan-size.ensures in (
       record {
         wide = omega (arith, sized.plan-size.ensures);
-        room = omega (arith, product, s.requires.room);
+        room = omega (arith, product, room_for count count size s.requires.room (omega arith));
         sums = subst⁻¹ SumsRise (searched sized) (sums-sorted s.args.slots (stored s) s.requires.rise);
       },
       omega (arith, sized.plan-size.ensures),
@@ -136,13 +100,14 @@ same_length c = search rules
 
 returns : tie.Need-returns
 returns c =
-    let s = c.before.before.before.before.before.before.before in
-    let a = s.args in
+    let s = c.before.before.before.before.before.before in
     let e = placed c.before in
-    let covered = free-covered a.slots a.v a.against (stored s) s.requires.rise s.requires.ranged (omega (arith, counted s, c.if1.true)) in
+    let covered = free-covered s.args.slots s.args.v (stored s) s.requires.rise s.requires.level (omega (arith, counted s, c.if1.true)) in
     record {
       few = omega arith;
-      records-are = sym (insert-covered a.slots (plan_bytes a.slots a.v a.links.now) a.v (stored s) s.requires.rise (holds s) covered);
+      records-are =
+          sym (insert-covered s.args.slots (plan_bytes s.args.slots s.args.v s.args.links.now) s.args.v (stored s) s.requires.rise
+          (holds s) covered);
     }
 
 mul-start : tie.Need-overflow-mul-start
@@ -159,19 +124,10 @@ part-put-end c = search rules
 
 put-requires : tie.Need-put-requires
 put-requires c κs =
-    let e = c.before.before in
-    let s = entry e in
+    let s = entry c.before in
     let a = s.args in
-    let t = length a.links.now in
-    let size = plan_size a.slots t in
-    let d = a.plans.now in
-    let i = e.before.free-place.result in
-    let start = i * e.before.before.before.before.plan-size.result in
-    let part = take (length d - start) (drop start d) in
-    let long : start + length part ≡ length d = omega (arith, room e, start_is e, ap length (tail-lent start d), length-drop start d) in
-    let left = ap (λ (l : List (List ℕ)). (length (pruned_to a.against.highest a.slots a.v l) + 1) * size) (lent e) in (
-      subst⁻¹ (λ (x : ℤ). Roomy x a.slots a.v t (a.count - i) part) (to_z-of_z w32 a.against.highest (search rules))
-          (record { stored = omega (arith, room e, start_is e); left = omega (arith, room-more e, start_is e) }),
+    let start = c.before.before.free-place.result * c.before.before.before.before.plan-size.result in (
+      omega (arith, room c.before, start_is c.before, ap length (tail-lent start a.plans.now), length-drop start a.plans.now),
       s.pre.writable,
       s.pre.few-links,
     )
@@ -184,7 +140,7 @@ same-length-2 c = search rules
 
 returns-2 : tie.Need-returns-2
 returns-2 c =
-    let e = c.before.before.before.before.before in
+    let e = c.before.before.before.before in
     let s = entry e in
     let a = s.args in
     let fits = room e in
@@ -196,10 +152,9 @@ returns-2 c =
     let i = e.before.free-place.result in
     let done = c.before.before.put in
     let last = done.new.0 in
-    let start = i * e.before.before.before.before.plan-size.result in
-    let kept =
-    ap₂ (λ (y : ℤ) (l : List (List ℕ)). pruned_to y a.slots a.v l) (to_z-of_z w32 a.against.highest (search rules)) (lent e)
-    ∙ pruned-behind a.slots a.v a.against (stored s) s.pre.rise s.pre.ranged i in
+    let start = i * e.before.before.before.plan-size.result in
+    let behind = ap (blocks size (a.count - i)) (tail-lent start d ∙ ap (λ (k : ℕ). drop k d) (start_is e)) ∙ sym (drop-blocks size i a.count d few) in
+    let kept = ap (pruned_level a.slots a.v) behind ∙ pruned-behind a.slots a.v (stored s) s.pre.rise s.pre.level i in
     record {
       few = omega (arith, done.ensures.few);
       records-are =

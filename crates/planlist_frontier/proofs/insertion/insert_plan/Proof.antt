@@ -2,7 +2,7 @@
 use mathlib.Core.Path.{ap, ◌∙◌, subst, subst⁻¹}
 use mathlib.Core.List.{List}
 use Prim.Native.Nat.{ℕ}
-use lib.ListN.{take, drop}
+use lib.ListN.{length, take, drop}
 use lib.Seq.{length-take-le, drop_at}
 use Rattle.network.specs.PlanList.{head_size}
 use Rattle.buffers.specs.Tail.{tail-back, tail-lent}
@@ -23,8 +23,7 @@ part-insert-end c = search rules
 insert-requires : tie.Need-insert-requires
 insert-requires c κs =
     let s = c.before.before.before in
-    let a = s.args in
-    subst⁻¹ (Insertable a.against a.slots a.v a.links.now a.count) (tail-lent head_size a.out.now) s.requires.1
+    subst⁻¹ (Insertable s.args.slots s.args.v (length s.args.links.now) s.args.count) (tail-lent head_size s.args.out.now) s.requires.1
 
 same_length : tie.Need-same-length
 same_length c = search rules

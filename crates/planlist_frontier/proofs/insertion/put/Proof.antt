@@ -2,50 +2,29 @@
 use mathlib.Core.Path.{◌≡◌, sym, ap, ◌∙◌, subst}
 use mathlib.Core.List.{List, ◌∷◌}
 use Prim.Native.Nat.{ℕ, ◌+◌, ◌*◌, ◌≤◌}
-use native.Mathlib.Nat.{add-mul, one-mul}
 use native.Mathlib.Omega.{arith}
-use lib.IntN.{ℤ}
 use lib.ListN.{length}
-use mir.Syntax.{w32}
-use mir.ValLaws.{to_z-of_z}
 use Rattle.network.specs.PlanList.{plan_bytes}
 use Rattle.buffers.specs.Overwrite.{overwrite}
-use Rattle.encoding.specs.Blocks.{blocks, blocks-inserted, length-blocks}
+use Rattle.encoding.specs.Blocks.{blocks, room_for, blocks-inserted}
 use Rattle.planlist_records.specs.Records.{length-plan}
-use Rattle.planlist_frontier.specs.Pruned.{pruned_to}
+use Rattle.planlist_frontier.specs.Pruned.{pruned_level}
 use borrow.Author.Rules.{rules}
 use Rattle.planlist_frontier.proofs.insertion.put.Statement.{statement}
 use Rattle.planlist_frontier.proofs.insertion.put.Tie as tie
 
--- the records have room
+-- the records and one more have room
 fits : (c : tie.After-plan-size)
     → let a = c.before.before.before.args in
-    a.count * c.plan-size.result ≤ length a.plans.now
-fits c = rw c.plan-size.ensures c.before.before.before.requires.0.stored
+    (a.count + 1) * c.plan-size.result ≤ length a.plans.now
+fits c = rw c.plan-size.ensures c.before.before.before.requires.0
 
--- what is kept of them
-pruned : (c : tie.After-prune)
-    → let a = c.before.before.before.before.before.args in
-    let size = c.before.before.plan-size.result in
-    blocks size c.prune.result c.prune.new.0 ≡ pruned_to a.highest a.slots a.v (blocks size a.count a.plans.now)
-pruned c =
-    let s = c.before.before.before.before.before in
-    let a = s.args in
-    let size = c.before.before.plan-size.result in
-    c.prune.ensures.1 ∙ ap (λ (x : ℤ). pruned_to x a.slots a.v (blocks size a.count a.plans.now)) (to_z-of_z w32 a.highest s.ranges.highest)
-
--- that and one more have room
+-- and so have those that are kept
 room : (c : tie.After-prune) → let size = c.before.before.plan-size.result in c.prune.result * size + size ≤ length c.prune.new.0
 room c =
     let sized = c.before.before in
-    let s = sized.before.before.before in
-    let a = s.args in
-    let size = sized.plan-size.result in
-    let kept = c.prune.result in
-    let left = pruned_to a.highest a.slots a.v (blocks size a.count a.plans.now) in
-    let all : (length left + 1) * size ≤ length a.plans.now = rw sized.plan-size.ensures s.requires.0.left in
-    let same = ap (λ (k : ℕ). (k + 1) * size) (sym (ap length (pruned c)) ∙ length-blocks size kept c.prune.new.0) in
-    omega (arith, same, add-mul kept 1 size, one-mul size, c.prune.auto.0)
+    let count = sized.before.before.before.args.count in
+    rw c.prune.auto.0 (room_for c.prune.result count sized.plan-size.result (fits sized) c.prune.ensures.0)
 
 plan-size-requires : tie.Need-plan-size-requires
 plan-size-requires c κs = search rules
@@ -54,7 +33,7 @@ prune-requires : tie.Need-prune-requires
 prune-requires c κs =
     let s = c.before.before.before.before in (
       omega (arith, c.before.plan-size.ensures),
-      fits c.before,
+      omega (arith, room_for s.args.count s.args.count c.before.plan-size.result (fits c.before) (omega arith)),
       s.requires.1.held,
     )
 
@@ -92,11 +71,10 @@ returns c =
     record {
       few = omega (arith, p.prune.ensures.0);
       records-are =
-          subst (λ (z : ℕ). blocks z (kept + 1) out ≡ x ∷ pruned_to a.highest a.slots a.v (blocks z a.count a.plans.now))
-          sized.plan-size.ensures
+          subst (λ (z : ℕ). blocks z (kept + 1) out ≡ x ∷ pruned_level a.slots a.v (blocks z a.count a.plans.now)) sized.plan-size.ensures
           (ap (blocks size (kept + 1)) bytes
           ∙ blocks-inserted size p.prune.new.0 kept x (room p) long
-          ∙ ap (λ (l : List (List ℕ)). x ∷ l) (pruned p));
+          ∙ ap (λ (l : List (List ℕ)). x ∷ l) p.prune.ensures.1);
     }
 
 pub put_spec : {M : Type 1} → statement M

@@ -9,44 +9,37 @@ use native.Mathlib.Nat.{zero-mul, suc-mul}
 use native.Mathlib.Numerals.{add-one}
 use lib.ListN.{length, take, drop}
 use lib.Seq.{append_snoc}
-use lib.IntN.{ℤ}
 use lib.Signed.{le_z}
 use mir.Syntax.{w32}
-use mir.Val.{of_z, to_z}
-use mir.ValLaws.{to_z-of_z}
 use Rattle.network.specs.PlanList.{costs_at, plan_size}
 use Rattle.network.specs.declared.Costs.{Costs}
 use Rattle.encoding.specs.Blocks.{blocks, blocks-none, mul-step, blocks-joined, blocks-moved, behind_moved}
 use Rattle.planlist_records.specs.Held.{costs-held}
 use Rattle.planlist_records.specs.Orders.{at_most}
-use Rattle.planlist_frontier.specs.Pruned.{pruned_to, pruned-turn, pruned-none}
+use Rattle.encoding.specs.Compared.{tested}
+use Rattle.planlist_frontier.specs.Pruned.{pruned_level, pruned-turn, pruned-none}
 use borrow.Author.Rules.{rules}
 use Rattle.planlist_frontier.proofs.pruning.prune.Statement.{statement}
 use Rattle.planlist_frontier.proofs.pruning.prune.Tie as tie
 
 abbrev invariant-loop : tie.invariant-loop
-invariant-loop plans₀ count size slots v highest from₀ to₀ kept₀ left₀ plans from to kept left =
+invariant-loop plans₀ count size slots v from₀ to₀ kept₀ left₀ plans from to kept left =
     (length plans ≡ length plans₀) × (plan_size slots 0 ≤ size) × (to ≤ from) × (from + left * size ≤ length plans) × (to ≡ kept * size)
     × (kept + left ≤ count)
-    × (pruned_to (to_z w32 highest) slots v (blocks size count plans₀)
-    ≡ blocks size kept plans ++ pruned_to (to_z w32 highest) slots v (blocks size left (drop from plans)))
+    × (pruned_level slots v (blocks size count plans₀) ≡ blocks size kept plans ++ pruned_level slots v (blocks size left (drop from plans)))
 
 abbrev decreases-loop : tie.decreases-loop
-decreases-loop plans₀ count size slots v highest from₀ to₀ kept₀ left₀ plans from to kept left = left
+decreases-loop plans₀ count size slots v from₀ to₀ kept₀ left₀ plans from to kept left = left
 
--- the turn of the loop in which the sum is compared, in which it is no higher than `highest`, and in which the record is kept
+-- the turn of the loop in which the sums are compared, in which the sum in the record is no higher than that of v, and in which the record is kept
 abbrev turn : tie.After-le32 invariant-loop decreases-loop → tie.In-loop invariant-loop decreases-loop
-turn c = c.before.before.before.before
+turn c = c.before.before.before.before.before
 
 abbrev turn_low : tie.After-at-most invariant-loop decreases-loop → tie.In-loop invariant-loop decreases-loop
 turn_low c = turn c.before.before
 
 abbrev turn-kept : tie.After-slice-known2 invariant-loop decreases-loop → tie.In-loop invariant-loop decreases-loop
 turn-kept c = turn_low c.before.before.before.before.before
-
--- the highest sum, by its bits
-abbrev most : tie.In-loop invariant-loop decreases-loop → ℤ
-most k = to_z w32 (of_z w32 k.before.before.before.args.highest)
 
 -- v, and the costs in the record at `from`
 abbrev new : tie.In-loop invariant-loop decreases-loop → Costs
@@ -61,22 +54,22 @@ step : (k : tie.In-loop invariant-loop decreases-loop)
     k.before.loop.left * size ≡ size + (k.before.loop.left - 1) * size
 step k = mul-step k.before.loop.left k.before.before.before.args.size k.loop-test.true
 
--- what the tests of a turn say of them: the sum, and whether v is at most the record's costs
-no-higher : (c : tie.After-le32 invariant-loop decreases-loop) → {b : Bool} → c.le32.result ≡ b → le_z (held (turn c)).sum (most (turn c)) ≡ b
+-- what the tests of a turn say of the two: the sums, and whether v is at most the record's costs
+no-higher : (c : tie.After-le32 invariant-loop decreases-loop) → {b : Bool} → c.le32.result ≡ b → le_z (held (turn c)).sum (new (turn c)).sum ≡ b
 no-higher c e =
-    let w = c.before.before.costs-at in
-    let read = to_z-of_z w32 w.result.sum (search rules) ∙ ap (λ (w : Costs). w.sum) w.ensures in
-    sym (c.le32.ensures ∙ ap (λ (x : ℤ). le_z x (most (turn c))) read) ∙ e
+    let v = new (turn c) in
+    let w = c.before.before.before.costs-at in
+    sym (tested w32 w.result.sum v.sum (search rules) (search rules) c.le32.ensures ∙ ap (λ (w : Costs). le_z w.sum v.sum) w.ensures) ∙ e
 
 compared : (c : tie.After-at-most invariant-loop decreases-loop) → {b : Bool} → c.at-most.result ≡ b → at_most (new (turn_low c)) (held (turn_low c)) ≡ b
-compared c e = sym (c.at-most.ensures ∙ ap (at_most (new (turn_low c))) c.before.before.before.before.costs-at.ensures) ∙ e
+compared c e = sym (c.at-most.ensures ∙ ap (at_most (new (turn_low c))) c.before.before.before.before.before.costs-at.ensures) ∙ e
 
 -- what is to be kept, once the record's sum is no higher: by whether v is at most its costs
 passed : (c : tie.After-at-most invariant-loop decreases-loop) → {b : Bool} → c.at-most.result ≡ b
     → let l = (turn_low c).before.loop in
     let a = (turn_low c).before.before.before.args in
-    let rest = pruned_to (most (turn_low c)) a.slots a.v (blocks a.size (l.left - 1) (drop (l.from + a.size) l.plans)) in
-    pruned_to (most (turn_low c)) a.slots a.v (blocks a.size a.count a.plans.now)
+    let rest = pruned_level a.slots a.v (blocks a.size (l.left - 1) (drop (l.from + a.size) l.plans)) in
+    pruned_level a.slots a.v (blocks a.size a.count a.plans.now)
     ≡ blocks a.size l.kept l.plans ++ cond b rest (take a.size (drop l.from l.plans) ∷ rest)
 passed c e =
     let k = turn_low c in
@@ -84,13 +77,13 @@ passed c e =
     let a = k.before.before.before.args in
     l.inv.6
     ∙ ap (λ (r : List (List ℕ)). blocks a.size l.kept l.plans ++ r)
-    (pruned-turn (most k) a.slots a.v l.plans l.from l.left a.size k.loop-test.taken l.inv.1
+    (pruned-turn a.slots a.v l.plans l.from l.left a.size k.loop-test.taken l.inv.1
     (no-higher c.before.before c.before.if1.true) (compared c e))
 
 loop-holds : tie.Need-loop-init invariant-loop decreases-loop
 loop-holds c =
     let a = c.before.args in
-    let all = pruned_to (to_z w32 (of_z w32 a.highest)) a.slots a.v (blocks a.size a.count a.plans.now) in
+    let all = pruned_level a.slots a.v (blocks a.size a.count a.plans.now) in
     let none = ap (λ (l : List (List ℕ)). l ++ all) (sym (blocks-none a.size 0 a.plans.now refl)) in
     (refl, omega arith, omega arith, omega arith, omega (arith, zero-mul a.size), omega arith, none)
 
@@ -102,7 +95,7 @@ le32-requires c κs = tt
 
 at-most-requires : tie.Need-at-most-requires invariant-loop decreases-loop
 at-most-requires c κs =
-    let read = c.before.before.before.costs-at in
+    let read = c.before.before.before.before.costs-at in
     let k = turn c.before in
     let s = k.before.before.before in
     s.pre.2 ∙ sym (ap (λ (w : Costs). length w.y) read.ensures ∙ costs-held s.args.slots k.before.loop.plans k.before.loop.from)
@@ -148,7 +141,7 @@ loop-again-2 c =
     let size = a.size in
     let old = l.plans in
     let part = take size (drop l.from old) in
-    let others : List ℕ → List (List ℕ) = λ t. pruned_to (most k) a.slots a.v (blocks size (l.left - 1) t) in
+    let others : List ℕ → List (List ℕ) = λ t. pruned_level a.slots a.v (blocks size (l.left - 1) t) in
     let moved = c.before.before.move_down in
     let same = moved.auto.0 in
     let fits : l.from + size ≤ length old = omega arith in
@@ -181,15 +174,6 @@ add-result c =
     let at = (turn c.before.before.before.before.before).before in
     omega (arith, at.loop.inv.5, at.before.before.fits.count)
 
--- the bits of the highest sum mean it
-exact : (s : tie.Start invariant-loop decreases-loop)
-    → let a = s.args in
-    pruned_to (to_z w32 (of_z w32 a.highest)) a.slots a.v (blocks a.size a.count a.plans.now)
-    ≡ pruned_to a.highest a.slots a.v (blocks a.size a.count a.plans.now)
-exact s =
-    let a = s.args in
-    ap (λ (x : ℤ). pruned_to x a.slots a.v (blocks a.size a.count a.plans.now)) (to_z-of_z w32 a.highest s.ranges.highest)
-
 same_length : tie.Need-same-length invariant-loop decreases-loop
 same_length c = omega (arith, (turn c.before.before.before.before.before).before.loop.inv.0, c.before.before.move-down2.auto.0)
 
@@ -207,8 +191,7 @@ returns c =
       ap (blocks size (l.kept + l.left)) c.before.before.move-down2.ensures
           ∙ blocks-joined size l.plans l.from l.to l.kept l.left l.inv.4 down fits
           ∙ sym (l.inv.6 ∙ ap (λ (r : List (List ℕ)). blocks size l.kept l.plans ++ r)
-          (pruned-turn (most k) a.slots a.v l.plans l.from l.left size k.loop-test.taken l.inv.1 higher refl))
-          ∙ exact k.before.before.before,
+          (pruned-turn a.slots a.v l.plans l.from l.left size k.loop-test.taken l.inv.1 higher refl)),
     )
 
 same-length-2 : tie.Need-same-length-2 invariant-loop decreases-loop
@@ -219,10 +202,8 @@ returns-2 c =
     let l = c.before.loop in
     let a = c.before.before.before.args in
     let front = blocks a.size l.auto l.plans in
-    let most = to_z w32 (of_z w32 a.highest) in
-    let none =
-    ap (pruned_to most a.slots a.v) (blocks-none a.size l.left (drop l.from l.plans) (omega arith)) ∙ pruned-none most a.slots a.v in
-    (omega arith, sym (l.invariant.6 ∙ ap (λ (r : List (List ℕ)). front ++ r) none ∙ append-nil front) ∙ exact c.before.before.before)
+    let none = ap (pruned_level a.slots a.v) (blocks-none a.size l.left (drop l.from l.plans) (omega arith)) ∙ pruned-none a.slots a.v in
+    (omega arith, sym (l.invariant.6 ∙ ap (λ (r : List (List ℕ)). front ++ r) none ∙ append-nil front))
 
 pub prune-spec : {M : Type 1} → statement M
 prune-spec =

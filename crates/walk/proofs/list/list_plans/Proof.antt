@@ -14,7 +14,7 @@ use Rattle.network.specs.PlanList.{buffer_need, head_size, plan_size, plan_slots
 use Rattle.network.specs.Shaped.{net_of}
 use Rattle.network.specs.Walk.{position_count}
 use Rattle.stations.specs.Stations.{plannable-stations}
-use Rattle.marking.specs.Ready.{Ready, griddable, ready-grid}
+use Rattle.walk_visit.specs.Visit.{Ready, griddable, ready-grid}
 use Rattle.walk.specs.Lent.{lent_back}
 use Rattle.walk.specs.Call.{none-held, room-reply, short-reply, walk-held}
 use Rattle.walk.specs.Concluded.{concluded, outcome-room}
@@ -54,14 +54,14 @@ ready c = ready-grid (start c).requires c.grid-of.ensures
 
 -- ---- when the need is known
 
-abbrev grown : tie.After-list-size → tie.After-grid-of
+abbrev grown : tie.After-need → tie.After-grid-of
 grown c = c.before.before
 
 -- what was computed is what the list buffer needs
-need-known : (c : tie.After-list-size) → c.list-size.result ≡ buffer_need (network (start (grown c)))
+need-known : (c : tie.After-need) → c.need.result ≡ buffer_need (network (start (grown c)))
 need-known c =
     let s = start (grown c) in
-    c.list-size.ensures
+    c.need.ensures
     ∙ ap (λ (k : ℕ). head_size + k * plan_size (plan_slots s.args.shape.p) s.args.shape.t) (ready (grown c)).gridded.total
     ∙ ap (λ (t : ℕ). head_size + position_count (network s) * plan_size (plan_slots s.args.shape.p) t) s.pre.tree
 
@@ -74,8 +74,8 @@ slice-aggregate-grid-of c = sym (values-size c.before.before.before.before)
 grid-of-requires : tie.Need-grid-of-requires
 grid-of-requires c κs = let s = c.before.before.before.before in (plannable-stations s.requires, griddable s.requires (values-size s))
 
-list-size-requires : tie.Need-list-size-requires
-list-size-requires c κs =
+need-requires : tie.Need-need-requires
+need-requires c κs =
     let known = c.before in
     omega (arith, (ready known).gridded.total, (start known).requires.fine.few-positions)
 
@@ -131,7 +131,7 @@ list-plans-spec =
     array-borrow-prefix-values
     slice-aggregate-grid-of
     grid-of-requires
-    list-size-requires
+    need-requires
     returns
     array-share-prefix-values
     slice-aggregate-visit-all

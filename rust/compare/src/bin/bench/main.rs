@@ -3,7 +3,6 @@
 mod index;
 mod small;
 mod timing;
-mod trees;
 mod triple;
 mod writing;
 
@@ -70,7 +69,6 @@ fn main() {
     compare_indexes();
     writing::print_table();
     small::print_table();
-    trees::print_tables();
 }
 
 /// The tables of the list call and the ceilings question.

@@ -1,4 +1,5 @@
 // All trees of small yards, and what documents 01 and 02 make of them, coded apart: nothing of the planner is used.
+#![tactic(auto)]
 
 // Small yards, and their surveys.
 pub mod small;

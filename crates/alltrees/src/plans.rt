@@ -17,7 +17,7 @@ const MARKS: [u16; 2] = [0x4C50, 0x4D50];
 pub const ROWS: usize = 72;
 
 // The plans by rising vector, and none after the last; and how many there are.
-#[derive(Drop)]
+#[derive(Clone, Copy)]
 pub struct Plans {
     pub rows: [u64; ROWS],
     pub count: u64,

@@ -118,7 +118,7 @@ pub const SURVEY_ROOM: usize = 11 + 7 * 14;
 // A yard of a kind with m links; `record` says which of the four yard records its survey has. Bit j of `rest` is 1 where station j is at rest, and
 // `usable` is the set of the links between working stations. Byte e of a column belongs to link e: a number that picks its pair of stations, and the
 // codes of its sum cost and of its costs by each ceiling.
-#[derive(Drop)]
+#[derive(Clone, Copy)]
 pub struct Yard {
     pub kind: u64,
     pub m: u8,

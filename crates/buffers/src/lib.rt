@@ -1,4 +1,5 @@
 // Bytes put into a lent buffer; specs/ has the theory of what a write leaves.
+#![tactic(auto)]
 
 // Bytes and zeros written.
 pub mod copies;

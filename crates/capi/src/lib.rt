@@ -1,4 +1,6 @@
 // The calls of `planner` for programs in C and Rust: replies are structs of plain numbers.
+#![tactic(auto)]
+
 ghost use Rattle.std.specs.Prelude.{[], ◌∷◌, ◌≡◌, length};
 ghost use Rattle.network.specs.AnswerPromise.{BestPromised, JudgePromised};
 ghost use Rattle.network.specs.Calls.{asked, judged, list_after, list_status, tree_after};

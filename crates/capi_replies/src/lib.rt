@@ -1,4 +1,5 @@
 // The replies of calls for C: structs of plain numbers.
+#![tactic(auto)]
 
 // The reply of the judge and of the ceilings question.
 pub mod reply;

@@ -1,4 +1,5 @@
 // Text and numbers for the programs: written to standard output, and read from a line. What is written is not part of any contract.
+#![tactic(auto)]
 
 // A line of the input, read byte by byte.
 pub mod line;

@@ -6,7 +6,7 @@ pub const NUMBERS: usize = 32;
 
 // The first letter of a line's word; its numbers, negative ones as their two's complement, and their lowest bytes; how many were read to their
 // end; and whether the last byte was a digit, and whether a minus stands before the number that is being read.
-#[derive(Drop)]
+#[derive(Clone, Copy)]
 pub struct Line {
     pub word: u8,
     pub numbers: [u32; NUMBERS],

@@ -1,4 +1,5 @@
 // Numbers and marks as bytes, low byte first; specs/ has the theory of records and fields of one size.
+#![tactic(auto)]
 
 // Unsigned numbers and marks, read.
 pub mod numbers;

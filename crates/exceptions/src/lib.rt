@@ -1,4 +1,5 @@
 // Links above bounds, the exceptions: which of them a tree may have, for each ceiling fewer than its rank.
+#![tactic(auto)]
 
 // Above which bounds a link lies, its pattern.
 pub mod patterns;

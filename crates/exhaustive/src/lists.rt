@@ -11,7 +11,7 @@ use std::num::wrapping_add_u64;
 pub const ROOM: usize = 5520;
 
 // What a list call must reply, and leave in the buffer: all as it was, or the list with these words for its head and these plans.
-#[derive(Drop)]
+#[derive(Clone, Copy)]
 struct Wanted {
     pub number: u8,
     pub kept: bool,

@@ -1,5 +1,7 @@
 // All trees of small yards, as the crate `alltrees` lists them, held against the planner's calls. What is printed, counts alone, is held to the
 // file `stdout`.
+#![tactic(auto)]
+
 mod judged;
 mod lists;
 mod lookups;

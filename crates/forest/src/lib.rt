@@ -1,4 +1,6 @@
 // The groups of stations already joined, as a value: joining two groups hands back the next value.
+#![tactic(auto)]
+
 ghost use Rattle.std.specs.Prelude.{map, ◌≡◌, ◌<◌};
 ghost use Rattle.network.specs.Capacities.{stations_held};
 ghost use Rattle.spanning.specs.LabelList.{label_of, replaced};
@@ -7,7 +9,7 @@ ghost use Rattle.forest.specs.Groups.{apart, joined};
 use network::capacities::STATIONS_HELD;
 
 // A leader for each station: two stations with one leader are in one group.
-#[derive(Drop)]
+#[derive(Clone, Copy)]
 pub struct Forest {
     pub leader: [u8; STATIONS_HELD],
 }

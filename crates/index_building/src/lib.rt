@@ -1,4 +1,5 @@
 // The index of a plan list by first ceiling, written into a lent buffer.
+#![tactic(auto)]
 
 // The plan numbers by rising key.
 pub mod ordering;

@@ -1,4 +1,6 @@
 // The key of a plan in the index: one number that compares as y1, sum and y2 do, one after the other; in a list without ceilings, as sums do.
+#![tactic(auto)]
+
 ghost use Rattle.std.specs.Prelude.{false, ◌≡◌, ◌+◌, ◌≤◌, ◌<◌, length};
 ghost use Rattle.network.specs.Survey.{narrow_slots};
 ghost use Rattle.network.specs.PlanList.{head_size, plan_size};

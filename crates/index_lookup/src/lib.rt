@@ -1,4 +1,5 @@
 // The cheapest plan that a value of the first ceiling allows, by a list and its index.
+#![tactic(auto)]
 
 // Whether a buffer holds the list's index.
 pub mod testing;

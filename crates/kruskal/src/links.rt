@@ -9,7 +9,7 @@ use forest::Forest;
 use network::capacities::STATIONS_HELD;
 
 // The number of links of a base, and the sum of their raised costs.
-#[derive(Drop)]
+#[derive(Clone, Copy)]
 pub struct Base {
     pub count: usize,
     pub sum: u32,

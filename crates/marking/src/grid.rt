@@ -12,7 +12,7 @@ use network::Shape;
 use network::capacities::CEILINGS_HELD;
 
 // Ceiling i has counts[i] values, and the numbers of positions whose places differ by one there are strides[i] apart; there are `total` positions.
-#[derive(Drop)]
+#[derive(Clone, Copy)]
 pub struct Grid {
     pub counts: [usize; CEILINGS_HELD],
     pub strides: [usize; CEILINGS_HELD],

@@ -1,4 +1,5 @@
 // The positions of the walk: the values that each ceiling goes through, and marks of what is settled.
+#![tactic(auto)]
 
 // The place of a value.
 pub mod place;

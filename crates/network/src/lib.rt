@@ -1,4 +1,6 @@
 // The data model that all code shares. What the values mean, and document 01 as definitions, is in specs/.
+#![tactic(auto)]
+
 use crate::capacities::CEILINGS_HELD;
 
 // What arrays hold.
@@ -13,7 +15,7 @@ pub mod records;
 // What is small of a yard, which goes by value: n stations, of which those rest whose bits are set in `rest`, p ceilings with their ranks k, of which
 // the first p count, m links, and t, the links of a tree. Its columns go beside it as slices of just their length: link e joins the stations ends[2 * e]
 // and ends[2 * e + 1], has the sum cost sums[e] - RAISE, which is kept raised so that none is below 0, and costs[i * m + e] is its cost by ceiling i.
-#[derive(Drop)]
+#[derive(Clone, Copy)]
 pub struct Shape {
     pub n: u8,
     pub p: u8,
@@ -25,7 +27,7 @@ pub struct Shape {
 
 // The figures of a yard record that is written: n stations, p ceilings, and the ranks k1 and k2, 0 where a ceiling is absent.
 #[repr(C)]
-#[derive(Drop)]
+#[derive(Clone, Copy)]
 pub struct YardFigures {
     pub n: u8,
     pub p: u8,
@@ -34,14 +36,14 @@ pub struct YardFigures {
 }
 
 // The costs of a plan: the sum, and the ceiling costs y, 0 where a ceiling is absent.
-#[derive(Drop)]
+#[derive(Clone, Copy)]
 pub struct Costs {
     pub sum: i32,
     pub y: [i16; CEILINGS_HELD],
 }
 
 // The costs of a plan in an answer, each by itself: an enum holds no array.
-#[derive(Drop)]
+#[derive(Clone, Copy)]
 pub struct PlanCosts {
     pub sum: i32,
     pub y1: i16,
@@ -50,7 +52,7 @@ pub struct PlanCosts {
 }
 
 // The number of a refusal, and its place: the link number plus 1 for a link, and 0 for all else.
-#[derive(Drop)]
+#[derive(Clone, Copy)]
 pub struct Refusal {
     pub number: u8,
     pub place: u8,
@@ -58,35 +60,35 @@ pub struct Refusal {
 
 // The reply of a call that only fills a buffer: number 0 and place 0, or those of the refusal.
 #[repr(C)]
-#[derive(Drop)]
+#[derive(Clone, Copy)]
 pub struct Status {
     pub number: u8,
     pub place: u8,
 }
 
 // The reply to a ceilings question, or of the judge of a drawn tree.
-#[derive(Drop)]
+#[derive(Clone, Copy)]
 pub enum Answer {
     Plan(PlanCosts),
     Refused(Refusal),
 }
 
 // The reply to a lookup in an index: a plan's number, or the refusal.
-#[derive(Drop)]
+#[derive(Clone, Copy)]
 pub enum Found {
     Plan(u16),
     Refused(Refusal),
 }
 
 // What a check finds: nothing, or the first refusal.
-#[derive(Drop)]
+#[derive(Clone, Copy)]
 pub enum Checked {
     Fine,
     Refused(Refusal),
 }
 
 // What a record is: the mark that opens it, and its size in bytes.
-#[derive(Drop)]
+#[derive(Clone, Copy)]
 pub struct Form {
     pub mark: [u8; 2],
     pub size: usize,
@@ -94,7 +96,7 @@ pub struct Form {
 
 // What the records of a survey are: its yard record, the fewest ceilings that it may have, how many its records have room for, which are the most, the
 // places of the link count and of the stations at rest in the yard record, 0 where it has none, and its link records.
-#[derive(Drop)]
+#[derive(Clone, Copy)]
 pub struct Layout {
     pub yard: Form,
     pub fewest: u8,

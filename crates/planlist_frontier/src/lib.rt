@@ -1,4 +1,5 @@
 // The frontier of plans, kept in the list buffer as records in their order.
+#![tactic(auto)]
 
 // Where a new plan belongs.
 pub mod place;

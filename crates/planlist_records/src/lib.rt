@@ -1,4 +1,5 @@
 // The records of a plan list: its head, and a plan record for each plan.
+#![tactic(auto)]
 
 // Marks, sizes and where fields stand, and a plan record written.
 pub mod records;

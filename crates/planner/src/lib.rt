@@ -1,4 +1,5 @@
 // The calls open to others. None asks anything of its caller.
+#![tactic(auto)]
 
 // The judge of a drawn tree: its costs, or the refusal.
 pub use planner_judge::judge;

@@ -1,4 +1,6 @@
 // The ceilings question.
+#![tactic(auto)]
+
 ghost use Rattle.std.specs.Prelude.{◌≡◌, length};
 ghost use Rattle.network.specs.AnswerPromise.{BestPromised};
 ghost use Rattle.network.specs.Calls.{asked, says, tree_after};

@@ -1,4 +1,6 @@
 // One plan fetched from a stored list.
+#![tactic(auto)]
+
 ghost use Rattle.std.specs.Prelude.{◌≡◌};
 ghost use Rattle.network.specs.Fetching.{fetch_links, fetch_number};
 ghost use Rattle.network.specs.Promise.{LinksKept, NumberKept};

@@ -1,4 +1,6 @@
 // The index of a plan list by first ceiling, and the cheapest plan that a value of that ceiling allows.
+#![tactic(auto)]
+
 ghost use Rattle.std.specs.Prelude.{◌≡◌, length};
 ghost use Rattle.network.specs.Indexing.{index_after, index_status, lookup_reply, says_found};
 ghost use Rattle.network.specs.IndexPromise.{IndexPromised, LookupPromised};

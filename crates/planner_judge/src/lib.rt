@@ -1,4 +1,6 @@
 // The judge of a drawn tree.
+#![tactic(auto)]
+
 ghost use Rattle.std.specs.Prelude.{◌≡◌};
 ghost use Rattle.network.specs.AnswerPromise.{JudgePromised};
 ghost use Rattle.network.specs.Calls.{judged, says};

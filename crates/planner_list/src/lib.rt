@@ -1,4 +1,6 @@
 // The list of plans.
+#![tactic(auto)]
+
 ghost use Rattle.std.specs.Prelude.{◌≡◌, length};
 ghost use Rattle.network.specs.Calls.{list_after, list_status};
 ghost use Rattle.network.specs.Cut.{CutNoticed};

@@ -1,4 +1,6 @@
 // All small surveys in order, each by its number.
+#![tactic(auto)]
+
 ghost use Rattle.std.specs.Prelude.{◌≡◌, length};
 ghost use Rattle.network.specs.SmallPromise.{SmallPromised};
 ghost use Rattle.network.specs.SmallSurveys.{small_after, small_status};

@@ -1,4 +1,6 @@
 // A survey written from its figures.
+#![tactic(auto)]
+
 ghost use Rattle.std.specs.Prelude.{◌≡◌, length};
 ghost use Rattle.network.specs.Writing.{figures_from, write_after, write_status};
 ghost use Rattle.network.specs.WritingPromise.{WritePromised};

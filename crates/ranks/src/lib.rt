@@ -1,4 +1,6 @@
 // What the ranks of the ceilings have above 1, added up: the most links of a tree that may be above some bound.
+#![tactic(auto)]
+
 ghost use Rattle.std.specs.Prelude.{◌≡◌, ◌-◌, ◌<◌, ◌≤◌, length};
 ghost use Rattle.kmax.specs.Ceilings.{slack_of};
 ghost use Rattle.network.specs.Capacities.{ceilings_held};

@@ -1,4 +1,6 @@
 // The planner's program: a survey on standard input, its plans on standard output.
+#![tactic(auto)]
+
 mod print;
 
 use network::limits::MAX_INPUT;

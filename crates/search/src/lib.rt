@@ -1,4 +1,6 @@
 // The search for the best tree over all sets of exceptions.
+#![tactic(auto)]
+
 ghost use Rattle.std.specs.Prelude.{◌≡◌, ◌+◌, ◌*◌, ◌<◌, get_or, length};
 ghost use Rattle.exceptions.specs.Patterns.{Patterned};
 ghost use Rattle.exceptions.specs.Keep.{Exceptions};
@@ -17,7 +19,7 @@ use trees_costs::sums::sum_at;
 
 // A search: the number of links of a tree, what one takes of the base beside the largest sets, the trial that the next exceptions come to, and the
 // best tree so far.
-#[derive(Drop)]
+#[derive(Clone, Copy)]
 pub struct Search {
     pub goal: usize,
     pub rest: Rest,

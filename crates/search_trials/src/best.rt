@@ -11,7 +11,7 @@ use network::capacities::LINKS_HELD;
 
 // A forest of links: the base without the links at the places `lost` and `lost2`, the length of the base where none is left out, and with the first
 // `size` of the exceptions `link` and `other`; their number, and the sum of their raised costs.
-#[derive(Drop)]
+#[derive(Clone, Copy)]
 pub struct Trial {
     pub count: usize,
     pub sum: u32,
@@ -23,7 +23,7 @@ pub struct Trial {
 }
 
 // The best tree so far, if one was found.
-#[derive(Drop)]
+#[derive(Clone, Copy)]
 pub struct Lead {
     pub found: bool,
     pub trial: Trial,

@@ -1,4 +1,5 @@
 // Trials: the tree that one set of exceptions leads to, by what the base loses to it, and the better of two.
+#![tactic(auto)]
 
 // A trial and its links as flags, the lead, and which of two trials leads.
 pub mod best;

@@ -7,7 +7,7 @@ ghost use Rattle.search_trials.specs.Rest.{loses_to, rest_of};
 use trees_costs::sums::sum_of;
 
 // What a tree takes of the base beside a set: whether the base has as many links, and the least that so many cost, raised.
-#[derive(Drop)]
+#[derive(Clone, Copy)]
 pub struct Rest {
     pub enough: bool,
     pub least: u32,

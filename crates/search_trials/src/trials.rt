@@ -60,7 +60,7 @@ fn place_beside(history: &[u8], count: usize, a: u8, b: u8, u: u8, v: u8) -> usi
 }
 
 // Links of the base that a tree is without: their number, and their raised cost.
-#[derive(Drop)]
+#[derive(Clone, Copy)]
 pub struct Lost {
     pub count: usize,
     pub cost: u32,

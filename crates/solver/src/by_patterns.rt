@@ -59,7 +59,7 @@ fn best_from(
 }
 
 // Whether a tree was found, and the raised sum of its costs.
-#[derive(Drop)]
+#[derive(Clone, Copy)]
 pub struct Found {
     pub found: bool,
     pub sum: u32,

@@ -1,4 +1,5 @@
 // The ceilings question on a network: the best tree under bounds, with its links in the tree buffer.
+#![tactic(auto)]
 
 // Flags turned into links, rising, in the tree buffer.
 pub mod tree_buffer;

@@ -1,4 +1,6 @@
 // Stations at rest, as the bits of a number: bit j is 1 where station j rests.
+#![tactic(auto)]
+
 ghost use Rattle.std.specs.Prelude.{◌≡◌, ◌/◌, ◌^◌, ◌<◌, get_or, length};
 ghost use Rattle.network.specs.Capacities.{links_held, stations_held};
 ghost use Rattle.network.specs.Yard.{ends_at, joins_working, working, works};

@@ -1,4 +1,5 @@
 // The network that a survey's records say: its shape by value, and its columns in lent arrays.
+#![tactic(auto)]
 
 // Ends and ceiling costs as columns.
 pub mod columns;

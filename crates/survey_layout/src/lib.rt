@@ -1,4 +1,5 @@
 // The layouts of surveys: a row for each yard mark.
+#![tactic(auto)]
 
 // Where the fields of a record stand.
 pub mod fields;

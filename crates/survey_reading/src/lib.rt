@@ -1,4 +1,5 @@
 // A survey read whole: its first refusal, or its network.
+#![tactic(auto)]
 
 // The limit of positions, number 19.
 pub mod positions;

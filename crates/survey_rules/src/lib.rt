@@ -1,4 +1,5 @@
 // The rules that the records of a survey must keep: numbers 2 to 8, 15 and 18, in their order.
+#![tactic(auto)]
 
 // A number outside its range, and the first refusal of several checks.
 pub mod checks;

@@ -1,4 +1,5 @@
 // A survey written from its figures.
+#![tactic(auto)]
 
 // The kinds of yard records that are written, and their layouts.
 pub mod kinds;

@@ -1,4 +1,5 @@
 // The costs of a tree: its sum, and for each ceiling the k-th largest cost.
+#![tactic(auto)]
 
 // The sum cost.
 pub mod sums;

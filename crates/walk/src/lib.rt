@@ -1,4 +1,5 @@
 // The threshold walk over all positions, and the list of plans that it leaves.
+#![tactic(auto)]
 
 // All positions, with the counts.
 pub mod positions;

@@ -15,7 +15,7 @@ use solver::question::solve;
 use walk_visit::{put_position, settle, take_in};
 
 // What the walk says of itself: whether it gave up, how many plans it has in the buffer, and how many positions it solved.
-#[derive(Drop)]
+#[derive(Clone, Copy)]
 pub struct Walked {
     pub spent: bool,
     pub plans: usize,

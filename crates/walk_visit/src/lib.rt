@@ -1,4 +1,6 @@
 // One position of the threshold walk: its places and bounds, what its answer settles, and its plan taken into the frontier.
+#![tactic(auto)]
+
 ghost use Rattle.std.specs.Prelude.{◌≡◌, length};
 ghost use Rattle.network.specs.Calls.{together};
 ghost use Rattle.walk_visit.specs.Found.{Parted, Placed, Within, bounds_at, last_sides, own_sides};

@@ -33,6 +33,8 @@
 //     number L Q              small survey Q, and the output of L bytes after it
 //
 // The first letter of the word counts. A line with any other word is a remark.
+#![tactic(auto)]
+
 mod calls;
 mod indexing;
 mod many;

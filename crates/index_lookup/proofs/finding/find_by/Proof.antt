@@ -14,117 +14,117 @@ use Rattle.index_lookup.proofs.finding.find_by.Statement.{statement}
 use Rattle.index_lookup.proofs.finding.find_by.Tie as tie
 
 -- the places in the code, and the way back: from the plan count to the call's beginning, from the keys to the count
-abbrev start : tie.After-read-u16 → tie.Start
+abbrev start : tie.After-read_u16-count → tie.Start
 start c = c.before.before.before.before
 
-abbrev counted : tie.After-read-keys → tie.After-read-u16
+abbrev counted : tie.After-read_keys → tie.After-read_u16-count
 counted c = c.before.before
 
 -- the column has room for the keys
-room : (c : tie.After-read-u16) → c.read-u16.result ≤ length (start c).args.keys.now
-room c = let e = c.read-u16.ensures in omega (arith, (start c).requires.1)
+room : (c : tie.After-read_u16-count) → c.read_u16-count.result ≤ length (start c).args.keys-1.now
+room c = let e = c.read_u16-count.ensures in omega (arith, (start c).requires.1)
 
 -- as many are read as there are plans
-keys-read : (c : tie.After-read-keys) → length c.read-keys.new.1.0 ≡ (counted c).read-u16.result
+keys-read : (c : tie.After-read_keys) → length c.read_keys.new.1.0 ≡ (counted c).read_u16-count.result
 keys-read c =
     let u = counted c in
-    c.read-keys.auto.1.0 ∙ length-take-le u.read-u16.result (start u).args.keys.now (room u)
+    c.read_keys.auto.1.0 ∙ length-take-le u.read_u16-count.result (start u).args.keys-1.now (room u)
 
 -- and they are what is lent next
-keys-lent : (c : tie.After-read-keys)
-    → take (counted c).read-u16.result (c.read-keys.new.1.0 ++ drop (counted c).read-u16.result (start (counted c)).args.keys.now)
-    ≡ c.read-keys.new.1.0
+keys-lent : (c : tie.After-read_keys)
+    → take (counted c).read_u16-count.result (c.read_keys.new.1.0 ++ drop (counted c).read_u16-count.result (start (counted c)).args.keys-1.now)
+    ≡ c.read_keys.new.1.0
 keys-lent c =
     let u = counted c in
-    take_at c.read-keys.new.1.0 (drop u.read-u16.result (start u).args.keys.now) u.read-u16.result (keys-read c)
+    take_at c.read_keys.new.1.0 (drop u.read_u16-count.result (start u).args.keys-1.now) u.read_u16-count.result (keys-read c)
 
-read-u16-requires : tie.Need-read-u16-requires
+read-u16-requires : tie.Need-read_u16-count-requires
 read-u16-requires c κs = let s = c.before.before.before in omega (arith, (whole s.args.list.now s.requires.0).long)
 
-cast-count : tie.Need-overflow-cast-count
+cast-count : tie.Need-overflow_cast-count
 cast-count c = search rules
 
-slice-relend-prefix-read-keys : tie.Need-slice-relend-prefix-read-keys
+slice-relend-prefix-read-keys : tie.Need-slice_bounds-read_keys-end
 slice-relend-prefix-read-keys c = search rules
 
-slice-aggregate-read-keys : tie.Need-slice-aggregate-read-keys
-slice-aggregate-read-keys c = let u = c.before in sym (length-take-le u.read-u16.result (start u).args.keys.now (room u))
+slice-aggregate-read-keys : tie.Need-slice_bounds-read_keys-end-2
+slice-aggregate-read-keys c = let u = c.before in sym (length-take-le u.read_u16-count.result (start u).args.keys-1.now (room u))
 
-read-keys-requires : tie.Need-read-keys-requires
+read-keys-requires : tie.Need-read_keys-requires
 read-keys-requires c κs =
     let u = c.before in
-    ((start u).requires.0, length-take-le u.read-u16.result (start u).args.keys.now (room u) ∙ u.read-u16.ensures)
+    ((start u).requires.0, length-take-le u.read_u16-count.result (start u).args.keys-1.now (room u) ∙ u.read_u16-count.ensures)
 
-mul-if2 : tie.Need-overflow-mul-if2
+mul-if2 : tie.Need-overflow_mul-count
 mul-if2 c = search rules
 
 refused-requires : tie.Need-refused-requires
 refused-requires c κs = search rules
 
-same_length : tie.Need-same-length
+same_length : tie.Need-shape_of-keys-then-index-count
 same_length c = search rules
 
-returns : tie.Need-returns
+returns : tie.Need-returns-then-index-count
 returns c =
     let k = c.before.before.before.before.before in
     let u = counted k in
     let s = start u in
-    let marks = sym k.read-keys.ensures.marked ∙ c.before.before.if1.true in
-    let short = c.before.if2.true in
+    let marks = sym k.read_keys.ensures.marked ∙ c.before.before.if-read_keys.true in
+    let short = c.before.if-index-count.true in
     c.refused.ensures
-    ∙ looked-short s.args.list.now s.args.index.now s.args.y (fit-marked s.args.list.now s.pre.0 marks)
-    (omega (arith, u.read-u16.ensures))
+    ∙ looked-short s.args.list.now s.args.index.now s.args.y (fit-marked s.args.list.now s.requires.0 marks)
+    (omega (arith, u.read_u16-count.ensures))
 
-slice-reshare-prefix-find-in : tie.Need-slice-reshare-prefix-find-in
+slice-reshare-prefix-find-in : tie.Need-slice_bounds-find_in-end
 slice-reshare-prefix-find-in c = search rules
 
-slice-aggregate-find-in : tie.Need-slice-aggregate-find-in
+slice-aggregate-find-in : tie.Need-slice_bounds-find_in-end-then-read_keys
 slice-aggregate-find-in c = let k = c.before.before.before.before.before in sym (ap length (keys-lent k) ∙ keys-read k)
 
-find-in-requires : tie.Need-find-in-requires
+find-in-requires : tie.Need-find_in-requires
 find-in-requires c κs =
     let k = c.before.before.before.before.before in
     let u = counted k in
     let s = start u in
-    let few = (whole s.args.list.now s.pre.0).few in
-    let e = u.read-u16.ensures in
-    let fits = c.before.if2.false in
+    let few = (whole s.args.list.now s.requires.0).few in
+    let e = u.read_u16-count.ensures in
+    let fits = c.before.if-index-count.false in
     let size = ap length (keys-lent k) ∙ keys-read k in
     (omega arith, omega arith)
 
-same-length-2 : tie.Need-same-length-2
+same-length-2 : tie.Need-shape_of-keys-then-read_keys
 same-length-2 c = search rules
 
-returns-2 : tie.Need-returns-2
+returns-2 : tie.Need-returns-then-read_keys
 returns-2 c =
     let k = c.before.before.before.before.before.before in
     let u = counted k in
     let s = start u in
-    let taken = c.before.before.before.if1.true in
-    let marks = sym k.read-keys.ensures.marked ∙ taken in
-    let fits = c.before.before.if2.false in
-    let bytes = u.before.before.before.shared-slice-known.given in
-    let found = rw (to_z-of_z s.fits.y) at c.find-in.ensures in
+    let taken = c.before.before.before.if-read_keys.true in
+    let marks = sym k.read_keys.ensures.marked ∙ taken in
+    let fits = c.before.before.if-index-count.false in
+    let bytes = u.before.before.before.shared_slice_known-1.given in
+    let found = rw (to_z-of_z s.fits.y) at c.find_in.ensures in
     found
     ∙ ap (λ (l : List ℕ). found_in l s.args.index.now s.args.y) (keys-lent k)
-    ∙ found-list s.args.list.now bytes (k.read-keys.ensures.filled taken) s.args.index.now s.args.y
-    s.fits.y (fit-marked s.args.list.now s.pre.0 marks) (omega (arith, u.read-u16.ensures))
+    ∙ found-list s.args.list.now bytes (k.read_keys.ensures.filled taken) s.args.index.now s.args.y
+    s.fits.y (fit-marked s.args.list.now s.requires.0 marks) (omega (arith, u.read_u16-count.ensures))
 
 refused-requires-2 : tie.Need-refused-requires-2
 refused-requires-2 c κs = search rules
 
-same-length-3 : tie.Need-same-length-3
+same-length-3 : tie.Need-shape_of-keys
 same-length-3 c = search rules
 
-returns-3 : tie.Need-returns-3
+returns-3 : tie.Need-returns
 returns-3 c =
     let k = c.before.before.before.before in
     let s = start (counted k) in
-    let marks = sym k.read-keys.ensures.marked ∙ c.before.if1.false in
-    c.refused2.ensures ∙ looked-unfit s.args.list.now s.args.index.now s.args.y (unfit-unmarked s.args.list.now s.pre.0 marks)
+    let marks = sym k.read_keys.ensures.marked ∙ c.before.if-read_keys.false in
+    c.refused-2.ensures ∙ looked-unfit s.args.list.now s.args.index.now s.args.y (unfit-unmarked s.args.list.now s.requires.0 marks)
 
-pub find-by-spec : {M : Type 1} → statement M
-find-by-spec =
+pub find_by_spec : {M : Type 1} → statement M
+find_by_spec =
     tie.close
     (tie.spec
     read-u16-requires

@@ -12,66 +12,66 @@ use Rattle.planlist_fetching.proofs.finding.fetch_number.Statement.{statement}
 use Rattle.planlist_fetching.proofs.finding.fetch_number.Tie as tie
 
 -- the list is not damaged
-intact : (c : tie.Else1) → damaged c.before.before.before.args.list.now ≡ false
-intact c = sym c.before.is-damaged.ensures ∙ c.if1.false
+intact : (c : tie.Else-is_damaged) → damaged c.before.before.before.args.list.now ≡ false
+intact c = sym c.before.is_damaged.ensures ∙ c.if-is_damaged.false
 
-is-damaged-requires : tie.Need-is-damaged-requires
+is-damaged-requires : tie.Need-is_damaged-requires
 is-damaged-requires c κs = search rules
 
-returns : tie.Need-returns
+returns : tie.Need-returns-then-is_damaged
 returns c =
     let a = c.before.before.before.args in
-    sym (number-damaged a.list.now a.r (sym c.before.is-damaged.ensures ∙ c.if1.true))
+    sym (number-damaged a.list.now a.r (sym c.before.is_damaged.ensures ∙ c.if-is_damaged.true))
 
-read-u16-requires : tie.Need-read-u16-requires
+read-u16-requires : tie.Need-read_u16-requires
 read-u16-requires c κs = omega (arith, (whole c.before.before.before.args.list.now (intact c)).long)
 
-cast-if2 : tie.Need-overflow-cast-if2
+cast-if2 : tie.Need-overflow_cast-read_u16
 cast-if2 c = search rules
 
-plan-start-requires : tie.Need-plan-start-requires
-plan-start-requires c κs = (intact c.before.before, omega (arith, c.if2.true, c.before.read-u16.ensures))
+plan-start-requires : tie.Need-plan_start-requires
+plan-start-requires c κs = (intact c.before.before, omega (arith, c.if-r-read_u16.true, c.before.read_u16.ensures))
 
-shared-slice-read-plan-slots : tie.Need-shared-slice-read-plan-slots
+shared-slice-read-plan-slots : tie.Need-bounds-list-9
 shared-slice-read-plan-slots c =
     let else = c.before.before.before.before in
     omega (arith, (whole else.before.before.before.args.list.now (intact else)).long)
 
-plan-slots-requires : tie.Need-plan-slots-requires
+plan-slots-requires : tie.Need-plan_slots-requires
 plan-slots-requires c κs = search rules
 
-plan-mark-requires : tie.Need-plan-mark-requires
+plan-mark-requires : tie.Need-plan_mark-requires
 plan-mark-requires c κs = search rules
 
-mark-at-requires : tie.Need-mark-at-requires
+mark-at-requires : tie.Need-mark_at-requires
 mark-at-requires c κs = search rules
 
 -- the number of a plan below the count, by whether its mark is there
-marked : (c : tie.After-mark-at) → {b : Bool} → c.mark-at.result ≡ b
+marked : (c : tie.After-mark_at) → {b : Bool} → c.mark_at.result ≡ b
     → let a = c.before.before.before.before.before.before.before.before.before.before.args in fetch_number a.list.now a.r ≡ cond b 0 12
 marked c e =
     let then = c.before.before.before.before.before in
     let a = then.before.before.before.before.before.args in
     let list = a.list.now in
-    let below : a.r < head_count list = omega (arith, then.if2.true, then.before.read-u16.ensures) in
-    let mark : c.before.plan-mark.result ≡ plan_mark (head_slots list) =
-    c.before.plan-mark.ensures ∙ ap plan_mark c.before.before.plan-slots.ensures.0 in
-    let there = ap₂ (mark_at list) (sym c.before.before.before.before.plan-start.ensures.0) (sym mark) ∙ sym c.mark-at.ensures ∙ e in
+    let below : a.r < head_count list = omega (arith, then.if-r-read_u16.true, then.before.read_u16.ensures) in
+    let mark : c.before.plan_mark.result ≡ plan_mark (head_slots list) =
+    c.before.plan_mark.ensures ∙ ap plan_mark c.before.before.plan_slots.ensures.0 in
+    let there = ap₂ (mark_at list) (sym c.before.before.before.before.plan_start.ensures.0) (sym mark) ∙ sym c.mark_at.ensures ∙ e in
     number-marked list a.r (intact then.before.before) below there
 
-returns-2 : tie.Need-returns-2
-returns-2 c = sym (marked c.before c.if3.true)
+returns-2 : tie.Need-returns-then-mark_at
+returns-2 c = sym (marked c.before c.if-mark_at.true)
 
-returns-3 : tie.Need-returns-3
-returns-3 c = sym (marked c.before c.if3.false)
+returns-3 : tie.Need-returns-then-r-read_u16
+returns-3 c = sym (marked c.before c.if-mark_at.false)
 
-returns-4 : tie.Need-returns-4
+returns-4 : tie.Need-returns
 returns-4 c =
     let a = c.before.before.before.before.before.args in
-    sym (number-none a.list.now a.r (intact c.before.before) (omega (arith, c.if2.false, c.before.read-u16.ensures)))
+    sym (number-none a.list.now a.r (intact c.before.before) (omega (arith, c.if-r-read_u16.false, c.before.read_u16.ensures)))
 
-pub fetch-number-spec : {M : Type 1} → statement M
-fetch-number-spec =
+pub fetch_number_spec : {M : Type 1} → statement M
+fetch_number_spec =
     tie.close
     (tie.spec
     is-damaged-requires

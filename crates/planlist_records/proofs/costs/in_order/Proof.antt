@@ -13,16 +13,16 @@ use Rattle.planlist_records.proofs.costs.in_order.Tie as tie
 le32-requires : tie.Need-le32-requires
 le32-requires c κs = search rules
 
-le32-requires-2 : tie.Need-le32-requires-2
+le32-requires-2 : tie.Need-le32-requires-then-le32
 le32-requires-2 c κs = search rules
 
-slice-aggregate-all-in-order : tie.Need-slice-aggregate-all-in-order
+slice-aggregate-all-in-order : tie.Need-slice_bounds-all_in_order-end
 slice-aggregate-all-in-order c = search rules
 
-slice-aggregate-all-in-order-2 : tie.Need-slice-aggregate-all-in-order-2
+slice-aggregate-all-in-order-2 : tie.Need-slice_bounds-all_in_order-end-then-le32
 slice-aggregate-all-in-order-2 c = search rules
 
-all-in-order-requires : tie.Need-all-in-order-requires
+all-in-order-requires : tie.Need-all_in_order-requires
 all-in-order-requires c κs = search rules
 
 -- the sums are numbers of their width
@@ -38,21 +38,21 @@ no-higher c e =
     let s = c.before.before.before in
     sym (tested w32 s.args.w.sum s.args.v.sum (w_fits s) (v-fits s) c.le32.ensures) ∙ e
 
-returns : tie.Need-returns
+returns : tie.Need-returns-then-le32
 returns c =
     let sums = c.before.before.before in
     let then = sums.before.before.before.before.before in
     let start = then.before.before.before.before in
     let v = start.args.v in
     let w = start.args.w in
-    let s = tested w32 v.sum w.sum (v-fits start) (w_fits start) sums.le322.ensures in
-    in-order-by v w (no-higher then.before then.if1.true) s c.all-in-order.ensures
+    let s = tested w32 v.sum w.sum (v-fits start) (w_fits start) sums.le32-then-le32.ensures in
+    in-order-by v w (no-higher then.before then.if-le32.true) s c.all_in_order.ensures
 
-returns-2 : tie.Need-returns-2
-returns-2 c = let a = c.before.before.before.before.args in sym (in-order-lower a.v a.w (no-higher c.before c.if1.false))
+returns-2 : tie.Need-returns
+returns-2 c = let a = c.before.before.before.before.args in sym (in-order-lower a.v a.w (no-higher c.before c.if-le32.false))
 
-pub in-order-spec : {M : Type 1} → statement M
-in-order-spec =
+pub in_order_spec : {M : Type 1} → statement M
+in_order_spec =
     tie.close
     (tie.spec
     le32-requires

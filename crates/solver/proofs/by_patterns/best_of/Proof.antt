@@ -16,130 +16,130 @@ use Rattle.solver.proofs.by_patterns.best_of.Statement.{statement}
 use Rattle.solver.proofs.by_patterns.best_of.Tie as tie
 
 -- where the function was called, seen from the base
-abbrev start : tie.After-put-base → tie.Start
+abbrev start : tie.After-put_base-kept → tie.Start
 start c = c.before.before.before.before.before.before.before.before.before.before.before.before.before
 
-slice-aggregate-put-normal : tie.Need-slice-aggregate-put-normal
+slice-aggregate-put-normal : tie.Need-slice_bounds-put_normal-end
 slice-aggregate-put-normal c = search rules
 
-put-normal-requires : tie.Need-put-normal-requires
+put-normal-requires : tie.Need-put_normal-n-requires
 put-normal-requires c κs =
     let p = c.before.before.before.before.before.before.before.requires in
     record { known = λ e m. omega (arith, (p.1.walkable.usable e m).below, p.2.size); room = omega (arith, p.1.walkable.few) }
 
-array-share-prefix-normal : tie.Need-array-share-prefix-normal
+array-share-prefix-normal : tie.Need-slice_bounds-normal-end
 array-share-prefix-normal c = search rules
 
-slice-aggregate-put-base : tie.Need-slice-aggregate-put-base
-slice-aggregate-put-base c = sym (length-take-le _ _ c.before.before.put-normal.ensures.few)
+slice-aggregate-put-base : tie.Need-slice_bounds-put_base-end
+slice-aggregate-put-base c = sym (length-take-le _ _ c.before.before.put_normal-n.ensures.few)
 
-slice-aggregate-put-base-2 : tie.Need-slice-aggregate-put-base-2
+slice-aggregate-put-base-2 : tie.Need-slice_bounds-put_base-end-2
 slice-aggregate-put-base-2 c = search rules
 
-slice-aggregate-put-base-3 : tie.Need-slice-aggregate-put-base-3
+slice-aggregate-put-base-3 : tie.Need-slice_bounds-put_base-end-3
 slice-aggregate-put-base-3 c = search rules
 
-put-base-requires : tie.Need-put-base-requires
+put-base-requires : tie.Need-put_base-kept-requires
 put-base-requires c κs =
     let p = c.before.before.before.before.before.before.before.before.before.before.before.before.requires in
     let v = normals-in-order _ p.1 in
-    rw c.before.before.before.before.put-normal.ensures.links
+    rw c.before.before.before.before.put_normal-n.ensures.links-1
     (p.0, v.walkable, normals-joinable _ p.3, omega (arith, v.walkable.few), omega (arith, p.3.held))
 
 -- the links that are kept of the normal ones, and the leaders after each
-based : (c : tie.After-put-base)
+based : (c : tie.After-put_base-kept)
     → let i = (start c).args in
-    Based i.ends.now i.sums.now (filter (normal i.patterns.now) i.order.now) i.goal c.put-base.new.1.1.1.1.0
-    c.put-base.new.1.1.1.1.1.0 c.put-base.result
-based c = rw c.before.before.before.before.before.put-normal.ensures.links at c.put-base.ensures
+    Based i.ends.now i.sums.now (filter (normal i.patterns.now) i.order.now) i.goal c.put_base-kept.new.1.1.1.1.0
+    c.put_base-kept.new.1.1.1.1.1.0 c.put_base-kept.result
+based c = rw c.before.before.before.before.before.put_normal-n.ensures.links-1 at c.put_base-kept.ensures
 
-base-alone-requires : tie.Need-base-alone-requires
+base-alone-requires : tie.Need-base_alone-alone-requires
 base-alone-requires c κs = search rules
 
-array-share-prefix-base : tie.Need-array-share-prefix-base
+array-share-prefix-base : tie.Need-slice_bounds-base-end
 array-share-prefix-base c = search rules
 
-slice-aggregate-rest-of : tie.Need-slice-aggregate-rest-of
-slice-aggregate-rest-of c = sym (length-take-le _ _ c.before.before.before.before.before.put-base.ensures.inside)
+slice-aggregate-rest-of : tie.Need-slice_bounds-rest_of-end
+slice-aggregate-rest-of c = sym (length-take-le _ _ c.before.before.before.before.before.put_base-kept.ensures.inside)
 
-slack-of-requires : tie.Need-slack-of-requires
+slack-of-requires : tie.Need-slack_of-requires
 slack-of-requires c κs = (start c.before.before.before.before.before).requires.2.few
 
-rest-of-requires : tie.Need-rest-of-requires
+rest-of-requires : tie.Need-rest_of-requires
 unfolding sum_of
 rest-of-requires c κs =
     let made = c.before.before.before.before.before.before in
     let p = (start made).requires in
     let base = based made in
-    rw base.links (
+    rw base.links-1 (
       (base-in-order p.0 (normals-in-order _ p.1) (normals-joinable _ p.3)).walkable,
-      (base-trial base c.before.before.before.base-alone.ensures).sum,
+      (base-trial base c.before.before.before.base_alone-alone.ensures).sum,
     )
 
-array-share-prefix-base-2 : tie.Need-array-share-prefix-base-2
+array-share-prefix-base-2 : tie.Need-slice_bounds-base-end-2
 array-share-prefix-base-2 c = search rules
 
-slice-aggregate-best-from : tie.Need-slice-aggregate-best-from
-slice-aggregate-best-from c = sym (length-take-le _ _ c.before.before.before.before.before.before.before.before.put-base.ensures.inside)
+slice-aggregate-best-from : tie.Need-slice_bounds-best_from-end
+slice-aggregate-best-from c = sym (length-take-le _ _ c.before.before.before.before.before.before.before.before.put_base-kept.ensures.inside)
 
-slice-aggregate-best-from-2 : tie.Need-slice-aggregate-best-from-2
+slice-aggregate-best-from-2 : tie.Need-slice_bounds-best_from-end-2
 slice-aggregate-best-from-2 c = search rules
 
-best-from-requires : tie.Need-best-from-requires
+best-from-requires : tie.Need-best_from-best-requires
 best-from-requires c κs =
     let made = c.before.before.before.before.before.before.before.before.before in
     let p = (start made).requires in
     let base = based made in
-    let alone = c.before.before.before.before.before.before.base-alone.ensures in
-    rw base.links (
+    let alone = c.before.before.before.before.before.before.base_alone-alone.ensures in
+    rw base.links-1 (
       base_begun p.0 (normals-in-order _ p.1) (normals-joinable _ p.3) base alone,
       p.2,
       p.1,
       p.3,
       p.4,
       base-trial base alone,
-      rw (base.links, c.before.before.before.slack-of.ensures) at c.before.before.rest_of.ensures,
+      rw (base.links-1, c.before.before.before.slack_of.ensures) at c.before.before.rest_of.ensures,
     )
 
-array-share-prefix-base-3 : tie.Need-array-share-prefix-base-3
+array-share-prefix-base-3 : tie.Need-slice_bounds-base-end-then-best
 array-share-prefix-base-3 c = search rules
 
-slice-aggregate-put-flags : tie.Need-slice-aggregate-put-flags
+slice-aggregate-put-flags : tie.Need-slice_bounds-put_flags-end
 slice-aggregate-put-flags c =
     let made = c.before.before.before.before.before.before.before.before.before.before.before.before.before in
-    sym (length-take-le _ _ made.put-base.ensures.inside)
+    sym (length-take-le _ _ made.put_base-kept.ensures.inside)
 
-put-flags-requires : tie.Need-put-flags-requires
+put-flags-requires : tie.Need-put_flags-requires
 put-flags-requires c κs =
     let made = c.before.before.before.before.before.before.before.before.before.before.before.before.before.before in
     let p = (start made).requires in
     let distinct = base-distinct p.0 (normals-in-order _ p.1) (normals-joinable _ p.3) in
-    (p.5, rw (based made).links distinct, c.before.before.before.before.best-from.ensures.1)
+    (p.5, rw (based made).links-1 distinct, c.before.before.before.before.best_from-best.ensures.1)
 
 -- the tree that the search ends with
-best : (c : tie.After-best-from)
+best : (c : tie.After-best_from-best)
     → let i = (start c.before.before.before.before.before.before.before.before.before.before).args in
-    best_by (kept i.ends.now apart (filter (normal i.patterns.now) i.order.now)) c.best-from.result
+    best_by (kept i.ends.now apart (filter (normal i.patterns.now) i.order.now)) c.best_from-best.result
     ≡ best_of i.ends.now i.sums.now i.goal i.ks.now i.patterns.now i.order.now
 best c =
     let made = c.before.before.before.before.before.before.before.before.before.before in
     let base = based made in
-    let alone = c.before.before.before.before.before.before.before.base-alone.ensures in
-    assembled _ _ _ _ _ _ (start made).requires.2 _ base alone (rw base.links at c.best-from.ensures.0)
+    let alone = c.before.before.before.before.before.before.before.base_alone-alone.ensures in
+    assembled _ _ _ _ _ _ (start made).requires.2 _ base alone (rw base.links-1 at c.best_from-best.ensures.0)
 
-same_length : tie.Need-same-length
+same_length : tie.Need-shape_of-taken
 same_length c = search rules
 
-returns : tie.Need-returns
+returns : tie.Need-returns-then-best
 returns c =
     let made = c.before.before.before.before.before.before.before.before.before.before.before.before.before.before.before.before.before in
-    found-reports _ _ (best c.before.before.before.before.before.before.before) (rw (based made).links at c.before.before.put-flags.ensures)
+    found-reports _ _ (best c.before.before.before.before.before.before.before) (rw (based made).links-1 at c.before.before.put_flags.ensures)
 
-returns-2 : tie.Need-returns-2
-returns-2 c = none-reports _ _ (best c.before) _ c.if1.false
+returns-2 : tie.Need-returns-else-best
+returns-2 c = none-reports _ _ (best c.before) _ c.if-best.false
 
-pub best-of-spec : {M : Type 1} → statement M
-best-of-spec =
+pub best_of_spec : {M : Type 1} → statement M
+best_of_spec =
     tie.close
     (tie.spec
     slice-aggregate-put-normal

@@ -35,24 +35,24 @@ next-part c =
     omega (arith, l.invariant.2, (start c).requires.costs-are)
 
 -- the array has room for a column
-front : (c : tie.In-loop invariant-loop decreases-loop) → (start c).args.shape.m ≤ length c.before.loop.values
+front : (c : tie.In-loop invariant-loop decreases-loop) → (start c).args.shape.m ≤ length c.before.loop.values-1
 front c = omega (arith, c.before.loop.invariant.0, (start c).requires.links)
 
-front_length : (c : tie.In-loop invariant-loop decreases-loop) → length (take (start c).args.shape.m c.before.loop.values) ≡ (start c).args.shape.m
-front_length c = length-take-le (start c).args.shape.m c.before.loop.values (front c)
+front_length : (c : tie.In-loop invariant-loop decreases-loop) → length (take (start c).args.shape.m c.before.loop.values-1) ≡ (start c).args.shape.m
+front_length c = length-take-le (start c).args.shape.m c.before.loop.values-1 (front c)
 
 -- what stands there once its values are found
-new-length : (c : tie.After-values2 invariant-loop decreases-loop)
-    → length c.before.different-values.new.1.1.1.0 ≡ (start c.before.before.before.before).args.shape.m
-new-length c = c.before.different-values.auto.1.1.1.0 ∙ front_length c.before.before.before.before
+new-length : (c : tie.After-values-in-loop-1 invariant-loop decreases-loop)
+    → length c.before.different_values-total.new.1.1.1.0 ≡ (start c.before.before.before.before).args.shape.m
+new-length c = c.before.different_values-total.auto.1.1.1.0 ∙ front_length c.before.before.before.before
 
 -- the ceiling is counted
-counted : (c : tie.After-values2 invariant-loop decreases-loop)
+counted : (c : tie.After-values-in-loop-1 invariant-loop decreases-loop)
     → let turn = c.before.before.before.before in
     let s = start turn in
     let l = turn.before.loop in
-    (c.before.different-values.result ≤ s.args.shape.m)
-    × (l.total * c.before.different-values.result
+    (c.before.different_values-total.result ≤ s.args.shape.m)
+    × (l.total * c.before.different_values-total.result
     ≡ product (ceiling_values (usable_at s.args.shape.rest s.args.ends.now) (l.counter + 1) s.args.shape.m s.args.costs.now))
 counted c =
     let turn = c.before.before.before.before in
@@ -60,7 +60,7 @@ counted c =
     let l = turn.before.loop in
     let m = s.args.shape.m in
     let width : l.from + m - l.from ≡ m = omega arith in
-    let new = c.before.different-values in
+    let new = c.before.different_values-total in
     product-turn (usable_at s.args.shape.rest s.args.ends.now) m s.args.costs.now l.counter l.from (l.from + m - l.from) new.result
     new.new.1.1.1.0 l.invariant.3 l.invariant.2 width (next-part turn) (new-length c) new.ensures
 
@@ -69,46 +69,46 @@ loop-holds c =
     let a = c.before.args in
     (refl, omega arith, omega arith, product-none (usable_at a.shape.rest a.ends.now) a.shape.m a.costs.now)
 
-add-to : tie.Need-overflow-add-to invariant-loop decreases-loop
+add-to : tie.Need-overflow_add-to invariant-loop decreases-loop
 add-to c = omega (arith, next-part c, (start c).well-formed)
 
-mul-different-values : tie.Need-overflow-mul-different-values invariant-loop decreases-loop
+mul-different-values : tie.Need-offset_bounds-costs-from invariant-loop decreases-loop
 mul-different-values c = omega (arith, next-part c, (start c).well-formed)
 
-sub-different-values : tie.Need-overflow-sub-different-values invariant-loop decreases-loop
+sub-different-values : tie.Need-slice_bounds-different_values-count invariant-loop decreases-loop
 sub-different-values c = search rules
 
-part-different-values-start : tie.Need-slice-bounds-different-values-start invariant-loop decreases-loop
+part-different-values-start : tie.Need-slice_bounds-different_values-start invariant-loop decreases-loop
 part-different-values-start c = search rules
 
-part-different-values-end : tie.Need-slice-bounds-different-values-end invariant-loop decreases-loop
+part-different-values-end : tie.Need-slice_bounds-different_values-end invariant-loop decreases-loop
 part-different-values-end c = next-part c
 
-array-borrow-prefix-values : tie.Need-array-borrow-prefix-values invariant-loop decreases-loop
+array-borrow-prefix-values : tie.Need-slice_bounds-values-end invariant-loop decreases-loop
 array-borrow-prefix-values c = front c.before
 
-slice-aggregate-different-values : tie.Need-slice-aggregate-different-values invariant-loop decreases-loop
+slice-aggregate-different-values : tie.Need-slice_bounds-different_values-end-in-loop invariant-loop decreases-loop
 slice-aggregate-different-values c = sym (front_length c.before.before)
 
-different-values-requires : tie.Need-different-values-requires invariant-loop decreases-loop
+different-values-requires : tie.Need-different_values-total-requires invariant-loop decreases-loop
 different-values-requires c κs =
     let turn = c.before.before in
     let l = turn.before.loop in
     let s = start turn in
     let m = s.args.shape.m in
     let column = length-take (l.from + m - l.from) (drop l.from s.args.costs.now) in
-    (s.pre.stations, omega (arith, column, s.pre.links), omega (arith, column, front_length turn))
+    (s.requires.stations, omega (arith, column, s.requires.links), omega (arith, column, front_length turn))
 
-mul-total : tie.Need-overflow-mul-total invariant-loop decreases-loop
+mul-total : tie.Need-overflow_mul-total invariant-loop decreases-loop
 mul-total c =
     let turn = c.before.before.before.before in
     let s = start turn in
     let l = turn.before.loop in
     let small = product_small s.args.shape.rest s.args.ends.now s.args.shape.m s.args.costs.now l.counter
-    c.before.different-values.result l.invariant.3 s.pre.links (omega (arith, turn.loop-test.true, s.pre.ceilings)) (counted c).0 in
+    c.before.different_values-total.result l.invariant.3 s.requires.links (omega (arith, turn.loop-test.true, s.requires.ceilings)) (counted c).0 in
     omega (arith, small)
 
-add-counter : tie.Need-overflow-add-counter invariant-loop decreases-loop
+add-counter : tie.Need-overflow_step invariant-loop decreases-loop
 add-counter c = search rules
 
 loop-less : tie.Need-loop-smaller invariant-loop decreases-loop
@@ -120,8 +120,8 @@ loop-again c =
     let l = turn.before.loop in
     let s = start turn in
     let m = s.args.shape.m in (
-      length-append c.before.different-values.new.1.1.1.0 (drop m l.values)
-          ∙ omega (arith, new-length c, length-drop m l.values, front turn, l.invariant.0),
+      length-append c.before.different_values-total.new.1.1.1.0 (drop m l.values-1)
+          ∙ omega (arith, new-length c, length-drop m l.values-1, front turn, l.invariant.0),
       omega arith,
       omega (arith, l.invariant.2, suc-mul l.counter m, add-one l.counter),
       (counted c).1,
@@ -133,8 +133,8 @@ returns c =
     let e : l.counter ≡ c.before.before.before.args.shape.p = omega arith in
     rw e at l.invariant.3
 
-pub count-positions-spec : {M : Type 1} → statement M
-count-positions-spec =
+pub count_positions_spec : {M : Type 1} → statement M
+count_positions_spec =
     tie.close
     (tie.spec
     invariant-loop

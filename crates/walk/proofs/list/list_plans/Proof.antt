@@ -34,27 +34,27 @@ values-size s = length-take-le (length s.args.costs.now) (replicate (ceilings_he
 
 -- ---- when the grid is known
 
-abbrev start : tie.After-grid-of → tie.Start
+abbrev start : tie.After-grid_of-grid → tie.Start
 start c = c.before.before.before.before.before
 
 -- the values stand at the front of their array
-front : (c : tie.After-grid-of)
+front : (c : tie.After-grid_of-grid)
     → let n = length (start c).args.costs.now in
-    let l = c.grid-of.new.1.1.1.0 in
+    let l = c.grid_of-grid.new.1.1.1.0 in
     let array = l ++ drop n (replicate (ceilings_held * links_held) (pos 0)) in
     (take n array ≡ l) × (length (take n array) ≡ n) × (n ≤ length array) × (length array ≡ ceilings_held * links_held)
 front c =
-    lent_back c.grid-of.new.1.1.1.0 (replicate (ceilings_held * links_held) (pos 0)) (length (start c).args.costs.now)
-    (c.grid-of.auto.1.1.1.0 ∙ values-size (start c)) refl (few (start c))
+    lent_back c.grid_of-grid.new.1.1.1.0 (replicate (ceilings_held * links_held) (pos 0)) (length (start c).args.costs.now)
+    (c.grid_of-grid.auto.1.1.1.0 ∙ values-size (start c)) refl (few (start c))
 
 -- what the walk sets out with
-ready : (c : tie.After-grid-of)
-    → let a = (start c).args in Ready a.shape a.ends.now a.sums.now a.costs.now c.grid-of.new.1.1.1.0 c.grid-of.result
-ready c = ready-grid (start c).requires c.grid-of.ensures
+ready : (c : tie.After-grid_of-grid)
+    → let a = (start c).args in Ready a.shape a.ends.now a.sums.now a.costs.now c.grid_of-grid.new.1.1.1.0 c.grid_of-grid.result
+ready c = ready-grid (start c).requires c.grid_of-grid.ensures
 
 -- ---- when the need is known
 
-abbrev grown : tie.After-need → tie.After-grid-of
+abbrev grown : tie.After-need → tie.After-grid_of-grid
 grown c = c.before.before
 
 -- what was computed is what the list buffer needs
@@ -63,15 +63,15 @@ need-known c =
     let s = start (grown c) in
     c.need.ensures
     ∙ ap (λ (k : ℕ). head_size + k * plan_size (plan_slots s.args.shape.p) s.args.shape.t) (ready (grown c)).gridded.total
-    ∙ ap (λ (t : ℕ). head_size + position_count (network s) * plan_size (plan_slots s.args.shape.p) t) s.pre.tree
+    ∙ ap (λ (t : ℕ). head_size + position_count (network s) * plan_size (plan_slots s.args.shape.p) t) s.requires.tree
 
-array-borrow-prefix-values : tie.Need-array-borrow-prefix-values
+array-borrow-prefix-values : tie.Need-slice_bounds-values-end
 array-borrow-prefix-values c = few c.before.before.before
 
-slice-aggregate-grid-of : tie.Need-slice-aggregate-grid-of
+slice-aggregate-grid-of : tie.Need-slice_bounds-grid_of-end
 slice-aggregate-grid-of c = sym (values-size c.before.before.before.before)
 
-grid-of-requires : tie.Need-grid-of-requires
+grid-of-requires : tie.Need-grid_of-grid-requires
 grid-of-requires c κs = let s = c.before.before.before.before in (plannable-stations s.requires, griddable s.requires (values-size s))
 
 need-requires : tie.Need-need-requires
@@ -79,53 +79,53 @@ need-requires c κs =
     let known = c.before in
     omega (arith, (ready known).gridded.total, (start known).requires.fine.few-positions)
 
-returns : tie.Need-returns
+returns : tie.Need-returns-then-out-need
 returns c =
     let e = need-known c.before in
     let s = start (grown c.before) in
-    let short = short-reply (network s) s.args.allowance s.args.out.now (omega arith) in
+    let short = short-reply (network s) s.args.allowance s.args.out-1.now (omega arith) in
     (short.0, (short.1, none-held (network s) (λ z. let nine : ◌≡◌ {A = ℕ} 9 0 = z in absurd (omega arith))))
 
-array-share-prefix-values : tie.Need-array-share-prefix-values
+array-share-prefix-values : tie.Need-slice_bounds-values-end-2
 array-share-prefix-values c = (front (grown c.before)).2
 
-slice-aggregate-visit-all : tie.Need-slice-aggregate-visit-all
+slice-aggregate-visit-all : tie.Need-slice_bounds-visit_all-end
 slice-aggregate-visit-all c = sym (front (grown c.before.before)).1
 
-visit-all-requires : tie.Need-visit-all-requires
+visit-all-requires : tie.Need-visit_all-walked-requires
 visit-all-requires c κs =
     let known = c.before.before.before in
-    (rw (front (grown known)).0 (ready (grown known)), omega (arith, need-known known, c.before.before.if1.false))
+    (rw (front (grown known)).0 (ready (grown known)), omega (arith, need-known known, c.before.before.if-out-need.false))
 
 conclude-requires : tie.Need-conclude-requires
 conclude-requires c κs =
     let walked = c.before.before.before in
     let known = walked.before.before.before.before in
     let s = start (grown known) in
-    let after = walked.visit-all.new.1.1.1.1.1.1.1.0 in
+    let after = walked.visit_all-walked.new.1.1.1.1.1.1.1.0 in
     let room : buffer_need (network s) ≤ length after =
-    omega (arith, need-known known, walked.before.before.before.if1.false, walked.visit-all.auto.1.1.1.1.1.1.1.0) in
-    rw s.pre.tree (outcome-room (network s) walked.visit-all.ensures s.pre.fine.few-positions room)
+    omega (arith, need-known known, walked.before.before.before.if-out-need.false, walked.visit_all-walked.auto.1.1.1.1.1.1.1.0) in
+    rw s.requires.tree (outcome-room (network s) walked.visit_all-walked.ensures s.requires.fine.few-positions room)
 
-same_length : tie.Need-same-length
+same_length : tie.Need-shape_of-out
 same_length c = search rules
 
-returns-2 : tie.Need-returns-2
+returns-2 : tie.Need-returns
 returns-2 c =
     let walked = c.before.before.before.before.before.before in
     let known = walked.before.before.before.before in
     let s = start (grown known) in
     let end = c.before.before.conclude.ensures in
-    let after = walked.visit-all.new.1.1.1.1.1.1.1.0 in
-    let bytes = end.1 ∙ ap (λ (t : ℕ). concluded walked.visit-all.result t s.args.shape.p after) s.pre.tree in
-    let room : buffer_need (network s) ≤ length s.args.out.now = omega (arith, need-known known, walked.before.before.before.if1.false) in
+    let after = walked.visit_all-walked.new.1.1.1.1.1.1.1.0 in
+    let bytes = end.1 ∙ ap (λ (t : ℕ). concluded walked.visit_all-walked.result t s.args.shape.p after) s.requires.tree in
+    let room : buffer_need (network s) ≤ length s.args.out-1.now = omega (arith, need-known known, walked.before.before.before.if-out-need.false) in
     let kept =
-    room-reply (network s) s.args.allowance s.args.out.now room walked.visit-all.ensures walked.visit-all.auto.1.1.1.1.1.1.1.0 end.0
+    room-reply (network s) s.args.allowance s.args.out-1.now room walked.visit_all-walked.ensures walked.visit_all-walked.auto.1.1.1.1.1.1.1.0 end.0
     bytes in
-    (kept.0, (kept.1, walk-held (network s) walked.visit-all.ensures end.0))
+    (kept.0, (kept.1, walk-held (network s) walked.visit_all-walked.ensures end.0))
 
-pub list-plans-spec : {M : Type 1} → statement M
-list-plans-spec =
+pub list_plans_spec : {M : Type 1} → statement M
+list_plans_spec =
     tie.close
     (tie.spec
     array-borrow-prefix-values

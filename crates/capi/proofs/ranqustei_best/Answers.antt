@@ -1,0 +1,15 @@
+-- `capi::ranqustei_best` meets its contract: the answer says what the definition of the ceilings question does.
+use mathlib.Core.Path.{ap, ◌∙◌}
+use borrow.Author.Rules.{rules}
+use mir.Facts.{to_z-of_z}
+use Rattle.network.specs.Calls.{says}
+use Rattle.capi_replies.specs.Replies.{flat-best, flat_reply}
+use Rattle.capi.proofs.ranqustei_best.Goals as goal
+
+pub returns : goal.returns
+unfolding flat_reply
+returns c =
+    let e = rw (to_z-of_z c.ranges.b1, to_z-of_z c.ranges.b2, to_z-of_z c.ranges.b3) at c.best.ensures in (
+      c.flat.ensures ∙ ap flat_reply e.0,
+      (e.1.0, (rw c.flat.ensures (flat-best _ _ _ _ (says c.best.result) e.1.1.0), rw c.flat.ensures e.1.1.1)),
+    )

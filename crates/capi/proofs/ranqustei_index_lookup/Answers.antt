@@ -1,0 +1,7 @@
+-- `capi::ranqustei_index_lookup` meets its contract.
+use borrow.Author.Rules.{rules}
+use mir.Facts.{to_z-of_z}
+use Rattle.capi.proofs.ranqustei_index_lookup.Goals as goal
+
+pub returns : goal.returns
+returns c = rw (to_z-of_z c.ranges.value) at c.found_plan.ensures

@@ -1,0 +1,14 @@
+-- `capi::ranqustei_judge` meets its contract: the answer says what the judge's definition does.
+use mathlib.Core.Path.{ap, ◌∙◌}
+use borrow.Author.Rules.{rules}
+use Rattle.network.specs.Calls.{says}
+use Rattle.capi_replies.specs.Replies.{flat-judge, flat_reply}
+use Rattle.capi.proofs.ranqustei_judge.Goals as goal
+
+pub returns : goal.returns
+unfolding flat_reply
+returns c =
+    let judged = c.judge.ensures in (
+      c.flat.ensures ∙ ap flat_reply judged.0,
+      (rw c.flat.ensures (flat-judge _ _ (says c.judge.result) judged.1.0), rw c.flat.ensures judged.1.1),
+    )

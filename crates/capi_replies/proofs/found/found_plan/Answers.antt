@@ -1,0 +1,15 @@
+-- `capi_replies::found::found_plan` meets its contract.
+use mathlib.Core.Path.{ap, subst, ◌∙◌}
+use borrow.Author.Rules.{rules}
+use mir.Facts.{to_z-of_z}
+use Rattle.network.specs.IndexPromise.{LookupPromised}
+use Rattle.capi_replies.specs.Flat.{flat_found, found-promised}
+use Rattle.capi_replies.proofs.found.found_plan.Goals as goal
+
+pub returns : goal.returns
+returns c =
+    let list = c.args.list.now in
+    let index = c.args.index.now in
+    let asked = rw (to_z-of_z c.ranges.value) at c.index_lookup.ensures in
+    let reply = c.flat.ensures ∙ ap flat_found asked.0 in
+    (reply, found-promised list index c.args.value reply (subst (LookupPromised list index c.args.value) asked.0 asked.1))

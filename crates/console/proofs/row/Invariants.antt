@@ -1,0 +1,9 @@
+
+use Rattle.std.proofs.Common.{◌-◌, ◌≤◌, rules}
+use Rattle.console.proofs.row.Given as goal
+
+abbrev pub invariant-loop-i : goal.invariant-loop-i
+invariant-loop-i l = i ≤ l.i
+
+abbrev pub decreases-loop-i : goal.decreases-loop-i
+decreases-loop-i l = l.i - i

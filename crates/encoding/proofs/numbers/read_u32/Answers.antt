@@ -1,0 +1,6 @@
+-- `encoding::numbers::read_u32` meets its contract. The two halves, each by its weight.
+use borrow.Author.Rules.{rules}
+use Rattle.encoding.proofs.numbers.read_u32.Goals as goal
+
+pub returns : goal.returns
+returns c = rw (c.read_u16-low.ensures, c.read_u16-high.ensures)

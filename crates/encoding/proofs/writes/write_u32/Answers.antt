@@ -1,0 +1,22 @@
+-- `encoding::writes::write_u32` meets its contract. Four stores in a row.
+use Rattle.buffers.specs.Stores.{put_four}
+use Prim.Native.Nat.{◌%◌, ◌/◌}
+use native.Mathlib.Omega.{arith}
+use lib.ListN.{length-set}
+use borrow.Author.Rules.{rules}
+use Rattle.encoding.proofs.writes.write_u32.Goals as goal
+
+pub bounds-out-at-2 : goal.bounds-out-at-2
+bounds-out-at-2 c = simp length-set (omega arith)
+
+pub bounds-out-at-3 : goal.bounds-out-at-3
+bounds-out-at-3 c = simp length-set (omega arith)
+
+pub bounds-out-at-4 : goal.bounds-out-at-4
+bounds-out-at-4 c = simp length-set (omega arith)
+
+pub returns : goal.returns
+returns c =
+    let a = c.args in
+    let n = a.n in
+    put_four a.out.now a.at (n % 256) (n / 256 % 256) (n / 256 / 256 % 256) (n / 256 / 256 / 256 % 256) (omega arith)

@@ -1,0 +1,25 @@
+use Prim.Native.Nat.{ℕ, ◌-◌, ◌≤◌}
+use mathlib.Core.Bool.{false, ◌&&◌}
+use mathlib.Core.List.{[], ◌∷◌}
+use mathlib.Core.Path.{◌≡◌, refl}
+use native.Mathlib.Omega.{arith}
+use borrow.Author.Rules.{rules}
+use lib.ListN.{length}
+use Rattle.kmax.specs.Digits.{admits, marked}
+use Rattle.network.specs.Column.{column, column-more}
+use Rattle.network.specs.Capacities.{patterns_held}
+use Rattle.exceptions.specs.Fit.{fit_of}
+use Rattle.exceptions.proofs.admitted.fit_patterns.Goals as goal
+
+pub loop-pattern-init : goal.loop-pattern-init
+unfolding column
+loop-pattern-init c = (omega arith, refl, refl)
+
+pub loop-pattern-preserved : goal.loop-pattern-preserved
+loop-pattern-preserved c = (omega arith, search rules, rw (column-more, ← c.loop-pattern.invariant.2, c.admits_alone.ensures))
+
+pub returns : goal.returns
+unfolding fit_of
+returns c =
+    let all : c.loop-pattern.pattern ≡ patterns_held = omega arith in
+    rw all at c.loop-pattern.invariant.2

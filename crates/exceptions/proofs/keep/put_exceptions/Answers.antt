@@ -1,0 +1,159 @@
+use Prim.Native.Nat.{ℕ, ◌-◌, ◌≤◌, ◌<◌}
+use mathlib.Core.Logic.{⊎_elim}
+use mathlib.Core.Path.{◌≡◌, refl, ◌∙◌}
+use native.Mathlib.Omega.{arith}
+use borrow.Author.Rules.{rules}
+use lib.ListN.{get_or, length, length-set}
+use Rattle.order.specs.Test.{both}
+use Rattle.order.specs.Lists.{get_or-mem}
+use Rattle.spanning.specs.Tree.{EndsBelow}
+use Rattle.network.specs.Capacities.{patterns_held, stations_held}
+use Rattle.network.specs.Yard.{ends_at}
+use Rattle.forest.specs.Groups.{Led, leaders-differ, leaders-equal, leaders-joined, leaders-lead}
+use Rattle.forest.specs.declared.Forest.{Forest}
+use Rattle.exceptions.specs.Patterns.{pattern_at}
+use Rattle.exceptions.specs.Keep.{AllLed, after-led, alone-led, gather-end, gather-left, gather-start, gather-taken, gathered, kept_whole, kept_by}
+use Rattle.exceptions.specs.Keep.{nobody, pattern-known}
+use Rattle.exceptions.specs.Select.{known_at}
+use Rattle.exceptions.proofs.keep.put_exceptions.Goals as goal
+use Rattle.exceptions.proofs.keep.put_exceptions.Goals.{In-loop-k}
+
+-- the link at a turn
+abbrev link_at : In-loop-k → ℕ
+link_at c = get_or (start c).args.order.now c.before.loop.k 0
+
+-- it has a pattern, which is one of those held, and joins two stations
+known : (c : In-loop-k)
+    → (link_at c < length c.args.patterns.now) × (pattern_at c.args.patterns.now (link_at c) < patterns_held)
+known c =
+    let p = c.requires in
+    let below = known_at p.3 c.loop-k.k c.loop-k-test.true in
+    (below, pattern-known _ _ _ p.2 _ below)
+
+within : (c : In-loop-k) → EndsBelow stations_held (ends_at (start c).args.ends.now (link_at c))
+within c = c.requires.1 (link_at c) (get_or-mem c.args.order.now c.loop-k.k 0 c.loop-k-test.true)
+
+-- the groups of its pattern
+abbrev groups-at : In-loop-k → Forest
+groups-at c = get_or c.before.loop.forests (pattern_at (start c).args.patterns.now (link_at c)) nobody
+
+-- they are led
+led-at : (c : In-loop-k) → Led (groups-at c)
+led-at c =
+    let v = c.loop-k in
+    let below : pattern_at c.args.patterns.now (link_at c) < length v.forests = omega (arith, known c, v.invariant.2) in
+    v.invariant.3 _ below
+
+pub loop-k-init : goal.loop-k-init
+loop-k-init c = (refl, refl, refl, alone-led patterns_held _ c.new-alone.ensures, omega arith, omega arith, gather-start _ _ _ _ _ _)
+
+pub overflow_cast-i : goal.overflow_cast-i
+overflow_cast-i c = let u = known ((goal.at.overflow_cast-i c).In-loop-k) in omega arith
+
+pub bounds-patterns-i : goal.bounds-patterns-i
+bounds-patterns-i c = (known ((goal.at.bounds-patterns-i c).In-loop-k)).0
+
+pub overflow_cast-pattern : goal.overflow_cast-pattern
+overflow_cast-pattern c = let u = known ((goal.at.overflow_cast-pattern c).In-loop-k) in omega arith
+
+pub bounds-fit-pattern : goal.bounds-fit-pattern
+bounds-fit-pattern c = let u = known ((goal.at.bounds-fit-pattern c).In-loop-k) in omega arith
+
+pub overflow_mul-a : goal.overflow_mul-a
+overflow_mul-a c = let u = known ((goal.at.overflow_mul-a c).In-loop-k) in omega arith
+
+pub bounds-ends-i : goal.bounds-ends-i
+bounds-ends-i c = let u = known ((goal.at.bounds-ends-i c).In-loop-k) in omega (arith, c.requires.0)
+
+pub overflow_mul-b : goal.overflow_mul-b
+overflow_mul-b c = let u = known ((goal.at.overflow_mul-b c).In-loop-k) in omega arith
+
+pub overflow_add-b : goal.overflow_add-b
+overflow_add-b c = let u = known ((goal.at.overflow_add-b c).In-loop-k) in omega arith
+
+pub bounds-ends-i-then-fit-pattern : goal.bounds-ends-i-then-fit-pattern
+bounds-ends-i-then-fit-pattern c = let u = known ((goal.at.bounds-ends-i-then-fit-pattern c).In-loop-k) in omega (arith, (start ((goal.at.bounds-ends-i-then-fit-pattern c).In-loop-k)).requires.0)
+
+pub offset_bounds-forests-pattern : goal.offset_bounds-forests-pattern
+offset_bounds-forests-pattern c = let u = known ((goal.at.offset_bounds-forests-pattern c).In-loop-k) in omega arith
+
+pub bounds-forests-pattern : goal.bounds-forests-pattern
+bounds-forests-pattern c =
+    let u = known ((goal.at.bounds-forests-pattern c).In-loop-k) in
+    omega (arith, c.loop-k.invariant.2)
+
+pub find-new-requires : goal.find-new-requires
+find-new-requires c = (within ((goal.at.find-new-requires c).In-loop-k)).0
+
+pub find-old-requires : goal.find-old-requires
+find-old-requires c = (within ((goal.at.find-old-requires c).In-loop-k)).1
+
+pub join-requires : goal.join-requires
+join-requires c =
+    leaders-lead (groups-at ((goal.at.join-requires c).In-loop-k)) _ _ c.find-new.ensures c.find-old.ensures (led-at ((goal.at.join-requires c).In-loop-k))
+
+pub offset_bounds-forests-pattern-then-new-old : goal.offset_bounds-forests-pattern-then-new-old
+offset_bounds-forests-pattern-then-new-old c = let u = known ((goal.at.offset_bounds-forests-pattern-then-new-old c).In-loop-k) in omega arith
+
+pub bounds-forests-pattern-then-new-old : goal.bounds-forests-pattern-then-new-old
+bounds-forests-pattern-then-new-old c = let u = known ((goal.at.bounds-forests-pattern-then-new-old c).In-loop-k) in omega arith
+
+pub bounds-odd-n : goal.bounds-odd-n
+bounds-odd-n c = omega (arith, c.requires.3.room)
+
+pub overflow_add-n : goal.overflow_add-n
+overflow_add-n c = omega (arith, c.requires.3.room)
+
+pub loop-k-preserved : goal.loop-k-preserved
+loop-k-preserved c =
+    let v = c.loop-k in
+    let s = (start ((goal.at.loop-k-preserved c).In-loop-k)).args in
+    let h : v.k < length s.order.now = omega arith in
+    let m : v.n < length v.odd = omega (arith, (start ((goal.at.loop-k-preserved c).In-loop-k)).requires.3.room) in
+    let e = ends_at s.ends.now (link_at ((goal.at.loop-k-preserved c).In-loop-k)) in
+    let f = groups-at ((goal.at.loop-k-preserved c).In-loop-k) in
+    let fit = c.fit_patterns-fit.result in
+    ⊎_elim
+    (λ w.
+    let joins = w.7.ensures ∙ leaders-joined f e.a e.b w.4.ensures w.5.ensures (led-at ((goal.at.loop-k-preserved c).In-loop-k)) in (
+      refl,
+      rw w.8 (simp length-set v.invariant.1),
+      rw w.9 (simp length-set v.invariant.2),
+      rw (w.9, joins) (after-led s.ends.now s.patterns.now fit v.forests (link_at ((goal.at.loop-k-preserved c).In-loop-k)) (within ((goal.at.loop-k-preserved c).In-loop-k)) v.invariant.3),
+      rw w.10 (omega arith),
+      omega arith,
+      rw (w.8, w.9, w.10, joins)
+          (gather-taken _ _ _ _ _ _ _ _ _ v.invariant.6 h m
+          (both w.0.taken (leaders-differ f e.a e.b w.4.ensures w.5.ensures w.6.taken))),
+    ))
+    (⊎_elim
+    (λ w. (
+      refl,
+      rw w.7 v.invariant.1,
+      rw w.8 v.invariant.2,
+      rw w.8 v.invariant.3,
+      rw w.9 (omega arith),
+      omega arith,
+      rw (w.7, w.8, w.9) (gather-left _ _ _ _ _ _ _ _ _ v.invariant.6 h
+          (rw w.0.taken (leaders-equal f e.a e.b w.4.ensures w.5.ensures w.6.left))),
+    ))
+    (λ w. (
+      refl,
+      rw w.1 v.invariant.1,
+      rw w.2 v.invariant.2,
+      rw w.2 v.invariant.3,
+      rw w.3 (omega arith),
+      omega arith,
+      rw (w.1, w.2, w.3) (gather-left _ _ _ _ _ _ _ _ _ v.invariant.6 h (rw w.0.left)),
+    )))
+    c.if-fit-pattern.branch
+
+pub returns : goal.returns
+returns c =
+    let v = c.loop-k in
+    let h : length c.args.order.now ≤ v.k = omega arith in
+    record {
+      links = gather-end _ _ _ _ _ _ _ _ _ v.invariant.6 h
+          ∙ kept_whole _ _ _ _ _ _ c.fit_patterns-fit.ensures c.new-alone.ensures;
+      few = omega (arith, c.requires.3.room);
+    }

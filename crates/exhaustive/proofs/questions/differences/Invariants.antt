@@ -1,0 +1,9 @@
+
+use Rattle.std.proofs.Common.{◌-◌, ◌≤◌, rules}
+use Rattle.exhaustive.proofs.questions.differences.Given as goal
+
+abbrev pub invariant-loop-i : goal.invariant-loop-i
+invariant-loop-i l = l.i ≤ 256
+
+abbrev pub decreases-loop-i : goal.decreases-loop-i
+decreases-loop-i l = 256 - l.i

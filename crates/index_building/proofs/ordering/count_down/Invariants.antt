@@ -1,0 +1,13 @@
+-- `index_building::ordering::count_down` meets its contract. The invariant: the first r numbers are counted.
+use mathlib.Core.Path.{◌≡◌, refl, ap, ◌∙◌}
+use Prim.Native.Nat.{◌-◌, ◌≤◌}
+use native.Mathlib.Omega.{arith}
+use lib.ListN.{length, length-set, take}
+use Rattle.order.specs.Columns.{tabled, tabled-end, tabled_start, tabled-turn}
+use Rattle.index_building.proofs.ordering.count_down.Given as goal
+
+abbrev pub invariant-loop-r : goal.invariant-loop-r
+invariant-loop-r l = (take l.r l.numbers ≡ tabled (λ x. length l.initial.numbers - 1 - x) l.r) × (l.r ≤ length l.initial.numbers) × (length l.numbers ≡ length l.initial.numbers)
+
+abbrev pub decreases-loop-r : goal.decreases-loop-r
+decreases-loop-r l = length l.initial.numbers - l.r

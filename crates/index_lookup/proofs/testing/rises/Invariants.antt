@@ -1,0 +1,18 @@
+-- `index_lookup::testing::rises` meets its contract. Where the entries passed so far rise, those from `at` on decide.
+use mathlib.Core.Bool.{Bool, ◌&&◌}
+use mathlib.Core.Path.{◌≡◌, refl, sym, ap₂, ◌∙◌}
+use Prim.Native.Nat.{◌+◌, ◌-◌, ◌*◌, ◌≤◌}
+use native.Mathlib.Omega.{arith}
+use borrow.Author.Rules.{rules}
+use lib.ListN.{length}
+use Rattle.network.specs.Indexing.{entries_from}
+use Rattle.index_lookup.specs.Entries.{AllBelow, below-turn, rises-none, rises-turn, rises_by}
+use Rattle.index_lookup.specs.Known.{key_before}
+use Rattle.index_lookup.proofs.testing.rises.Given as goal
+
+abbrev pub invariant-loop-left : goal.invariant-loop-left
+invariant-loop-left l = (rises_by (key_before l.keys) (entries_from l.n 0 l.index) ≡ rises_by (key_before l.keys) (entries_from l.left l.at l.index))
+    × (l.at + l.left * 2 ≤ length l.index) × AllBelow (length l.keys) (entries_from l.left l.at l.index)
+
+abbrev pub decreases-loop-left : goal.decreases-loop-left
+decreases-loop-left l = l.left

@@ -1,0 +1,19 @@
+-- `marking::grid::values_of` meets its contract. The invariant: the values of the first i ceilings are at the front of their parts.
+use mathlib.Core.Path.{◌≡◌, refl, ◌∙◌}
+use Prim.Native.Nat.{◌+◌, ◌-◌, ◌*◌, ◌≤◌}
+use native.Mathlib.Nat.{suc-mul}
+use native.Mathlib.Numerals.{add-one}
+use native.Mathlib.Omega.{arith}
+use borrow.Rule.Slice.PartMut.{mid_len, same_len_mid}
+use borrow.Author.Rules.{rules}
+use lib.ListN.{drop, length, length-set, length-take}
+use Rattle.network.specs.Capacities.{ceilings_held}
+use Rattle.network.specs.Yard.{usable_at}
+use Rattle.marking.specs.Parts.{Filled, filled-turn, none_filled, parts-apart}
+use Rattle.marking.proofs.grid.values_of.Given as goal
+
+abbrev pub invariant-loop-i : goal.invariant-loop-i
+invariant-loop-i l = (length l.values ≡ length l.initial.values) × (length l.counts ≡ ceilings_held) × (l.i ≤ l.p) × (l.from ≡ l.i * l.m) × Filled (usable_at l.rest l.ends) l.m l.costs l.values l.counts l.i
+
+abbrev pub decreases-loop-i : goal.decreases-loop-i
+decreases-loop-i l = l.p - l.i

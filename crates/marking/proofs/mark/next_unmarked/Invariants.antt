@@ -1,0 +1,13 @@
+-- `marking::mark::next_unmarked` meets its contract. The invariant: what is found among the positions left is what is found among all.
+use mathlib.Core.Path.{◌≡◌, sym, ap, ◌∙◌}
+use Prim.Native.Nat.{ℕ, ◌+◌, ◌-◌, ◌≤◌}
+use native.Mathlib.Omega.{arith}
+use borrow.Author.Rules.{rules}
+use Rattle.marking.specs.Unmarked.{next_unmarked, unmarked-here, unmarked-later, unmarked-end}
+use Rattle.marking.proofs.mark.next_unmarked.Given as goal
+
+abbrev pub invariant-loop-at : goal.invariant-loop-at
+invariant-loop-at l = (l.n ≤ l.at) × (l.at ≤ l.end) × (next_unmarked l.marks (l.end - l.n) l.n ≡ next_unmarked l.marks (l.end - l.at) l.at)
+
+abbrev pub decreases-loop-at : goal.decreases-loop-at
+decreases-loop-at l = l.end - l.at

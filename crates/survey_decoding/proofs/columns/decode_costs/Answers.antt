@@ -1,0 +1,60 @@
+use lib.ListN.{drop, length, length-drop, length-take, take}
+use native.Mathlib.Nat.{mul-le-mul_right, suc-mul, zero-mul}
+use native.Mathlib.Numerals.{add-one}
+use Prim.Native.Nat.{◌+◌, ◌≤◌, ◌-◌, ◌*◌}
+use borrow.Author.Rules.{rules}
+use mathlib.Core.Path.{◌≡◌, refl, sym, ◌∙◌}
+use native.Mathlib.Omega.{arith}
+use Rattle.network.specs.Survey.{costs_in}
+use Rattle.survey_decoding.specs.Columns.{costs-none, costs-turn}
+use Rattle.survey_decoding.proofs.columns.decode_costs.Goals as goal
+use Rattle.survey_decoding.proofs.columns.decode_costs.Goals.{In-loop-i}
+
+-- the part of the ceiling in turn lies inside the column
+inside : (c : In-loop-i) → c.before.loop.from + c.before.before.before.args.m ≤ length c.before.loop.costs
+inside c =
+    let v = c.loop-i in
+    omega (arith, c.requires.2, v.invariant.1, mul-le-mul_right c.args.m c.loop-i-test.true, suc-mul v.i c.args.m)
+
+pub loop-i-init : goal.loop-i-init
+loop-i-init c = (omega arith, sym (zero-mul _), refl, costs-none _ _ _)
+
+pub overflow_add-to : goal.overflow_add-to
+overflow_add-to c = omega (arith, inside ((goal.at.overflow_add-to c).In-loop-i), c.well-formed)
+
+pub offset_bounds-costs-from : goal.offset_bounds-costs-from
+offset_bounds-costs-from c = omega (arith, inside ((goal.at.offset_bounds-costs-from c).In-loop-i), c.well-formed)
+
+pub slice_bounds-decode_ceiling-end : goal.slice_bounds-decode_ceiling-end
+slice_bounds-decode_ceiling-end c = inside ((goal.at.slice_bounds-decode_ceiling-end c).In-loop-i)
+
+pub decode_ceiling-requires : goal.decode_ceiling-requires
+decode_ceiling-requires c =
+    let v = c.loop-i in
+    let room = inside ((goal.at.decode_ceiling-requires c).In-loop-i) in
+    let rest = drop v.from v.costs in (
+      c.requires.0,
+      omega (arith, c.requires.1),
+      omega (arith, length-take (v.from + c.args.m - v.from) rest, length-drop v.from v.costs),
+    )
+
+pub loop-i-preserved : goal.loop-i-preserved
+loop-i-preserved c =
+    let v = c.loop-i in
+    let room = inside ((goal.at.loop-i-preserved c).In-loop-i) in (
+      search rules,
+      omega (arith, v.invariant.1, add-one v.i, suc-mul v.i c.args.m),
+      c.costs-1.given.1 ∙ v.invariant.2,
+      costs-turn _ _ _ v.i v.from v.costs v.invariant.3 room c.decode_ceiling.ensures,
+    )
+
+pub shape_of-costs : goal.shape_of-costs
+shape_of-costs c = c.loop-i.invariant.2
+
+pub returns : goal.returns
+returns c =
+    let args = c.args in
+    let v = c.loop-i in
+    let all : v.i ≡ args.p = omega arith in
+    let end : v.from ≡ args.p * args.m = rw all at v.invariant.1 in
+    rw (all, end) at v.invariant.3

@@ -1,0 +1,17 @@
+-- `survey_decoding::decode::ranks_in` meets its contract. The invariant: the first i entries are filled.
+use mathlib.Core.Path.{◌≡◌, refl, sym, ap, ◌∙◌}
+use Prim.Native.Nat.{◌-◌, ◌≤◌}
+use native.Mathlib.Omega.{arith}
+use borrow.Author.Rules.{rules}
+use lib.ListN.{length, length-set, take}
+use lib.Seq.{take_all}
+use Rattle.network.specs.Capacities.{ceilings_held}
+use Rattle.network.specs.Tabulate.{tabulate, tabulate-none, tabulate-turn}
+use Rattle.survey_decoding.specs.Decoded.{rank_in, ranks-front}
+use Rattle.survey_decoding.proofs.decode.ranks_in.Given as goal
+
+abbrev pub invariant-loop-i : goal.invariant-loop-i
+invariant-loop-i l = (length l.k ≡ ceilings_held) × (l.i ≤ ceilings_held) × (take l.i l.k ≡ tabulate (rank_in l.s l.p) l.i)
+
+abbrev pub decreases-loop-i : goal.decreases-loop-i
+decreases-loop-i l = ceilings_held - l.i

@@ -1,0 +1,23 @@
+use borrow.Author.Rules.{rules}
+use Prim.Native.Nat.{◌≤◌, ◌-◌}
+use mathlib.Core.Path.{◌≡◌, refl, sym, ap, ◌∙◌}
+use mir.Syntax.{w32}
+use mir.ValLaws.{to_z-of_z}
+use native.Mathlib.Omega.{arith}
+use Rattle.network.specs.Limits.{max_links}
+use Rattle.network.specs.Column.{column, column-more}
+use Rattle.survey_roundtrip.specs.Columns.{sums_to}
+use Rattle.survey_writing.proofs.padding.full_sums.Goals as goal
+
+pub loop-i-init : goal.loop-i-init
+unfolding sums_to column
+loop-i-init c = (search rules, refl)
+
+pub loop-i-preserved : goal.loop-i-preserved
+unfolding sums_to
+loop-i-preserved c =
+    let read = c.sum_at in
+    (search rules, rw (c.loop-i.invariant.1, to_z-of_z w32 read.result (search rules), read.ensures) (sym (column-more _ _ _ _)))
+
+pub returns : goal.returns
+returns c = c.loop-i.invariant.1 ∙ ap (sums_to _ _ _) (omega arith)

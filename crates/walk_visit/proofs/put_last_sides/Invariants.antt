@@ -1,0 +1,16 @@
+-- `walk_visit::put_last_sides` meets its contract. The invariant: the sides in the first i ceilings.
+use mathlib.Core.Path.{◌≡◌, refl, sym, ap, ◌∙◌}
+use Prim.Native.Nat.{◌-◌, ◌≤◌}
+use native.Mathlib.Omega.{arith}
+use borrow.Author.Rules.{rules}
+use lib.ListN.{length, length-set, take}
+use lib.Seq.{take_all}
+use Rattle.network.specs.Tabulate.{tabulate, tabulate-none, tabulate-turn}
+use Rattle.walk_visit.specs.Found.{last_side, last_sides}
+use Rattle.walk_visit.proofs.put_last_sides.Given as goal
+
+abbrev pub invariant-loop-i : goal.invariant-loop-i
+invariant-loop-i l = (l.i-end ≡ length l.counts) × (l.i ≤ length l.counts) × (length l.sides ≡ length l.counts) × (take l.i l.sides ≡ tabulate (last_side l.counts l.places) l.i)
+
+abbrev pub decreases-loop-i : goal.decreases-loop-i
+decreases-loop-i l = l.i-end - l.i

@@ -13,7 +13,7 @@ pub overflow_cast-result-else-u-lt32768 : goal.overflow_cast-result-else-u-lt327
 overflow_cast-result-else-u-lt32768 c = search rules
 
 pub overflow_sub-result-else-u-lt32768 : goal.overflow_sub-result-else-u-lt32768
-overflow_sub-result-else-u-lt32768 c = below-zero w16 (overflow_cast-result-else-u-lt32768 ((goal.at.overflow_sub-result-else-u-lt32768 c).Else-u-lt32768))
+overflow_sub-result-else-u-lt32768 c = below-zero w16 (overflow_cast-result-else-u-lt32768 c)
 
 pub returns-then-u-lt32768 : goal.returns-then-u-lt32768
 unfolding signed

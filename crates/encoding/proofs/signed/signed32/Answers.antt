@@ -13,7 +13,7 @@ pub overflow_cast-result-else-u-lt2147483648 : goal.overflow_cast-result-else-u-
 overflow_cast-result-else-u-lt2147483648 c = search rules
 
 pub overflow_sub-result-else-u-lt2147483648 : goal.overflow_sub-result-else-u-lt2147483648
-overflow_sub-result-else-u-lt2147483648 c = below-zero w32 (overflow_cast-result-else-u-lt2147483648 ((goal.at.overflow_sub-result-else-u-lt2147483648 c).Else-u-lt2147483648))
+overflow_sub-result-else-u-lt2147483648 c = below-zero w32 (overflow_cast-result-else-u-lt2147483648 c)
 
 pub returns-then-u-lt2147483648 : goal.returns-then-u-lt2147483648
 unfolding signed

@@ -11,7 +11,7 @@ use Rattle.kruskal_order.proofs.usable.order_usable.Goals as goal
 use Rattle.kruskal_order.proofs.usable.order_usable.Goals.{After-order_links-order}
 
 -- all links stand at the front of the array
-front : (c : After-order_links-order) → length (start c).args.sums.now ≤ length c.order-links.result
+front : (c : After-order_links-order) → length c.args.sums.now ≤ length c.order_links-order.result
 front c = let size : length c.order_links-order.result ≡ links_held = search rules in omega (arith, c.requires.1)
 
 pub returns-then-rest-eq0 : goal.returns-then-rest-eq0
@@ -22,8 +22,8 @@ slice_bounds-put_usable-end c = sym (length-take-le _ _ (front ((goal.at.slice_b
 
 pub put_usable-count-requires : goal.put_usable-count-requires
 put_usable-count-requires c =
-    let p = (start ((goal.at.put_usable-count-requires c).After-order_links-order)).requires in
-    let few = length-take-le (length (start ((goal.at.put_usable-count-requires c).After-order_links-order)).args.sums.now) c.order_links-order.result (front ((goal.at.put_usable-count-requires c).After-order_links-order)) in
+    let p = c.requires in
+    let few = length-take-le (length c.args.sums.now) c.order_links-order.result (front ((goal.at.put_usable-count-requires c).After-order_links-order)) in
     (p.0, order-numbers _ p.1 c.order_links-order.ensures, omega (arith, few, p.1))
 
 pub returns : goal.returns

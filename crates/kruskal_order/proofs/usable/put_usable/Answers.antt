@@ -1,18 +1,16 @@
-use Prim.Native.Nat.{◌-◌, ◌<◌}
-use mathlib.Core.Path.{◌≡◌, refl}
+use Prim.Native.Nat.{◌<◌}
+use mathlib.Core.Path.{refl}
 use native.Mathlib.Omega.{arith}
-use borrow.Author.Rules.{rules}
-use lib.ListN.{length, length-set, get_or}
+use lib.ListN.{length-set, get_or}
 use Rattle.order.specs.Lists.{get_or-mem}
 use Rattle.network.specs.Capacities.{links_held}
-use Rattle.network.specs.Yard.{usable_at}
-use Rattle.kruskal_order.specs.Collect.{Collected, collect-end, collect-room, collect-start, collect-turn, one_at_most}
+use Rattle.kruskal_order.specs.Collect.{collect-end, collect-room, collect-start, collect-turn, one_at_most}
 use Rattle.kruskal_order.specs.Usable.{usable_of}
 use Rattle.kruskal_order.proofs.usable.put_usable.Goals as goal
 use Rattle.kruskal_order.proofs.usable.put_usable.Goals.{In-loop-k}
 
 -- the link at a turn
-link_at : (c : In-loop-k) → get_or (start c).args.order.now c.before.loop.k 0 < links_held
+link_at : (c : In-loop-k) → get_or c.args.order.now c.loop-k.k 0 < links_held
 link_at c =
     let order = c.args.order.now in
     c.requires.1 (get_or order c.loop-k.k 0) (get_or-mem order c.loop-k.k 0 c.loop-k-test.true)

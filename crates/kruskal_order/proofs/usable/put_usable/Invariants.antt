@@ -1,14 +1,9 @@
 -- After k turns the array holds the usable ones of the first k links.
-use Prim.Native.Nat.{◌-◌, ◌<◌}
-use mathlib.Core.Path.{◌≡◌, refl}
-use native.Mathlib.Omega.{arith}
-use borrow.Author.Rules.{rules}
-use lib.ListN.{length, length-set, get_or}
-use Rattle.order.specs.Lists.{get_or-mem}
-use Rattle.network.specs.Capacities.{links_held}
+use Prim.Native.Nat.{◌-◌}
+use mathlib.Core.Path.{◌≡◌}
+use lib.ListN.{length}
 use Rattle.network.specs.Yard.{usable_at}
-use Rattle.kruskal_order.specs.Collect.{Collected, collect-end, collect-room, collect-start, collect-turn, one_at_most}
-use Rattle.kruskal_order.specs.Usable.{usable_of}
+use Rattle.kruskal_order.specs.Collect.{Collected}
 use Rattle.kruskal_order.proofs.usable.put_usable.Given as goal
 
 abbrev pub invariant-loop-k : goal.invariant-loop-k

@@ -1,9 +1,9 @@
 use mathlib.Core.Bool.{Bool, ◌&&◌}
 use mathlib.Core.Path.{◌≡◌, sym, ◌∙◌}
-use Prim.Native.Nat.{◌+◌, ◌-◌, ◌≤◌}
+use Prim.Native.Nat.{◌+◌}
 use native.Mathlib.Omega.{arith}
 use lib.IntN.{pos}
-use lib.ListN.{get_or, length}
+use lib.ListN.{get_or}
 use lib.Signed.{le_z}
 use mir.Syntax.{w16}
 use Rattle.order.specs.Order.{orderℤ}

@@ -1,16 +1,9 @@
 -- `planlist_records::costs::all_in_order` meets its contract. The invariant: the entries from i on decide.
-use mathlib.Core.Path.{◌≡◌, sym, ap, ◌∙◌}
+use mathlib.Core.Path.{◌≡◌}
 use Prim.Native.Nat.{◌-◌, ◌≤◌}
-use native.Mathlib.Omega.{arith}
-use lib.IntN.{ℤ, pos}
-use lib.ListN.{get_or, length}
-use mir.Syntax.{w16}
-use mir.Val.{SFits, of_z, to_z}
-use mir.ValLaws.{to_z-of_z}
+use lib.ListN.{length}
 use Rattle.order.specs.Order.{dictionary_le, orderℤ}
-use Rattle.encoding.specs.Compared.{tested}
-use Rattle.planlist_records.specs.Orders.{order-apart, order-end, order_same, order-start, order_from}
-use borrow.Author.Rules.{rules}
+use Rattle.planlist_records.specs.Orders.{order_from}
 use Rattle.planlist_records.proofs.costs.all_in_order.Given as goal
 
 abbrev pub invariant-loop-i : goal.invariant-loop-i

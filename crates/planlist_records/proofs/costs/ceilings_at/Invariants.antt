@@ -1,17 +1,10 @@
 -- `planlist_records::costs::ceilings_at` meets its contract. The invariant: the first i entries are filled.
-use mathlib.Core.Path.{◌≡◌, refl, sym, ap, ◌∙◌}
+use mathlib.Core.Path.{◌≡◌}
 use Prim.Native.Nat.{◌-◌, ◌≤◌}
-use native.Mathlib.Omega.{arith}
-use lib.ListN.{length, length-set, take}
-use lib.Seq.{take_all}
-use mir.Syntax.{w16}
-use mir.Val.{of_z, to_z}
-use mir.ValLaws.{to_z-of_z}
+use lib.ListN.{length, take}
 use Rattle.network.specs.Capacities.{ceilings_held}
 use Rattle.network.specs.PlanList.{plan_ceiling}
-use Rattle.network.specs.Tabulate.{tabulate, tabulate-none, tabulate-turn}
-use Rattle.planlist_records.specs.Held.{costs-ceilings}
-use borrow.Author.Rules.{rules}
+use Rattle.network.specs.Tabulate.{tabulate}
 use Rattle.planlist_records.proofs.costs.ceilings_at.Given as goal
 
 abbrev pub invariant-loop-i : goal.invariant-loop-i

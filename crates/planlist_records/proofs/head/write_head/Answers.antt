@@ -7,7 +7,6 @@ use lib.ListN.{length}
 use Rattle.network.specs.Bytes.{little_endian}
 use Rattle.network.specs.PlanList.{head_mark}
 use Rattle.buffers.specs.Overwrite.{overwrite-chain}
-use borrow.Author.Rules.{rules}
 use Rattle.planlist_records.proofs.head.write_head.Goals as goal
 
 pub returns : goal.returns

@@ -1,5 +1,5 @@
 use mathlib.Core.Path.{◌≡◌, refl, ap, ◌∙◌}
-use Prim.Native.Nat.{ℕ, ◌+◌, ◌-◌, ◌*◌, ◌≤◌}
+use Prim.Native.Nat.{ℕ, ◌+◌, ◌*◌, ◌≤◌}
 use native.Mathlib.Nat.{mul_comm}
 use native.Mathlib.Omega.{arith}
 use lib.IntN.{ℤ, pos}
@@ -10,7 +10,7 @@ use mir.ValLaws.{to_z-of_z}
 use borrow.Author.Rules.{rules}
 use Rattle.network.specs.PlanList.{ceiling_bytes}
 use Rattle.buffers.specs.Overwrite.{overwrite}
-use Rattle.encoding.specs.Fields.{Written, written-end, written_start, written-turn}
+use Rattle.encoding.specs.Fields.{written-end, written_start, written-turn}
 use Rattle.planlist_records.specs.Records.{cost_bytes}
 use Rattle.planlist_records.proofs.records.write_ceilings.Goals as goal
 
@@ -33,7 +33,7 @@ loop-i-preserved c =
     let place : a.at + 2 * l.i ≡ a.at + l.i * 2 = ap (λ (k : ℕ). a.at + k) (mul_comm 2 l.i) in (
       written-turn cost_bytes 2 (λ z. refl) a.y.now a.at a.out.now l.out l.i (pos 0) l.invariant.0 (omega arith) room place
           wrote,
-      c.write_i16.auto.0 ∙ l.invariant.1,
+      c.write_i16.auto.out ∙ l.invariant.1,
     )
 
 pub shape_of-out : goal.shape_of-out

@@ -24,8 +24,8 @@ write_ceilings-requires c =
       arith,
       c.requires,
       length-take-le c.args.slots c.args.v.y (omega (arith, c.requires)),
-      c.write_i32.auto.0,
-      c.copy_in.auto.0,
+      c.write_i32.auto.out,
+      c.copy_in.auto.out,
     )
 
 -- the sum is a number of four bytes

@@ -1,5 +1,4 @@
 -- `survey_layout::layout::bad_length` meets its contract. At each return the test that led there says which case holds.
-use borrow.Author.Rules.{rules}
 use borrow.Author.Tests.{lt-ltb, le-ltb}
 use Rattle.network.specs.Refusals.{bad_length}
 use Rattle.survey_layout.proofs.layout.bad_length.Goals as goal

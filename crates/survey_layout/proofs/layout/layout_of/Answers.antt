@@ -1,8 +1,5 @@
-use Prim.Native.Nat.{◌-◌}
-use mathlib.Core.Path.{◌≡◌, refl, sym, ◌∙◌}
-use borrow.Author.Rules.{rules}
-use lib.ListN.{length}
-use Rattle.network.specs.Survey.{layout_of, layouts, opens}
+use mathlib.Core.Path.{refl, sym, ◌∙◌}
+use Rattle.network.specs.Survey.{layout_of}
 use Rattle.network.specs.Layouts.{layout-short}
 use Rattle.survey_layout.specs.Rows.{found-roomy, from_row, row-found, row-missed, row-none}
 use Rattle.survey_layout.proofs.layout.layout_of.Goals as goal

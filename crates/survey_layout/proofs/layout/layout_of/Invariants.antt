@@ -1,11 +1,9 @@
 -- `survey_layout::layout::layout_of` meets its contract. The rows from i on have the layout of the survey; no mark stands in fewer than two bytes.
 use Prim.Native.Nat.{◌-◌}
-use mathlib.Core.Path.{◌≡◌, refl, sym, ◌∙◌}
-use borrow.Author.Rules.{rules}
+use mathlib.Core.Path.{◌≡◌}
 use lib.ListN.{length}
 use Rattle.network.specs.Survey.{layout_of, layouts, opens}
-use Rattle.network.specs.Layouts.{layout-short}
-use Rattle.survey_layout.specs.Rows.{found-roomy, from_row, row-found, row-missed, row-none}
+use Rattle.survey_layout.specs.Rows.{from_row}
 use Rattle.survey_layout.proofs.layout.layout_of.Given as goal
 
 abbrev pub invariant-loop-i : goal.invariant-loop-i

@@ -1,6 +1,5 @@
 -- `survey_rules::link_count::bad_count` meets its contract. The count stands inside the yard record.
 use native.Mathlib.Omega.{arith}
-use borrow.Author.Rules.{rules}
 use borrow.Author.Tests.{le-ltb, lt-ltb}
 use Rattle.network.specs.Refusals.{bad_count}
 use Rattle.survey_rules.proofs.link_count.bad_count.Goals as goal

@@ -1,10 +1,5 @@
-use Prim.Native.Nat.{◌-◌}
-use mathlib.Core.Path.{◌≡◌, refl, sym, ◌∙◌}
-use Rattle.network.specs.Refusals.{absent_costs}
-use Rattle.network.specs.Survey.{cost_bits}
+use mathlib.Core.Path.{refl, sym, ◌∙◌}
 use Rattle.survey_rules.specs.Read.{read_found, read_none, read-turn}
-use borrow.Author.Rules.{rules}
-use Rattle.encoding.proofs.numbers.read_u16.Reads as read-u16-reads
 use Rattle.survey_rules.proofs.link_records.absent_costs.Goals as goal
 
 pub loop-j-init : goal.loop-j-init

@@ -1,11 +1,8 @@
 -- `survey_rules::link_records::absent_costs` meets its contract. The costs from j on say what those from p on say.
 use Prim.Native.Nat.{◌-◌}
-use mathlib.Core.Path.{◌≡◌, refl, sym, ◌∙◌}
+use mathlib.Core.Path.{◌≡◌}
 use Rattle.network.specs.Refusals.{absent_costs}
 use Rattle.network.specs.Survey.{cost_bits}
-use Rattle.survey_rules.specs.Read.{read_found, read_none, read-turn}
-use borrow.Author.Rules.{rules}
-use Rattle.encoding.proofs.numbers.read_u16.Reads as read-u16-reads
 use Rattle.survey_rules.proofs.link_records.absent_costs.Given as goal
 
 abbrev pub invariant-loop-j : goal.invariant-loop-j

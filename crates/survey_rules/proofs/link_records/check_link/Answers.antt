@@ -2,7 +2,6 @@
 use Prim.Native.Nat.{◌+◌}
 use native.Mathlib.Nat.{add-zero}
 use Rattle.network.specs.Refusals.{link_checked}
-use borrow.Author.Rules.{rules}
 use Rattle.survey_rules.proofs.link_records.check_link.Goals as goal
 
 pub returns : goal.returns

@@ -1,9 +1,6 @@
 -- `survey_rules::link_records::check_links` meets its contract. The invariant: the links before i are not refused. The first refusal is that of all links.
 use Prim.Native.Nat.{◌≤◌, ◌-◌}
-use borrow.Author.Rules.{rules}
-use mathlib.Core.Path.{◌≡◌, refl, sym, ap, ◌∙◌}
-use native.Mathlib.Omega.{arith}
-use Rattle.network.specs.Checked.{first_refusal, first_more, first_found}
+use mathlib.Core.Path.{◌≡◌}
 use Rattle.network.specs.Refusals.{links_checked}
 use Rattle.network.specs.declared.Checked.TheVariants.{Fine}
 use Rattle.survey_rules.proofs.link_records.check_links.Given as goal

@@ -1,9 +1,5 @@
-use Prim.Native.Nat.{◌-◌}
-use borrow.Author.Rules.{rules}
-use mathlib.Core.Path.{◌≡◌, refl, sym, ◌∙◌}
+use mathlib.Core.Path.{refl, sym, ◌∙◌}
 use native.Mathlib.Omega.{arith}
-use lib.ListN.{length}
-use Rattle.network.specs.Refusals.{absent_costs}
 use Rattle.survey_rules.specs.Absent.{absent-found, absent_none, absent-turn}
 use Rattle.survey_rules.proofs.link_rules.absent_costs.Goals as goal
 

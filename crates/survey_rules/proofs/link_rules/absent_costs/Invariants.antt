@@ -1,11 +1,8 @@
 -- `survey_rules::link_rules::absent_costs` meets its contract. The costs from j on say what those from p on say.
 use Prim.Native.Nat.{◌-◌}
-use borrow.Author.Rules.{rules}
-use mathlib.Core.Path.{◌≡◌, refl, sym, ◌∙◌}
-use native.Mathlib.Omega.{arith}
+use mathlib.Core.Path.{◌≡◌}
 use lib.ListN.{length}
 use Rattle.network.specs.Refusals.{absent_costs}
-use Rattle.survey_rules.specs.Absent.{absent-found, absent_none, absent-turn}
 use Rattle.survey_rules.proofs.link_rules.absent_costs.Given as goal
 
 abbrev pub invariant-loop-j : goal.invariant-loop-j

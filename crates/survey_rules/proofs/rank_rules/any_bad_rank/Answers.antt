@@ -1,9 +1,7 @@
-use Prim.Native.Nat.{◌-◌, ◌≤◌}
-use mathlib.Core.Path.{◌≡◌, refl}
+use Prim.Native.Nat.{◌≤◌}
+use mathlib.Core.Path.{refl}
 use native.Mathlib.Omega.{arith}
-use borrow.Author.Rules.{rules}
 use lib.ListN.{length}
-use Rattle.network.specs.Refusals.{any_bad_rank}
 use Rattle.survey_rules.specs.Tried.{bad-end, bad-turn, bad_from}
 use Rattle.survey_rules.proofs.rank_rules.any_bad_rank.Goals as goal
 

@@ -1,11 +1,9 @@
 -- `survey_rules::rank_rules::any_bad_rank` meets its contract. What was found so far, or is found in what is left, is what is found in all.
-use Prim.Native.Nat.{◌-◌, ◌≤◌}
-use mathlib.Core.Path.{◌≡◌, refl}
-use native.Mathlib.Omega.{arith}
-use borrow.Author.Rules.{rules}
+use Prim.Native.Nat.{◌-◌}
+use mathlib.Core.Path.{◌≡◌}
 use lib.ListN.{length}
 use Rattle.network.specs.Refusals.{any_bad_rank}
-use Rattle.survey_rules.specs.Tried.{bad-end, bad-turn, bad_from}
+use Rattle.survey_rules.specs.Tried.{bad_from}
 use Rattle.survey_rules.proofs.rank_rules.any_bad_rank.Given as goal
 
 abbrev pub invariant-loop-j : goal.invariant-loop-j

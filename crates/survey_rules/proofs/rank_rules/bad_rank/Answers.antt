@@ -1,5 +1,4 @@
 -- `survey_rules::rank_rules::bad_rank` meets its contract. By what `is_outside` ensures.
-use borrow.Author.Rules.{rules}
 use Rattle.survey_rules.proofs.rank_rules.bad_rank.Goals as goal
 
 pub returns : goal.returns

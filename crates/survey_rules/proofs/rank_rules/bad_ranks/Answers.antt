@@ -1,5 +1,4 @@
 -- `survey_rules::rank_rules::bad_ranks` meets its contract. By what `any_bad_rank` and `slack_of` ensure.
-use borrow.Author.Rules.{rules}
 use Rattle.network.specs.Refusals.{bad_ranks}
 use Rattle.survey_rules.proofs.rank_rules.bad_ranks.Goals as goal
 

@@ -1,6 +1,5 @@
 -- `survey_rules::resting::rest_in` meets its contract. The bytes stand inside the yard record.
 use native.Mathlib.Omega.{arith}
-use borrow.Author.Rules.{rules}
 use borrow.Author.Tests.{le-ltb, lt-ltb}
 use Rattle.network.specs.Survey.{rest_in}
 use Rattle.survey_rules.proofs.resting.rest_in.Goals as goal

@@ -6,7 +6,6 @@ use native.Mathlib.Omega.{arith}
 use lib.ListN.{drop, length-take, take}
 use Rattle.network.specs.Survey.{ranks_at, ranks_in}
 use Rattle.network.specs.Refusals.{bad_ranks, bad_rest, yard_checked}
-use borrow.Author.Rules.{rules}
 use Rattle.network.specs.declared.Layout.{Layout}
 use Rattle.survey_rules.proofs.yard_record.check_yard.Goals as goal
 

@@ -1,4 +1,4 @@
-use Prim.Native.Nat.{◌≤◌, ◌<◌, ◌-◌}
+use Prim.Native.Nat.{◌<◌}
 use mathlib.Core.Path.{◌≡◌, refl}
 use native.Mathlib.Omega.{arith}
 use borrow.Author.Rules.{rules}
@@ -7,7 +7,7 @@ use mir.Syntax.{w16}
 use mir.Val.{SFits}
 use mir.Facts.{to_z-of_z}
 use Rattle.trees_costs.specs.Added.{below_at}
-use Rattle.trees_costs.specs.Ceiling.{figures_up_to, figures-end, figures-none, figures-turn}
+use Rattle.trees_costs.specs.Ceiling.{figures-end, figures-none, figures-turn}
 use Rattle.trees_costs.proofs.ceilings.figures_of.Goals as goal
 
 pub loop-i-init : goal.loop-i-init

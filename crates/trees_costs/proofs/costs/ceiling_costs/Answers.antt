@@ -1,6 +1,6 @@
-use Prim.Native.Nat.{ℕ, ◌+◌, ◌≤◌, ◌-◌, ◌*◌}
+use Prim.Native.Nat.{ℕ, ◌+◌, ◌≤◌, ◌*◌}
 use mathlib.Core.List.{List}
-use mathlib.Core.Path.{◌≡◌, refl}
+use mathlib.Core.Path.{refl}
 use native.Mathlib.Nat.{mul-le-mul, suc-mul, zero-mul}
 use native.Mathlib.Numerals.{add-one}
 use native.Mathlib.Omega.{arith}
@@ -12,7 +12,7 @@ use mir.Val.{SFits}
 use mir.Facts.{to_z-of_z}
 use Rattle.network.specs.Capacities.{ceilings_held, links_held}
 use Rattle.network.specs.declared.Shape.{Shape}
-use Rattle.trees_costs.specs.TreeCosts.{Ceiled, ceilings-end, ceilings-none, ceilings-turn, ceilings_to, part-fine, part-inside}
+use Rattle.trees_costs.specs.TreeCosts.{Ceiled, ceilings-end, ceilings-none, ceilings-turn, part-fine, part-inside}
 use Rattle.trees_costs.proofs.costs.ceiling_costs.Goals as goal
 use Rattle.trees_costs.proofs.costs.ceiling_costs.Goals.{In-loop-i}
 

@@ -1,19 +1,9 @@
 -- After i turns the costs by the first i ceilings are there, and the next part of the costs is that of ceiling i.
-use Prim.Native.Nat.{ℕ, ◌+◌, ◌≤◌, ◌-◌, ◌*◌}
-use mathlib.Core.List.{List}
-use mathlib.Core.Path.{◌≡◌, refl}
-use native.Mathlib.Nat.{mul-le-mul, suc-mul, zero-mul}
-use native.Mathlib.Numerals.{add-one}
-use native.Mathlib.Omega.{arith}
-use borrow.Author.Rules.{rules}
-use lib.IntN.{ℤ}
+use Prim.Native.Nat.{◌≤◌, ◌-◌, ◌*◌}
+use mathlib.Core.Path.{◌≡◌}
 use lib.ListN.{length}
-use mir.Syntax.{w16}
-use mir.Val.{SFits}
-use mir.Facts.{to_z-of_z}
-use Rattle.network.specs.Capacities.{ceilings_held, links_held}
-use Rattle.network.specs.declared.Shape.{Shape}
-use Rattle.trees_costs.specs.TreeCosts.{Ceiled, ceilings-end, ceilings-none, ceilings-turn, ceilings_to, part-fine, part-inside}
+use Rattle.network.specs.Capacities.{ceilings_held}
+use Rattle.trees_costs.specs.TreeCosts.{ceilings_to}
 use Rattle.trees_costs.proofs.costs.ceiling_costs.Given as goal
 
 abbrev pub invariant-loop-i : goal.invariant-loop-i

@@ -1,6 +1,5 @@
 -- `trees_costs::sums::lowered` meets its contract. Both numbers are in the lower half of 32 bits, and so is their difference.
 use Prim.Native.Nat.{◌^◌, ◌*◌, ◌<◌}
-use borrow.Author.Rules.{rules}
 use mathlib.Core.Path.{◌≡◌, ap, ap₂, ◌∙◌}
 use native.Mathlib.Nat.{mul-le-mul_right}
 use native.Mathlib.Omega.{arith}

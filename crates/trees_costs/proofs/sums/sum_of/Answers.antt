@@ -1,9 +1,8 @@
-use Prim.Native.Nat.{◌+◌, ◌≤◌, ◌<◌, ◌-◌}
-use mathlib.Core.Path.{◌≡◌, refl}
+use Prim.Native.Nat.{◌≤◌, ◌<◌}
+use mathlib.Core.Path.{refl}
 use native.Mathlib.Omega.{arith}
-use borrow.Author.Rules.{rules}
-use lib.ListN.{drop, length}
-use Rattle.trees_costs.specs.Added.{below_at, sum_of, sum-end, sum-start, sum-turn}
+use lib.ListN.{length}
+use Rattle.trees_costs.specs.Added.{below_at, sum-end, sum-start, sum-turn}
 use Rattle.trees_costs.proofs.sums.sum_of.Goals as goal
 
 pub loop-i-init : goal.loop-i-init

@@ -1,10 +1,8 @@
 -- The sum so far and that of the links that are left are the whole sum.
-use Prim.Native.Nat.{◌+◌, ◌≤◌, ◌<◌, ◌-◌}
-use mathlib.Core.Path.{◌≡◌, refl}
-use native.Mathlib.Omega.{arith}
-use borrow.Author.Rules.{rules}
+use Prim.Native.Nat.{◌+◌, ◌≤◌, ◌-◌}
+use mathlib.Core.Path.{◌≡◌}
 use lib.ListN.{drop, length}
-use Rattle.trees_costs.specs.Added.{below_at, sum_of, sum-end, sum-start, sum-turn}
+use Rattle.trees_costs.specs.Added.{sum_of}
 use Rattle.trees_costs.proofs.sums.sum_of.Given as goal
 
 abbrev pub invariant-loop-i : goal.invariant-loop-i

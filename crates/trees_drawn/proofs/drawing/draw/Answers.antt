@@ -10,7 +10,7 @@ use Rattle.trees_drawn.proofs.drawing.draw.Goals as goal
 use Rattle.trees_drawn.proofs.drawing.draw.Goals.{After-station_at-b}
 
 -- both ends are stations
-stations : (c : After-station_at-b) → (c.before.station-at.result < stations_held) × (c.station-at2.result < stations_held)
+stations : (c : After-station_at-b) → (c.station_at-a.result < stations_held) × (c.station_at-b.result < stations_held)
 stations c =
     let within = c.requires.0.within _ in
     rw (c.station_at-a.ensures, c.station_at-b.ensures) within

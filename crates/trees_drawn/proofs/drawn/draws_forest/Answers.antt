@@ -1,11 +1,10 @@
-use Prim.Native.Nat.{◌<◌, ◌≤◌, ◌-◌}
-use mathlib.Core.Path.{◌≡◌, refl}
+use Prim.Native.Nat.{◌<◌, ◌≤◌}
+use mathlib.Core.Path.{refl}
 use native.Mathlib.Omega.{arith}
-use borrow.Author.Rules.{rules}
-use lib.ListN.{drop, length}
-use Rattle.forest.specs.Groups.{Led, apart-led}
+use lib.ListN.{length}
+use Rattle.forest.specs.Groups.{apart-led}
 use Rattle.trees_drawn.specs.Drawing.{drawing-led}
-use Rattle.trees_drawn.specs.Drawn.{draws_forest, draws_from, draws-end, draws-turn}
+use Rattle.trees_drawn.specs.Drawn.{draws_forest, draws-end, draws-turn}
 use Rattle.trees_drawn.proofs.drawn.draws_forest.Goals as goal
 
 pub loop-i-init : goal.loop-i-init

@@ -1,12 +1,9 @@
 -- What is left to draw from the groups so far is what all links draw from none.
-use Prim.Native.Nat.{◌<◌, ◌≤◌, ◌-◌}
-use mathlib.Core.Path.{◌≡◌, refl}
-use native.Mathlib.Omega.{arith}
-use borrow.Author.Rules.{rules}
+use Prim.Native.Nat.{◌≤◌, ◌-◌}
+use mathlib.Core.Path.{◌≡◌}
 use lib.ListN.{drop, length}
-use Rattle.forest.specs.Groups.{Led, apart-led}
-use Rattle.trees_drawn.specs.Drawing.{drawing-led}
-use Rattle.trees_drawn.specs.Drawn.{draws_forest, draws_from, draws-end, draws-turn}
+use Rattle.forest.specs.Groups.{Led}
+use Rattle.trees_drawn.specs.Drawn.{draws_forest, draws_from}
 use Rattle.trees_drawn.proofs.drawn.draws_forest.Given as goal
 
 abbrev pub invariant-loop-i : goal.invariant-loop-i

@@ -1,6 +1,5 @@
 -- t links that draw a forest are a tree, and no other number of links is.
 use mathlib.Core.Path.{◌∙◌}
-use borrow.Author.Rules.{rules}
 use Rattle.trees_drawn.specs.Drawn.{size-drawn, tree-drawn}
 use Rattle.trees_drawn.proofs.drawn.is_tree.Goals as goal
 

@@ -1,17 +1,16 @@
-use lib.ListN.{drop, length, length-drop, length-take, take}
+use lib.ListN.{drop, length, length-drop, length-take}
 use native.Mathlib.Nat.{mul-le-mul_right, suc-mul, zero-mul}
 use native.Mathlib.Numerals.{add-one}
 use Prim.Native.Nat.{◌+◌, ◌≤◌, ◌-◌, ◌*◌}
 use borrow.Author.Rules.{rules}
-use mathlib.Core.Path.{◌≡◌, refl, sym, ◌∙◌}
+use mathlib.Core.Path.{◌≡◌, refl, sym}
 use native.Mathlib.Omega.{arith}
-use Rattle.network.specs.Survey.{costs_in}
 use Rattle.survey_decoding.specs.Columns.{costs-none, costs-turn}
 use Rattle.survey_decoding.proofs.columns.decode_costs.Goals as goal
 use Rattle.survey_decoding.proofs.columns.decode_costs.Goals.{In-loop-i}
 
 -- the part of the ceiling in turn lies inside the column
-inside : (c : In-loop-i) → c.before.loop.from + c.before.before.before.args.m ≤ length c.before.loop.costs
+inside : (c : In-loop-i) → c.loop-i.from + c.args.m ≤ length c.loop-i.costs
 inside c =
     let v = c.loop-i in
     omega (arith, c.requires.2, v.invariant.1, mul-le-mul_right c.args.m c.loop-i-test.true, suc-mul v.i c.args.m)
@@ -20,10 +19,10 @@ pub loop-i-init : goal.loop-i-init
 loop-i-init c = (omega arith, sym (zero-mul _), refl, costs-none _ _ _)
 
 pub overflow_add-to : goal.overflow_add-to
-overflow_add-to c = omega (arith, inside ((goal.at.overflow_add-to c).In-loop-i), c.well-formed)
+overflow_add-to c = omega (arith, inside ((goal.at.overflow_add-to c).In-loop-i), c.well_formed)
 
 pub offset_bounds-costs-from : goal.offset_bounds-costs-from
-offset_bounds-costs-from c = omega (arith, inside ((goal.at.offset_bounds-costs-from c).In-loop-i), c.well-formed)
+offset_bounds-costs-from c = omega (arith, inside ((goal.at.offset_bounds-costs-from c).In-loop-i), c.well_formed)
 
 pub slice_bounds-decode_ceiling-end : goal.slice_bounds-decode_ceiling-end
 slice_bounds-decode_ceiling-end c = inside ((goal.at.slice_bounds-decode_ceiling-end c).In-loop-i)
@@ -44,7 +43,7 @@ loop-i-preserved c =
     let room = inside ((goal.at.loop-i-preserved c).In-loop-i) in (
       search rules,
       omega (arith, v.invariant.1, add-one v.i, suc-mul v.i c.args.m),
-      c.costs-1.given.1 ∙ v.invariant.2,
+      search rules,
       costs-turn _ _ _ v.i v.from v.costs v.invariant.3 room c.decode_ceiling.ensures,
     )
 

@@ -1,13 +1,8 @@
 -- The costs by the ceilings before i stand at the front of the column, and those by ceiling i go behind them.
-use lib.ListN.{drop, length, length-drop, length-take, take}
-use native.Mathlib.Nat.{mul-le-mul_right, suc-mul, zero-mul}
-use native.Mathlib.Numerals.{add-one}
-use Prim.Native.Nat.{◌+◌, ◌≤◌, ◌-◌, ◌*◌}
-use borrow.Author.Rules.{rules}
-use mathlib.Core.Path.{◌≡◌, refl, sym, ◌∙◌}
-use native.Mathlib.Omega.{arith}
+use lib.ListN.{length, take}
+use Prim.Native.Nat.{◌≤◌, ◌-◌, ◌*◌}
+use mathlib.Core.Path.{◌≡◌}
 use Rattle.network.specs.Survey.{costs_in}
-use Rattle.survey_decoding.specs.Columns.{costs-none, costs-turn}
 use Rattle.survey_decoding.proofs.columns.decode_costs.Given as goal
 
 abbrev pub invariant-loop-i : goal.invariant-loop-i

@@ -1,9 +1,8 @@
-use Prim.Native.Nat.{◌≤◌, ◌+◌, ◌-◌, ◌*◌}
+use Prim.Native.Nat.{◌≤◌, ◌+◌, ◌*◌}
 use borrow.Author.Rules.{rules}
 use mathlib.Core.Path.{◌≡◌, refl}
 use native.Mathlib.Omega.{arith}
-use lib.ListN.{length, length-set, take}
-use Rattle.network.specs.Survey.{ends_in}
+use lib.ListN.{length, length-set}
 use Rattle.survey_decoding.specs.Columns.{ends-none, ends-turn}
 use Rattle.survey_decoding.proofs.columns.decode_ends.Goals as goal
 

@@ -1,11 +1,8 @@
 -- The ends of the links before i stand at the front of the column.
-use Prim.Native.Nat.{◌≤◌, ◌+◌, ◌-◌, ◌*◌}
-use borrow.Author.Rules.{rules}
-use mathlib.Core.Path.{◌≡◌, refl}
-use native.Mathlib.Omega.{arith}
-use lib.ListN.{length, length-set, take}
+use Prim.Native.Nat.{◌≤◌, ◌-◌, ◌*◌}
+use mathlib.Core.Path.{◌≡◌}
+use lib.ListN.{length, take}
 use Rattle.network.specs.Survey.{ends_in}
-use Rattle.survey_decoding.specs.Columns.{ends-none, ends-turn}
 use Rattle.survey_decoding.proofs.columns.decode_ends.Given as goal
 
 abbrev pub invariant-loop-i : goal.invariant-loop-i

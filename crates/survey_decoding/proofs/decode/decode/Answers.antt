@@ -6,7 +6,6 @@ use Rattle.network.specs.Resting.{all-counted, working-few}
 use Rattle.network.specs.Survey.{stations_in}
 use Rattle.network.specs.Yard.{working as stations}
 use Rattle.survey_decoding.specs.Decoded.{decoded}
-use borrow.Author.Rules.{rules}
 use Rattle.survey_decoding.proofs.decode.decode.Goals as goal
 
 pub overflow_sub-result : goal.overflow_sub-result

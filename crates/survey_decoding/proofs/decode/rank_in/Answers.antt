@@ -2,7 +2,6 @@
 use native.Mathlib.Omega.{arith}
 use borrow.Author.Tests.{le-ltb, lt-ltb}
 use Rattle.survey_decoding.specs.Decoded.{rank_in}
-use borrow.Author.Rules.{rules}
 use Rattle.survey_decoding.proofs.decode.rank_in.Goals as goal
 
 pub returns-then-i-p : goal.returns-then-i-p

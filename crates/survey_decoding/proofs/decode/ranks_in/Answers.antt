@@ -1,8 +1,6 @@
 use mathlib.Core.Path.{◌≡◌, refl, sym, ap, ◌∙◌}
-use Prim.Native.Nat.{◌-◌, ◌≤◌}
 use native.Mathlib.Omega.{arith}
-use borrow.Author.Rules.{rules}
-use lib.ListN.{length, length-set, take}
+use lib.ListN.{length-set, take}
 use lib.Seq.{take_all}
 use Rattle.network.specs.Capacities.{ceilings_held}
 use Rattle.network.specs.Tabulate.{tabulate, tabulate-none, tabulate-turn}

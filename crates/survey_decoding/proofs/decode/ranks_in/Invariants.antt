@@ -1,13 +1,10 @@
 -- `survey_decoding::decode::ranks_in` meets its contract. The invariant: the first i entries are filled.
-use mathlib.Core.Path.{◌≡◌, refl, sym, ap, ◌∙◌}
+use mathlib.Core.Path.{◌≡◌}
 use Prim.Native.Nat.{◌-◌, ◌≤◌}
-use native.Mathlib.Omega.{arith}
-use borrow.Author.Rules.{rules}
-use lib.ListN.{length, length-set, take}
-use lib.Seq.{take_all}
+use lib.ListN.{length, take}
 use Rattle.network.specs.Capacities.{ceilings_held}
-use Rattle.network.specs.Tabulate.{tabulate, tabulate-none, tabulate-turn}
-use Rattle.survey_decoding.specs.Decoded.{rank_in, ranks-front}
+use Rattle.network.specs.Tabulate.{tabulate}
+use Rattle.survey_decoding.specs.Decoded.{rank_in}
 use Rattle.survey_decoding.proofs.decode.ranks_in.Given as goal
 
 abbrev pub invariant-loop-i : goal.invariant-loop-i

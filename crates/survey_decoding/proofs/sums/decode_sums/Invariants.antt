@@ -1,15 +1,8 @@
 -- The sum costs before i stand at the front of the column.
-use Prim.Native.Nat.{◌+◌, ◌≤◌, ◌<◌, ◌-◌}
-use borrow.Author.Rules.{rules}
-use mathlib.Core.Path.{◌≡◌, refl, ◌∙◌}
-use native.Mathlib.Omega.{arith}
-use lib.ListN.{length, length-set, take}
-use mir.Syntax.{w32}
-use mir.Val.{of_z, to_z}
-use mir.ValLaws.{to_z-of_z}
-use Rattle.network.specs.Bytes.{i32_at}
+use Prim.Native.Nat.{◌≤◌, ◌-◌}
+use mathlib.Core.Path.{◌≡◌}
+use lib.ListN.{length, take}
 use Rattle.network.specs.Survey.{sums_in}
-use Rattle.network.specs.Tabulate.{tabulate, tabulate-turn}
 use Rattle.survey_decoding.proofs.sums.decode_sums.Given as goal
 
 abbrev pub invariant-loop-i : goal.invariant-loop-i

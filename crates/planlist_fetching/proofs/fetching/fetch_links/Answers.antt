@@ -7,22 +7,21 @@ use Rattle.network.specs.PlanList.{plan_size}
 use Rattle.network.specs.Fetching.{fetch_number, head_tree_size}
 use Rattle.planlist_fetching.specs.Found.{found}
 use Rattle.planlist_fetching.specs.Fetched.{links-found, links-none}
-use borrow.Author.Rules.{rules}
 use Rattle.planlist_fetching.proofs.fetching.fetch_links.Goals as goal
 use Rattle.planlist_fetching.proofs.fetching.fetch_links.Goals.{Then-fetch_number-eq0}
 
 -- the plan is found
-is_found : (c : Then-fetch_number-eq0) → let a = c.before.before.before.args in fetch_number a.list.now a.r ≡ 0
+is_found : (c : Then-fetch_number-eq0) → let a = c.args in fetch_number a.list.now a.r ≡ 0
 is_found c = sym c.fetch_number.ensures ∙ c.if-fetch_number-eq0.true
 
 pub plan_start-at-requires : goal.plan_start-at-requires
 plan_start-at-requires c = let a = c.args in found a.list.now a.r (is_found ((goal.at.plan_start-at-requires c).Then-fetch_number-eq0))
 
 pub overflow_cast-list : goal.overflow_cast-list
-overflow_cast-list c = omega (arith, c.shared_slice_known-then-fetch_number-eq0-2-1.given 8)
+overflow_cast-list c = omega (arith, c.type_inv.list 8)
 
 pub plan_size-requires-then-fetch_number-eq0 : goal.plan_size-requires-then-fetch_number-eq0
-plan_size-requires-then-fetch_number-eq0 c = (c.plan_slots-slots.ensures.1, omega (arith, c.shared_slice_known-then-fetch_number-eq0-2-1.given 8))
+plan_size-requires-then-fetch_number-eq0 c = (c.plan_slots-slots.ensures.1, omega (arith, c.type_inv.list 8))
 
 pub returns-then-fetch_number-eq0 : goal.returns-then-fetch_number-eq0
 returns-then-fetch_number-eq0 c =

@@ -5,12 +5,11 @@ use Rattle.network.specs.PlanList.{plan_size}
 use Rattle.network.specs.Fetching.{fetch_number}
 use Rattle.planlist_fetching.specs.Found.{found}
 use Rattle.planlist_fetching.specs.Fetched.{start-found, start_none}
-use borrow.Author.Rules.{rules}
 use Rattle.planlist_fetching.proofs.fetching.fetch_start.Goals as goal
 use Rattle.planlist_fetching.proofs.fetching.fetch_start.Goals.{Then-fetch_number-eq0}
 
 -- the plan is found
-is_found : (c : Then-fetch_number-eq0) → let a = c.before.before.before.args in fetch_number a.list.now a.r ≡ 0
+is_found : (c : Then-fetch_number-eq0) → let a = c.args in fetch_number a.list.now a.r ≡ 0
 is_found c = sym c.fetch_number.ensures ∙ c.if-fetch_number-eq0.true
 
 pub plan_start-requires : goal.plan_start-requires

@@ -6,7 +6,6 @@ use lib.ListN.{length}
 use Rattle.network.specs.PlanList.{head_size, plan_size}
 use Rattle.network.specs.Fetching.{head_slots, head_tree_size, plan_start}
 use Rattle.planlist_fetching.specs.Found.{whole, plan-inside}
-use borrow.Author.Rules.{rules}
 use Rattle.planlist_fetching.proofs.finding.plan_start.Goals as goal
 use Rattle.planlist_fetching.proofs.finding.plan_start.Goals.{After-plan_size, Start}
 
@@ -31,16 +30,16 @@ pub bounds-list-8 : goal.bounds-list-8
 bounds-list-8 c = omega (arith, head ((goal.at.bounds-list-8 c).Start))
 
 pub overflow_cast-list : goal.overflow_cast-list
-overflow_cast-list c = omega (arith, c.shared_slice_known-3-1.given 8)
+overflow_cast-list c = omega (arith, c.type_inv.list 8)
 
 pub plan_size-requires : goal.plan_size-requires
-plan_size-requires c = (c.plan_slots.ensures.1, omega (arith, c.shared_slice_known-3-1.given 8))
+plan_size-requires c = (c.plan_slots.ensures.1, omega (arith, c.type_inv.list 8))
 
 pub overflow_mul-result : goal.overflow_mul-result
-overflow_mul-result c = omega (arith, inside ((goal.at.overflow_mul-result c).After-plan_size), c.well-formed)
+overflow_mul-result c = omega (arith, inside ((goal.at.overflow_mul-result c).After-plan_size), c.well_formed)
 
 pub overflow_add-result : goal.overflow_add-result
-overflow_add-result c = omega (arith, inside ((goal.at.overflow_add-result c).After-plan_size), c.well-formed)
+overflow_add-result c = omega (arith, inside ((goal.at.overflow_add-result c).After-plan_size), c.well_formed)
 
 pub returns : goal.returns
 returns c = let i = inside ((goal.at.returns c).After-plan_size) in (omega arith, omega arith)

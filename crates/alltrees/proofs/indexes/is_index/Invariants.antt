@@ -1,5 +1,4 @@
-
-use Rattle.std.proofs.Common.{◌-◌, ◌≤◌, rules}
+use Rattle.std.proofs.Common.{◌-◌, ◌≤◌}
 use Rattle.alltrees.proofs.indexes.is_index.Given as goal
 
 abbrev pub invariant-loop-j : goal.invariant-loop-j

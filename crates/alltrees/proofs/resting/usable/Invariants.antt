@@ -1,5 +1,4 @@
-
-use Rattle.std.proofs.Common.{◌-◌, ◌≤◌, rules}
+use Rattle.std.proofs.Common.{◌-◌, ◌≤◌}
 use Rattle.alltrees.proofs.resting.usable.Given as goal
 
 abbrev pub invariant-loop-e : goal.invariant-loop-e

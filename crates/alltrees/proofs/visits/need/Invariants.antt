@@ -1,5 +1,4 @@
-
-use Rattle.std.proofs.Common.{◌-◌, ◌≤◌, rules}
+use Rattle.std.proofs.Common.{◌-◌, ◌≤◌}
 use Rattle.alltrees.proofs.visits.need.Given as goal
 
 abbrev pub invariant-loop-q : goal.invariant-loop-q

@@ -1,5 +1,4 @@
-
-use Rattle.std.proofs.Common.{◌≡◌, ◌-◌, ◌≤◌, length, rules}
+use Rattle.std.proofs.Common.{◌≡◌, ◌-◌, ◌≤◌, length}
 use Rattle.alltrees.proofs.visits.solved.Given as goal
 
 abbrev pub invariant-loop-i : goal.invariant-loop-i

@@ -1,6 +1,5 @@
 -- A pattern without digits beside it changes nothing.
 use mathlib.Core.Path.{◌∙◌}
-use borrow.Author.Rules.{rules}
 use Rattle.exceptions.specs.Admit.{alone}
 use Rattle.exceptions.proofs.admitted.admits_alone.Goals as goal
 

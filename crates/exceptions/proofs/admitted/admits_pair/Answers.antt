@@ -1,10 +1,4 @@
-use Prim.Native.Nat.{◌-◌, ◌≤◌, ◌<◌}
-use mathlib.Core.List.{[], ◌∷◌}
-use mathlib.Core.Path.{◌≡◌}
 use native.Mathlib.Omega.{arith}
-use borrow.Author.Rules.{rules}
-use lib.ListN.{drop, length}
-use Rattle.kmax.specs.Digits.{admits}
 use Rattle.exceptions.specs.Admit.{pair_end, pair-many, pair-more}
 use Rattle.exceptions.proofs.admitted.admits_pair.Goals as goal
 

@@ -2,14 +2,11 @@
 use Prim.Native.Nat.{ℕ, ◌-◌, ◌≤◌}
 use mathlib.Core.Bool.{false, ◌&&◌}
 use mathlib.Core.List.{[], ◌∷◌}
-use mathlib.Core.Path.{◌≡◌, refl}
-use native.Mathlib.Omega.{arith}
-use borrow.Author.Rules.{rules}
+use mathlib.Core.Path.{◌≡◌}
 use lib.ListN.{length}
 use Rattle.kmax.specs.Digits.{admits, marked}
-use Rattle.network.specs.Column.{column, column-more}
+use Rattle.network.specs.Column.{column}
 use Rattle.network.specs.Capacities.{patterns_held}
-use Rattle.exceptions.specs.Fit.{fit_of}
 use Rattle.exceptions.proofs.admitted.fit_patterns.Given as goal
 
 abbrev pub invariant-loop-pattern : goal.invariant-loop-pattern

@@ -1,8 +1,6 @@
-use Prim.Native.Nat.{ℕ, ◌-◌, ◌≤◌, ◌<◌}
-use mathlib.Core.Logic.{⊎_elim}
-use mathlib.Core.Path.{◌≡◌, refl, ◌∙◌}
+use Prim.Native.Nat.{ℕ, ◌≤◌, ◌<◌}
+use mathlib.Core.Path.{refl, ◌∙◌}
 use native.Mathlib.Omega.{arith}
-use borrow.Author.Rules.{rules}
 use lib.ListN.{get_or, length, length-set}
 use Rattle.order.specs.Test.{both}
 use Rattle.order.specs.Lists.{get_or-mem}
@@ -12,15 +10,15 @@ use Rattle.network.specs.Yard.{ends_at}
 use Rattle.forest.specs.Groups.{Led, leaders-differ, leaders-equal, leaders-joined, leaders-lead}
 use Rattle.forest.specs.declared.Forest.{Forest}
 use Rattle.exceptions.specs.Patterns.{pattern_at}
-use Rattle.exceptions.specs.Keep.{AllLed, after-led, alone-led, gather-end, gather-left, gather-start, gather-taken, gathered, kept_whole, kept_by}
+use Rattle.exceptions.specs.Keep.{after-led, alone-led, gather-end, gather-left, gather-start, gather-taken, kept_whole}
 use Rattle.exceptions.specs.Keep.{nobody, pattern-known}
 use Rattle.exceptions.specs.Select.{known_at}
 use Rattle.exceptions.proofs.keep.put_exceptions.Goals as goal
-use Rattle.exceptions.proofs.keep.put_exceptions.Goals.{In-loop-k}
+use Rattle.exceptions.proofs.keep.put_exceptions.Goals.{In-loop-k, then-fit-pattern+then-new-old, then-fit-pattern+else-new-old, else-fit-pattern}
 
 -- the link at a turn
 abbrev link_at : In-loop-k → ℕ
-link_at c = get_or (start c).args.order.now c.before.loop.k 0
+link_at c = get_or c.args.order.now c.loop-k.k 0
 
 -- it has a pattern, which is one of those held, and joins two stations
 known : (c : In-loop-k)
@@ -30,12 +28,12 @@ known c =
     let below = known_at p.3 c.loop-k.k c.loop-k-test.true in
     (below, pattern-known _ _ _ p.2 _ below)
 
-within : (c : In-loop-k) → EndsBelow stations_held (ends_at (start c).args.ends.now (link_at c))
+within : (c : In-loop-k) → EndsBelow stations_held (ends_at c.args.ends.now (link_at c))
 within c = c.requires.1 (link_at c) (get_or-mem c.args.order.now c.loop-k.k 0 c.loop-k-test.true)
 
 -- the groups of its pattern
 abbrev groups-at : In-loop-k → Forest
-groups-at c = get_or c.before.loop.forests (pattern_at (start c).args.patterns.now (link_at c)) nobody
+groups-at c = get_or c.loop-k.forests (pattern_at c.args.patterns.now (link_at c)) nobody
 
 -- they are led
 led-at : (c : In-loop-k) → Led (groups-at c)
@@ -72,7 +70,7 @@ pub overflow_add-b : goal.overflow_add-b
 overflow_add-b c = let u = known ((goal.at.overflow_add-b c).In-loop-k) in omega arith
 
 pub bounds-ends-i-then-fit-pattern : goal.bounds-ends-i-then-fit-pattern
-bounds-ends-i-then-fit-pattern c = let u = known ((goal.at.bounds-ends-i-then-fit-pattern c).In-loop-k) in omega (arith, (start ((goal.at.bounds-ends-i-then-fit-pattern c).In-loop-k)).requires.0)
+bounds-ends-i-then-fit-pattern c = let u = known ((goal.at.bounds-ends-i-then-fit-pattern c).In-loop-k) in omega (arith, ((goal.at.bounds-ends-i-then-fit-pattern c).In-loop-k).requires.0)
 
 pub offset_bounds-forests-pattern : goal.offset_bounds-forests-pattern
 offset_bounds-forests-pattern c = let u = known ((goal.at.offset_bounds-forests-pattern c).In-loop-k) in omega arith
@@ -107,46 +105,45 @@ overflow_add-n c = omega (arith, c.requires.3.room)
 pub loop-k-preserved : goal.loop-k-preserved
 loop-k-preserved c =
     let v = c.loop-k in
-    let s = (start ((goal.at.loop-k-preserved c).In-loop-k)).args in
+    let s = ((goal.at.loop-k-preserved c).In-loop-k).args in
     let h : v.k < length s.order.now = omega arith in
-    let m : v.n < length v.odd = omega (arith, (start ((goal.at.loop-k-preserved c).In-loop-k)).requires.3.room) in
+    let m : v.n < length v.odd = omega (arith, ((goal.at.loop-k-preserved c).In-loop-k).requires.3.room) in
     let e = ends_at s.ends.now (link_at ((goal.at.loop-k-preserved c).In-loop-k)) in
     let f = groups-at ((goal.at.loop-k-preserved c).In-loop-k) in
     let fit = c.fit_patterns-fit.result in
-    ⊎_elim
-    (λ w.
-    let joins = w.7.ensures ∙ leaders-joined f e.a e.b w.4.ensures w.5.ensures (led-at ((goal.at.loop-k-preserved c).In-loop-k)) in (
-      refl,
-      rw w.8 (simp length-set v.invariant.1),
-      rw w.9 (simp length-set v.invariant.2),
-      rw (w.9, joins) (after-led s.ends.now s.patterns.now fit v.forests (link_at ((goal.at.loop-k-preserved c).In-loop-k)) (within ((goal.at.loop-k-preserved c).In-loop-k)) v.invariant.3),
-      rw w.10 (omega arith),
-      omega arith,
-      rw (w.8, w.9, w.10, joins)
-          (gather-taken _ _ _ _ _ _ _ _ _ v.invariant.6 h m
-          (both w.0.taken (leaders-differ f e.a e.b w.4.ensures w.5.ensures w.6.taken))),
-    ))
-    (⊎_elim
-    (λ w. (
-      refl,
-      rw w.7 v.invariant.1,
-      rw w.8 v.invariant.2,
-      rw w.8 v.invariant.3,
-      rw w.9 (omega arith),
-      omega arith,
-      rw (w.7, w.8, w.9) (gather-left _ _ _ _ _ _ _ _ _ v.invariant.6 h
-          (rw w.0.taken (leaders-equal f e.a e.b w.4.ensures w.5.ensures w.6.left))),
-    ))
-    (λ w. (
-      refl,
-      rw w.1 v.invariant.1,
-      rw w.2 v.invariant.2,
-      rw w.2 v.invariant.3,
-      rw w.3 (omega arith),
-      omega arith,
-      rw (w.1, w.2, w.3) (gather-left _ _ _ _ _ _ _ _ _ v.invariant.6 h (rw w.0.left)),
-    )))
-    c.if-fit-pattern.branch
+    elim c.if-fit-pattern.branch [
+      | then-fit-pattern+then-new-old w ↦
+          let joins = w.join.ensures ∙ leaders-joined f e.a e.b w.find-new.ensures w.find-old.ensures (led-at ((goal.at.loop-k-preserved c).In-loop-k)) in (
+            refl,
+            rw w.odd-is (simp length-set v.invariant.1),
+            rw w.forests-is (simp length-set v.invariant.2),
+            rw (w.forests-is, joins) (after-led s.ends.now s.patterns.now fit v.forests (link_at ((goal.at.loop-k-preserved c).In-loop-k)) (within ((goal.at.loop-k-preserved c).In-loop-k)) v.invariant.3),
+            rw w.n-is (omega arith),
+            omega arith,
+            rw (w.odd-is, w.forests-is, w.n-is, joins)
+                (gather-taken _ _ _ _ _ _ _ _ _ v.invariant.6 h m
+                (both w.if-fit-pattern.true (leaders-differ f e.a e.b w.find-new.ensures w.find-old.ensures w.if-new-old.true))),
+          )
+      | then-fit-pattern+else-new-old w ↦ (
+        refl,
+        rw w.odd-is v.invariant.1,
+        rw w.forests-is v.invariant.2,
+        rw w.forests-is v.invariant.3,
+        rw w.n-is (omega arith),
+        omega arith,
+        rw (w.odd-is, w.forests-is, w.n-is) (gather-left _ _ _ _ _ _ _ _ _ v.invariant.6 h
+            (rw w.if-fit-pattern.true (leaders-equal f e.a e.b w.find-new.ensures w.find-old.ensures w.if-new-old.false))),
+      )
+      | else-fit-pattern w ↦ (
+        refl,
+        rw w.odd-is v.invariant.1,
+        rw w.forests-is v.invariant.2,
+        rw w.forests-is v.invariant.3,
+        rw w.n-is (omega arith),
+        omega arith,
+        rw (w.odd-is, w.forests-is, w.n-is) (gather-left _ _ _ _ _ _ _ _ _ v.invariant.6 h (rw w.if-fit-pattern.false)),
+      )
+    ]
 
 pub returns : goal.returns
 returns c =

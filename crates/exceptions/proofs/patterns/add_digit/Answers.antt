@@ -1,4 +1,4 @@
-use Prim.Native.Nat.{◌-◌, ◌≤◌, ◌<◌}
+use Prim.Native.Nat.{◌<◌}
 use mathlib.Core.Path.{◌≡◌, refl}
 use native.Mathlib.Omega.{arith}
 use borrow.Author.Rules.{rules, sfits_of}
@@ -6,13 +6,13 @@ use lib.IntN.{pos}
 use lib.ListN.{get_or, length}
 use mir.Facts.{to_z-of_z}
 use mir.Syntax.{w16}
-use mir.Val.{SFits, to_z}
-use Rattle.exceptions.specs.Patterns.{Added, added-all, added_next, added_none, added-turn, pattern_at}
+use mir.Val.{SFits}
+use Rattle.exceptions.specs.Patterns.{added-all, added_next, added_none, added-turn, pattern_at}
 use Rattle.exceptions.proofs.patterns.add_digit.Goals as goal
 use Rattle.exceptions.proofs.patterns.add_digit.Goals.{In-loop-e}
 
 -- the link at a turn has room for one digit more
-room : (c : In-loop-e) → pattern_at c.before.loop.patterns c.before.loop.e < 128
+room : (c : In-loop-e) → pattern_at c.loop-e.patterns c.loop-e.e < 128
 room c =
     let v = c.loop-e in
     let h : v.e < length c.args.patterns.now = omega arith in

@@ -1,17 +1,16 @@
-use Prim.Native.Nat.{◌-◌, ◌<◌}
-use mathlib.Core.Path.{◌≡◌, refl}
+use Prim.Native.Nat.{◌<◌}
+use mathlib.Core.Path.{refl}
 use native.Mathlib.Omega.{arith}
-use borrow.Author.Rules.{rules}
 use lib.Dec.{eqb}
 use lib.ListN.{length, length-set, get_or}
 use Rattle.exceptions.specs.Patterns.{normal}
-use Rattle.kruskal_order.specs.Collect.{Collected, collect-end, collect-room, collect-start, collect-turn, one_at_most}
+use Rattle.kruskal_order.specs.Collect.{collect-end, collect-room, collect-start, collect-turn, one_at_most}
 use Rattle.exceptions.specs.Select.{known_at}
 use Rattle.exceptions.proofs.select.put_normal.Goals as goal
 use Rattle.exceptions.proofs.select.put_normal.Goals.{In-loop-k}
 
 -- the link at a turn
-link_at : (c : In-loop-k) → get_or (start c).args.order.now c.before.loop.k 0 < length (start c).args.patterns.now
+link_at : (c : In-loop-k) → get_or c.args.order.now c.loop-k.k 0 < length c.args.patterns.now
 link_at c = known_at c.requires c.loop-k.k c.loop-k-test.true
 
 pub loop-k-init : goal.loop-k-init
@@ -31,7 +30,7 @@ overflow_cast-n-in-loop-k c = tt
 
 pub overflow_add-n : goal.overflow_add-n
 overflow_add-n c =
-    let i = (start ((goal.at.overflow_add-n c).In-loop-k)).args in
+    let i = ((goal.at.overflow_add-n c).In-loop-k).args in
     let room = collect-room _ c.loop-k.invariant.0 c.loop-k-test.true in
     omega (arith, one_at_most (eqb (get_or i.patterns.now (get_or i.order.now c.loop-k.k 0) 0) 0))
 

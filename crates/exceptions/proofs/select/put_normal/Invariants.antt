@@ -1,13 +1,9 @@
 -- After k turns the array holds the normal ones of the first k links.
-use Prim.Native.Nat.{◌-◌, ◌<◌}
-use mathlib.Core.Path.{◌≡◌, refl}
-use native.Mathlib.Omega.{arith}
-use borrow.Author.Rules.{rules}
-use lib.Dec.{eqb}
-use lib.ListN.{length, length-set, get_or}
+use Prim.Native.Nat.{◌-◌}
+use mathlib.Core.Path.{◌≡◌}
+use lib.ListN.{length}
 use Rattle.exceptions.specs.Patterns.{normal}
-use Rattle.kruskal_order.specs.Collect.{Collected, collect-end, collect-room, collect-start, collect-turn, one_at_most}
-use Rattle.exceptions.specs.Select.{known_at}
+use Rattle.kruskal_order.specs.Collect.{Collected}
 use Rattle.exceptions.proofs.select.put_normal.Given as goal
 
 abbrev pub invariant-loop-k : goal.invariant-loop-k

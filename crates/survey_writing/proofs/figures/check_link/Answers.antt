@@ -1,5 +1,4 @@
 -- `survey_writing::figures::check_link` meets its contract. The rules are tried in the order of the definition.
-use borrow.Author.Rules.{rules}
 use mir.Syntax.{w16, w32}
 use mir.ValLaws.{to_z-of_z}
 use Rattle.network.specs.Writing.{link_figures_checked}

@@ -1,13 +1,10 @@
 -- `survey_writing::figures::check_links` meets its contract. The invariant: the links before i are not refused. The first refusal is that of all links.
-use borrow.Author.Rules.{rules}
 use Prim.Native.Nat.{ℕ, ◌≤◌, ◌<◌, ◌-◌}
-use mathlib.Core.Path.{◌≡◌, refl, sym, ap, ◌∙◌}
-use native.Mathlib.Omega.{arith}
+use mathlib.Core.Path.{◌≡◌}
 use lib.ListN.{length}
-use Rattle.network.specs.Checked.{first_refusal}
 use Rattle.network.specs.Writing.{link_from}
 use Rattle.network.specs.declared.Checked.TheVariants.{Fine}
-use Rattle.survey_roundtrip.specs.Columns.{columns-found, columns-more, columns_checked, fits_more, met_all}
+use Rattle.survey_roundtrip.specs.Columns.{columns_checked}
 use Rattle.survey_roundtrip.specs.Fields.{Fitting}
 use Rattle.survey_writing.proofs.figures.check_links.Given as goal
 

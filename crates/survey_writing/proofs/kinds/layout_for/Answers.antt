@@ -1,9 +1,6 @@
-use Prim.Native.Nat.{◌-◌}
-use mathlib.Core.Path.{◌≡◌, refl, sym, ◌∙◌}
-use borrow.Author.Rules.{rules}
+use mathlib.Core.Path.{refl, sym, ◌∙◌}
 use borrow.Author.Tests.{eq-eqb, ne_eqb}
-use lib.ListN.{length}
-use Rattle.network.specs.Writing.{is_of_kind, layout_for, writable}
+use Rattle.network.specs.Writing.{layout_for}
 use Rattle.survey_layout.specs.Rows.{from_row, row-found, row-missed, row-none}
 use Rattle.survey_writing.specs.Found.{found-writable}
 use Rattle.survey_writing.proofs.kinds.layout_for.Goals as goal

@@ -1,12 +1,9 @@
 -- `survey_writing::kinds::layout_for` meets its contract. The rows from i on have the layout of the kind.
 use Prim.Native.Nat.{◌-◌}
-use mathlib.Core.Path.{◌≡◌, refl, sym, ◌∙◌}
-use borrow.Author.Rules.{rules}
-use borrow.Author.Tests.{eq-eqb, ne_eqb}
+use mathlib.Core.Path.{◌≡◌}
 use lib.ListN.{length}
 use Rattle.network.specs.Writing.{is_of_kind, layout_for, writable}
-use Rattle.survey_layout.specs.Rows.{from_row, row-found, row-missed, row-none}
-use Rattle.survey_writing.specs.Found.{found-writable}
+use Rattle.survey_layout.specs.Rows.{from_row}
 use Rattle.survey_writing.proofs.kinds.layout_for.Given as goal
 
 abbrev pub invariant-loop-i : goal.invariant-loop-i

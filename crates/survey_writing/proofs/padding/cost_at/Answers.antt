@@ -1,5 +1,4 @@
 -- `survey_writing::padding::cost_at` meets its contract. Past the end stands the default.
-use borrow.Author.Rules.{rules}
 use mathlib.Core.Path.{sym}
 use lib.ListN.{get_or-eq_default}
 use Rattle.survey_writing.proofs.padding.cost_at.Goals as goal

@@ -1,5 +1,4 @@
 -- `survey_writing::padding::end_at` meets its contract. Past the end stands the default.
-use borrow.Author.Rules.{rules}
 use mathlib.Core.Path.{sym}
 use lib.ListN.{get_or-eq_default}
 use Rattle.order.specs.Lists.{get_or_default}

@@ -1,12 +1,7 @@
 -- `survey_writing::padding::full_costs` meets its contract. The invariant: the costs before q stand in the column.
-use borrow.Author.Rules.{rules}
 use Prim.Native.Nat.{◌≤◌, ◌-◌, ◌*◌}
-use mathlib.Core.Path.{◌≡◌, refl, sym, ap, ◌∙◌}
-use mir.Syntax.{w16}
-use mir.ValLaws.{to_z-of_z}
-use native.Mathlib.Omega.{arith}
+use mathlib.Core.Path.{◌≡◌}
 use Rattle.network.specs.Limits.{max_links}
-use Rattle.network.specs.Column.{column, column-more}
 use Rattle.survey_roundtrip.specs.Columns.{costs_to}
 use Rattle.survey_writing.proofs.padding.full_costs.Given as goal
 

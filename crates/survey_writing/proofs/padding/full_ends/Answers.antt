@@ -1,8 +1,6 @@
 use borrow.Author.Rules.{rules}
-use Prim.Native.Nat.{◌≤◌, ◌-◌, ◌*◌}
-use mathlib.Core.Path.{◌≡◌, refl, sym, ap, ◌∙◌}
+use mathlib.Core.Path.{refl, sym, ap, ◌∙◌}
 use native.Mathlib.Omega.{arith}
-use Rattle.network.specs.Limits.{max_links}
 use Rattle.network.specs.Column.{column, column-more}
 use Rattle.survey_roundtrip.specs.Columns.{ends_to}
 use Rattle.survey_writing.proofs.padding.full_ends.Goals as goal

@@ -1,10 +1,7 @@
 -- `survey_writing::padding::full_ends` meets its contract. The invariant: the ends before q stand in the column.
-use borrow.Author.Rules.{rules}
 use Prim.Native.Nat.{◌≤◌, ◌-◌, ◌*◌}
-use mathlib.Core.Path.{◌≡◌, refl, sym, ap, ◌∙◌}
-use native.Mathlib.Omega.{arith}
+use mathlib.Core.Path.{◌≡◌}
 use Rattle.network.specs.Limits.{max_links}
-use Rattle.network.specs.Column.{column, column-more}
 use Rattle.survey_roundtrip.specs.Columns.{ends_to}
 use Rattle.survey_writing.proofs.padding.full_ends.Given as goal
 

@@ -1,10 +1,8 @@
 use borrow.Author.Rules.{rules}
-use Prim.Native.Nat.{◌≤◌, ◌-◌}
-use mathlib.Core.Path.{◌≡◌, refl, sym, ap, ◌∙◌}
+use mathlib.Core.Path.{refl, sym, ap, ◌∙◌}
 use mir.Syntax.{w32}
 use mir.ValLaws.{to_z-of_z}
 use native.Mathlib.Omega.{arith}
-use Rattle.network.specs.Limits.{max_links}
 use Rattle.network.specs.Column.{column, column-more}
 use Rattle.survey_roundtrip.specs.Columns.{sums_to}
 use Rattle.survey_writing.proofs.padding.full_sums.Goals as goal

@@ -1,5 +1,4 @@
 -- `survey_writing::records::write_yard` meets its contract. The link count stands behind the other fields.
-use borrow.Author.Rules.{rules}
 use mathlib.Core.Bool.{Bool, true, cond}
 use mathlib.Core.Path.{◌≡◌, ap, ◌∙◌}
 use Prim.Native.Nat.{◌+◌}
@@ -16,7 +15,7 @@ write_u8-requires c =
     let has : has_count l ≡ true = lt-ltb 0 l.count c.if-count-gt0.true in
     let at : l.count ≡ written_yard = c.requires.0.counted ∙ ap (λ (b : Bool). cond b written_yard 0) has in
     let size : l.yard.size ≡ written_yard + 1 = c.requires.0.size ∙ ap (λ (b : Bool). written_yard + cond b 1 0) has in
-    let same = c.write_fields.auto.0 in
+    let same = c.write_fields.auto.out in
     omega (arith, c.requires.1)
 
 pub returns-then-count-gt0 : goal.returns-then-count-gt0

@@ -1,5 +1,4 @@
 -- `survey_writing::writer::write_full` meets its contract. By the verdict on the links and the length of the output.
-use borrow.Author.Rules.{rules}
 use mathlib.Core.Path.{◌≡◌, ap}
 use Prim.Native.Nat.{ℕ, ◌+◌, ◌*◌, ◌≤◌}
 use native.Mathlib.Omega.{arith}
@@ -25,8 +24,8 @@ overflow_add-first c = omega (arith, sizes ((goal.at.overflow_add-first c).Start
 
 pub returns-then-out-first : goal.returns-then-out-first
 returns-then-out-first c =
-    let done = full-short _ c.requires.0 _ _ _ _ c.check_links-checked.ensures.0 _ c.enum_told-1.given.1 c.if-out-first.true in
-    (done.0, (done.1, c.check_links-checked.ensures.1))
+    let done = full-short _ c.requires.0 _ _ _ _ c.check_links-checked.ensures.verdict _ c.in-Fine.is c.if-out-first.true in
+    record { reply = done.0; leaves = done.1; met = c.check_links-checked.ensures.met }
 
 pub write_records-requires : goal.write_records-requires
 write_records-requires c =
@@ -36,12 +35,12 @@ write_records-requires c =
 
 pub returns-in-Refused : goal.returns-in-Refused
 returns-in-Refused c =
-    let done = full-refused _ c.requires.0 _ _ _ _ c.check_links-checked.ensures.0 _ _ c.checked-1.given.1 in
-    (done.0, (done.1, c.check_links-checked.ensures.1))
+    let done = full-refused _ c.requires.0 _ _ _ _ c.check_links-checked.ensures.verdict _ _ c.in-Refused.is in
+    record { reply = done.0; leaves = done.1; met = c.check_links-checked.ensures.met }
 
 pub returns-else-out-first : goal.returns-else-out-first
 returns-else-out-first c =
     let verdict = c.check_links-checked.ensures in
     let done =
-    full-fine _ c.requires.0 _ _ _ _ verdict.0 _ c.enum_told-1.given.1 c.if-out-first.false c.write_records.ensures in
-    (done.0, (done.1, verdict.1))
+    full-fine _ c.requires.0 _ _ _ _ verdict.verdict _ c.in-Fine.is c.if-out-first.false c.write_records.ensures in
+    record { reply = done.0; leaves = done.1; met = verdict.met }

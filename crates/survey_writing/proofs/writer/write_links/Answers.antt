@@ -1,8 +1,6 @@
-use Prim.Native.Nat.{◌-◌}
 use native.Mathlib.Omega.{arith}
 use borrow.Author.Rules.{rules}
-use lib.ListN.{length}
-use Rattle.survey_writing.specs.Links.{LinksWritten, links_end, links-start, links-turn}
+use Rattle.survey_writing.specs.Links.{links_end, links-start, links-turn}
 use Rattle.survey_writing.proofs.writer.write_links.Goals as goal
 
 pub loop-i-init : goal.loop-i-init
@@ -15,7 +13,7 @@ write_link-requires c = omega (arith, c.loop-i.invariant)
 pub loop-i-preserved : goal.loop-i-preserved
 loop-i-preserved c =
     links-turn _ _ _ _ _ _ _ _ _ _ c.loop-i.invariant c.loop-i-test.true c.requires.0.link-marked c.requires.1
-    (record { sum = search rules; c1 = search rules; c2 = search rules }) c.write_link.ensures c.write_link.auto.0
+    (record { sum = search rules; c1 = search rules; c2 = search rules }) c.write_link.ensures c.write_link.auto.out
 
 pub shape_of-out : goal.shape_of-out
 shape_of-out c = c.loop-i.invariant.kept

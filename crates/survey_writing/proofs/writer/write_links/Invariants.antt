@@ -1,9 +1,7 @@
 -- `survey_writing::writer::write_links` meets its contract. The invariant: the records of the links before i stand behind the yard record.
 use Prim.Native.Nat.{◌-◌}
-use native.Mathlib.Omega.{arith}
-use borrow.Author.Rules.{rules}
 use lib.ListN.{length}
-use Rattle.survey_writing.specs.Links.{LinksWritten, links_end, links-start, links-turn}
+use Rattle.survey_writing.specs.Links.{LinksWritten}
 use Rattle.survey_writing.proofs.writer.write_links.Given as goal
 
 abbrev pub invariant-loop-i : goal.invariant-loop-i

@@ -1,5 +1,4 @@
 -- `survey_writing::writer::write_records` meets its contract. The link records stand behind the yard record.
-use borrow.Author.Rules.{rules}
 use Rattle.survey_writing.specs.Filled.{survey-written}
 use Rattle.survey_writing.proofs.writer.write_records.Goals as goal
 

@@ -1,5 +1,5 @@
 -- A number of 16 bits fits 32.
-use Rattle.std.proofs.Common.{arith, w16, rules}
+use Rattle.std.proofs.Common.{arith, w16}
 use mir.ValLaws.{to_z-of_z}
 use Rattle.console.proofs.signed16.Goals as goal
 

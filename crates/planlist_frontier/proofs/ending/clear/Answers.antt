@@ -3,7 +3,6 @@ use mathlib.Core.Path.{ap, ◌∙◌}
 use Prim.Native.Nat.{ℕ}
 use native.Mathlib.Nat.{sub-zero}
 use lib.ListN.{length, replicate}
-use borrow.Author.Rules.{rules}
 use Rattle.planlist_frontier.proofs.ending.clear.Goals as goal
 
 pub returns : goal.returns

@@ -8,7 +8,6 @@ use lib.Seq.{take-append-add}
 use Rattle.network.specs.PlanList.{head_bytes, head_size, plan_size, plan_slots}
 use Rattle.buffers.specs.Overwrite.{overwrite}
 use Rattle.planlist_frontier.specs.Finished.{finished-bytes}
-use borrow.Author.Rules.{rules}
 use Rattle.planlist_frontier.proofs.ending.finish.Goals as goal
 use Rattle.planlist_frontier.proofs.ending.finish.Goals.{After-plan_size}
 
@@ -21,18 +20,18 @@ plans-size c =
     ap (λ (k : ℕ). a.count * k) (c.plan_size.ensures ∙ ap (λ (slots : ℕ). plan_size slots a.t) c.plan_slots.ensures.0)
 
 pub overflow_mul-count : goal.overflow_mul-count
-overflow_mul-count c = omega (arith, plans-size ((goal.at.overflow_mul-count c).After-plan_size), c.requires, c.well-formed)
+overflow_mul-count c = omega (arith, plans-size ((goal.at.overflow_mul-count c).After-plan_size), c.requires, c.well_formed)
 
 pub overflow_add-count : goal.overflow_add-count
-overflow_add-count c = omega (arith, plans-size ((goal.at.overflow_add-count c).After-plan_size), c.requires, c.well-formed)
+overflow_add-count c = omega (arith, plans-size ((goal.at.overflow_add-count c).After-plan_size), c.requires, c.well_formed)
 
 pub clear_from-requires : goal.clear_from-requires
-clear_from-requires c = omega (arith, plans-size ((goal.at.clear_from-requires c).After-plan_size), c.requires, c.write_head.auto.0)
+clear_from-requires c = omega (arith, plans-size ((goal.at.clear_from-requires c).After-plan_size), c.requires, c.write_head.auto.out)
 
 pub returns : goal.returns
 unfolding overwrite
 returns c =
-    let a = (entry ((goal.at.returns c).After-plan_size)).args in
+    let a = c.args in
     let d = a.out.now in
     let n = a.count * plan_size (plan_slots a.p) a.t in
     let head = head_bytes a.count a.solved a.t a.p in
@@ -41,6 +40,6 @@ returns c =
     c.clear_from.ensures
     ∙ ap₂ (λ (k : ℕ) (o : List ℕ). take k o ++ replicate (length o - k) 0) end headed.ensures
     ∙ ap₂ (λ (l : List ℕ) (k : ℕ). l ++ replicate (k - (head_size + n)) 0)
-    (take-append-add head (drop head_size d) n) (sym (ap length headed.ensures) ∙ headed.auto.0)
+    (take-append-add head (drop head_size d) n) (sym (ap length headed.ensures) ∙ headed.auto.out)
     ∙ append_assoc head (take n (drop head_size d)) (replicate (length d - (head_size + n)) 0)
-    ∙ sym (finished-bytes d a.count a.solved a.t a.p (entry ((goal.at.returns c).After-plan_size)).requires.1)
+    ∙ sym (finished-bytes d a.count a.solved a.t a.p c.requires.1)

@@ -7,7 +7,6 @@ use lib.Seq.{length-take-le, drop_at}
 use Rattle.network.specs.PlanList.{head_size}
 use Rattle.buffers.specs.Tail.{tail-back, tail-lent}
 use Rattle.planlist_frontier.specs.Taken.{Insertable, Inserted}
-use borrow.Author.Rules.{rules}
 use Rattle.planlist_frontier.proofs.insertion.insert_plan.Goals as goal
 
 pub insert-requires : goal.insert-requires
@@ -19,7 +18,7 @@ returns c =
     let d = c.args.out.now in
     let links = c.args.links.now in
     let done = c.insert in
-    let last = done.new.0 in
+    let last = done.new.plans in
     let behind = ap (drop head_size) (tail-back head_size d last) ∙ drop_at (take head_size d) last head_size (length-take-le head_size d c.requires.0) in
     subst⁻¹ (Inserted c.args.slots c.args.v links c.args.count (drop head_size d) done.result) behind
     (subst (λ (l : List ℕ). Inserted c.args.slots c.args.v links c.args.count l done.result last) (tail-lent head_size d) done.ensures)

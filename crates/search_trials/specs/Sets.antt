@@ -80,6 +80,7 @@ member-sublist (there m) = Sublistᴰ.cons (member-sublist m)
 
 -- two links of a rising list
 rising-pair : (e : List ℕ) → Rising orderℕ (λ x. x) e → (a b : ℕ) → a < b → a ∈ e → b ∈ e → Sublistᴰ (a ∷ b ∷ []) e
+rising-pair [] r a b h m n = elim m [ ]
 rising-pair (c ∷ e) r a b h m n = go (rising-pair e r.1 a b h) (Memᴰ.cases_cons m) (Memᴰ.cases_cons n)
   where
     go : (a ∈ e → b ∈ e → Sublistᴰ (a ∷ b ∷ []) e) → (a ≡ c) ⊎ (a ∈ e) → (b ≡ c) ⊎ (b ∈ e) → Sublistᴰ (a ∷ b ∷ []) (c ∷ e)
@@ -113,11 +114,13 @@ module _ (e : List ℕ) (rising : Rising orderℕ (λ x. x) e) where
 -- each set of one and of two links is tried
 one-tried : (x : ℕ) (l : List ℕ) → x ∈ l → x ∷ [] ∈ sets l
 unfolding sets
+one-tried x [] x'' = elim x'' [ ]
 one-tried x (y ∷ l) (here e) = here (ap (λ (z : ℕ). z ∷ []) e)
 one-tried x (y ∷ l) (there m) = there (Memᴰ.append_right (map (pair y) l) (one-tried x l m))
 
 two-tried : (a b : ℕ) (l : List ℕ) → a < b → a ∈ l → b ∈ l → a ∷ b ∷ [] ∈ sets l
 unfolding sets
+two-tried a b [] h m n = elim m [ ]
 two-tried a b (x ∷ l) h m n = go (two-tried a b l h) (Memᴰ.cases_cons m) (Memᴰ.cases_cons n)
   where
     go : (a ∈ l → b ∈ l → a ∷ b ∷ [] ∈ sets l) → (a ≡ x) ⊎ (a ∈ l) → (b ≡ x) ⊎ (b ∈ l) → a ∷ b ∷ [] ∈ sets (x ∷ l)

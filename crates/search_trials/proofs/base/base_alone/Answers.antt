@@ -1,7 +1,6 @@
 -- The test and the trial are those of the definition.
 use mathlib.Core.Path.{ap}
 use lib.Dec.{eqb}
-use borrow.Author.Rules.{rules}
 use Rattle.search_trials.specs.declared.best.Trial.{Trial}
 use Rattle.search_trials.specs.BaseAlone.{lead_alone}
 use Rattle.search_trials.proofs.base.base_alone.Goals as goal

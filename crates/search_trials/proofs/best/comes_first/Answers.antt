@@ -1,6 +1,5 @@
 -- Either trial's links have their flags, and these are compared.
 use mathlib.Core.Path.{ap₂, ◌∙◌}
-use borrow.Author.Rules.{rules}
 use Rattle.search_trials.specs.Chosen.{first_by}
 use Rattle.search_trials.specs.Flags.{first}
 use Rattle.search_trials.proofs.best.comes_first.Goals as goal

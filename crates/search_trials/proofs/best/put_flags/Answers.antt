@@ -1,15 +1,13 @@
 -- The base's links that the trial keeps have their flags, then its first exception where it has one, then the other.
-use mathlib.Core.Logic.{⊎_elim}
 use mathlib.Core.Path.{◌≡◌, ap, sym, ◌∙◌}
 use native.Mathlib.Omega.{arith}
-use borrow.Author.Rules.{rules}
 use lib.ListN.{length, length-set}
 use Rattle.network.specs.Capacities.{links_held}
 use Rattle.kruskal.specs.Grown.{flags_of}
 use Rattle.search_trials.specs.Flags.{flags-length}
 use Rattle.search_trials.specs.Marks.{first-left, first-set, second-left, second-set, with_first}
 use Rattle.search_trials.proofs.best.put_flags.Goals as goal
-use Rattle.search_trials.proofs.best.put_flags.Goals.{Joined-t-gt0}
+use Rattle.search_trials.proofs.best.put_flags.Goals.{Joined-t-gt0, then-t-gt0, else-t-gt0}
 
 pub bounds-taken-link : goal.bounds-taken-link
 bounds-taken-link c =
@@ -17,12 +15,12 @@ bounds-taken-link c =
     omega (arith, c.requires.2.link)
 
 -- the flags there are those of the base's links and of the first exception
-one_set : (c : Joined-t-gt0) → c.if1.taken ≡ flags_of (with_first (start c).args.base.now (start c).args.t)
+one_set : (c : Joined-t-gt0) → c.if-t-gt0.taken ≡ flags_of (with_first c.args.base.now c.args.t)
 one_set c =
     let base = c.put_kept.ensures in
-    ⊎_elim (λ w. w.2 ∙ first-set _ _ base w.0.taken) (λ w. w.1 ∙ first-left _ _ base w.0.left) c.if-t-gt0.branch
+    elim c.if-t-gt0.branch [ then-t-gt0 w ↦ w.taken-is ∙ first-set _ _ base w.if-t-gt0.true | else-t-gt0 w ↦ w.taken-is ∙ first-left _ _ base w.if-t-gt0.false ]
 
-one-length : (c : Joined-t-gt0) → length c.if1.true ≡ links_held
+one-length : (c : Joined-t-gt0) → length c.if-t-gt0.taken ≡ links_held
 one-length c = ap length (one_set c) ∙ flags-length _
 
 pub bounds-taken-other : goal.bounds-taken-other

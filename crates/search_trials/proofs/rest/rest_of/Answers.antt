@@ -3,7 +3,6 @@ use Prim.Native.Nat.{ℕ, ◌-◌, ◌≤◌, ◌<◌}
 use mathlib.Core.Bool.{true}
 use mathlib.Core.Path.{◌≡◌, ap, ◌∙◌}
 use native.Mathlib.Omega.{arith}
-use borrow.Author.Rules.{rules}
 use lib.ListN.{drop, length}
 use Rattle.trees_costs.specs.Added.{sum_of}
 use Rattle.search_trials.specs.Rest.{behind-fits, behind-known, behind-part, from_place, rest-enough, rest-few}

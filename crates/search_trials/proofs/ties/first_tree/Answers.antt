@@ -1,9 +1,8 @@
-use Prim.Native.Nat.{◌-◌, ◌≤◌, ◌<◌}
-use mathlib.Core.Path.{◌≡◌, refl, sym, ◌∙◌}
+use Prim.Native.Nat.{◌≤◌, ◌<◌}
+use mathlib.Core.Path.{refl, sym, ◌∙◌}
 use native.Mathlib.Omega.{arith}
-use borrow.Author.Rules.{rules}
-use lib.ListN.{length, drop}
-use Rattle.search_trials.specs.Flags.{first, first-end, first_found, first-turn}
+use lib.ListN.{length}
+use Rattle.search_trials.specs.Flags.{first-end, first_found, first-turn}
 use Rattle.search_trials.proofs.ties.first_tree.Goals as goal
 use Rattle.search_trials.proofs.ties.first_tree.Goals.{In-loop-i}
 

@@ -1,10 +1,8 @@
 -- The flags that are left decide, as all the flags do: those that were passed are equal.
-use Prim.Native.Nat.{◌-◌, ◌≤◌, ◌<◌}
-use mathlib.Core.Path.{◌≡◌, refl, sym, ◌∙◌}
-use native.Mathlib.Omega.{arith}
-use borrow.Author.Rules.{rules}
+use Prim.Native.Nat.{◌-◌, ◌≤◌}
+use mathlib.Core.Path.{◌≡◌}
 use lib.ListN.{length, drop}
-use Rattle.search_trials.specs.Flags.{first, first-end, first_found, first-turn}
+use Rattle.search_trials.specs.Flags.{first}
 use Rattle.search_trials.proofs.ties.first_tree.Given as goal
 
 abbrev pub invariant-loop-i : goal.invariant-loop-i

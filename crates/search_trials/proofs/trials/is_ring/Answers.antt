@@ -1,6 +1,5 @@
 -- Two links are a ring where the first makes the ends of the second one group.
 use mathlib.Core.Path.{◌∙◌}
-use borrow.Author.Rules.{rules}
 use Rattle.search_trials.specs.Grows.{ring-group}
 use Rattle.search_trials.proofs.trials.is_ring.Goals as goal
 

@@ -1,5 +1,4 @@
 -- The place is one of the base's, or there is no link.
-use borrow.Author.Rules.{rules}
 use Rattle.kruskal.specs.Tree.{walk-usable}
 use Rattle.search_trials.specs.Trials.{lost-here, lost-none}
 use Rattle.search_trials.proofs.trials.lost_at.Goals as goal

@@ -1,10 +1,8 @@
-use Prim.Native.Nat.{◌*◌, ◌-◌, ◌≤◌, ◌<◌}
-use mathlib.Core.Path.{◌≡◌, sym, ◌∙◌}
+use Prim.Native.Nat.{◌<◌}
+use mathlib.Core.Path.{sym, ◌∙◌}
 use native.Mathlib.Omega.{arith}
-use borrow.Author.Rules.{rules}
-use Rattle.network.specs.Capacities.{stations_held}
-use Rattle.spanning.specs.Places.{first_place, from_end, from_found, from_next, from_start, place_from}
-use Rattle.search_trials.specs.Rows.{beside-here, beside_at}
+use Rattle.spanning.specs.Places.{from_end, from_found, from_next, from_start}
+use Rattle.search_trials.specs.Rows.{beside-here}
 use Rattle.search_trials.proofs.trials.place_beside.Goals as goal
 
 pub loop-k-init : goal.loop-k-init

@@ -1,11 +1,9 @@
 -- The first place of those left is the first of all.
-use Prim.Native.Nat.{◌*◌, ◌-◌, ◌≤◌, ◌<◌}
-use mathlib.Core.Path.{◌≡◌, sym, ◌∙◌}
-use native.Mathlib.Omega.{arith}
-use borrow.Author.Rules.{rules}
+use Prim.Native.Nat.{◌*◌, ◌-◌, ◌≤◌}
+use mathlib.Core.Path.{◌≡◌}
 use Rattle.network.specs.Capacities.{stations_held}
-use Rattle.spanning.specs.Places.{first_place, from_end, from_found, from_next, from_start, place_from}
-use Rattle.search_trials.specs.Rows.{beside-here, beside_at}
+use Rattle.spanning.specs.Places.{first_place, place_from}
+use Rattle.search_trials.specs.Rows.{beside_at}
 use Rattle.search_trials.proofs.trials.place_beside.Given as goal
 
 abbrev pub invariant-loop-k : goal.invariant-loop-k

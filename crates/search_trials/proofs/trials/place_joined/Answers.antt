@@ -1,9 +1,8 @@
-use Prim.Native.Nat.{◌+◌, ◌*◌, ◌-◌, ◌≤◌, ◌<◌}
-use mathlib.Core.Path.{◌≡◌, sym, ◌∙◌}
+use Prim.Native.Nat.{◌<◌}
+use mathlib.Core.Path.{sym, ◌∙◌}
 use native.Mathlib.Omega.{arith}
-use Rattle.network.specs.Capacities.{stations_held}
-use Rattle.spanning.specs.Places.{first_place, from_end, from_found, from_next, from_start, place_from}
-use Rattle.search_trials.specs.Rows.{joined-apart, joined-here, joined_at}
+use Rattle.spanning.specs.Places.{from_end, from_found, from_next, from_start}
+use Rattle.search_trials.specs.Rows.{joined-apart, joined-here}
 use Rattle.search_trials.proofs.trials.place_joined.Goals as goal
 
 pub loop-k-init : goal.loop-k-init

@@ -1,14 +1,13 @@
 -- The base loses the link at the place that was found, and no other.
 use mathlib.Core.Path.{◌∙◌}
 use native.Mathlib.Omega.{arith}
-use borrow.Author.Rules.{rules}
 use Rattle.search_trials.specs.Rows.{place-one}
 use Rattle.search_trials.specs.Trials.{Ranges, one-ranges, one-stands}
 use Rattle.search_trials.proofs.trials.with_one.Goals as goal
 use Rattle.search_trials.proofs.trials.with_one.Goals.{After-sum_at-cost}
 
 -- the sums and differences
-ranges : (c : After-sum_at-cost) → let t = (start c).args.t in Ranges t.count t.sum c.sum-at.result c.before.lost-at.result
+ranges : (c : After-sum_at-cost) → let t = c.args.t in Ranges t.count t.sum c.sum_at-cost.result c.lost_at-lost.result
 ranges c =
     let p = c.requires in
     one-ranges _ _ _ _ p.0 _ p.1 _ _ _ _ p.2 c.sum_at-cost.ensures c.lost_at-lost.ensures
@@ -24,6 +23,6 @@ overflow_sub-sum c = (ranges ((goal.at.overflow_sub-sum c).After-sum_at-cost)).c
 
 pub returns : goal.returns
 returns c =
-    let p = (start ((goal.at.returns c).After-sum_at-cost)).requires in
+    let p = ((goal.at.returns c).After-sum_at-cost).requires in
     let place = c.place_joined-place.ensures ∙ place-one _ _ _ p.0.near p.0.recorded _ p.1.within in
     one-stands _ _ _ _ p.0 _ p.1 _ _ _ _ p.2 c.sum_at-cost.ensures place c.lost_at-lost.ensures

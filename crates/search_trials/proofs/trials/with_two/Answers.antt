@@ -1,7 +1,6 @@
 -- Beside the first exception the base loses the link at the place that was found.
 use mathlib.Core.Path.{◌≡◌, ◌∙◌}
 use native.Mathlib.Omega.{arith}
-use borrow.Author.Rules.{rules}
 use Rattle.spanning.specs.Tree.{identity}
 use Rattle.spanning.specs.Lost.{lost_two}
 use Rattle.network.specs.Yard.{ends_at}
@@ -20,7 +19,7 @@ place c =
     c.place_beside-beside.ensures ∙ place-two _ _ _ p.0.near p.0.recorded _ _ p.1.within p.2.within
 
 -- the sums and differences
-ranges : (c : After-sum_at-cost) → let t = (start c).args.t in Ranges t.count t.sum c.sum-at.result c.before.lost-at.result
+ranges : (c : After-sum_at-cost) → let t = c.args.t in Ranges t.count t.sum c.sum_at-cost.result c.lost_at-lost.result
 ranges c =
     let p = c.requires in
     two-ranges _ _ _ _ p.0 _ _ p.1 p.2 p.4 _ _ _ _ p.3 c.sum_at-cost.ensures (place c) c.lost_at-lost.ensures
@@ -39,6 +38,6 @@ overflow_sub-sum c = (ranges ((goal.at.overflow_sub-sum c).After-sum_at-cost)).c
 
 pub returns : goal.returns
 returns c =
-    let p = (start ((goal.at.returns c).After-sum_at-cost)).requires in
+    let p = ((goal.at.returns c).After-sum_at-cost).requires in
     let stands = two-stands _ _ _ _ p.0 _ _ p.1 p.2 p.4 _ _ _ _ p.3 c.sum_at-cost.ensures (place ((goal.at.returns c).After-sum_at-cost)) c.lost_at-lost.ensures in
     (stands, record { link = joining-flag p.0.columns p.1; other = joining-flag p.0.columns p.2 })

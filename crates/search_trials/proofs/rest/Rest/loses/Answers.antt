@@ -1,6 +1,5 @@
 -- The sums are compared as the definition has it.
 use mathlib.Core.Path.{refl}
-use borrow.Author.Rules.{rules}
 use Rattle.search_trials.specs.Rest.{loses_to}
 use Rattle.search_trials.proofs.rest.Rest.loses.Goals as goal
 

@@ -1,9 +1,7 @@
 use mathlib.Core.Path.{refl}
-use Prim.Native.Nat.{◌-◌}
 use native.Mathlib.Omega.{arith}
 use borrow.Author.Rules.{rules}
-use Rattle.network.specs.SmallSurveys.{small_link_count}
-use Rattle.small_surveys.specs.Numbered.{ToWrite, entry-positive, write-end, write-start, write-turn}
+use Rattle.small_surveys.specs.Numbered.{entry-positive, write-end, write-start, write-turn}
 use Rattle.small_surveys.proofs.numbered.write_choices.Goals as goal
 
 pub loop-i-init : goal.loop-i-init

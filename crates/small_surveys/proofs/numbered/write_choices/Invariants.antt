@@ -1,10 +1,7 @@
 -- `small_surveys::numbered::write_choices` meets its contract. The invariant: the records of the links from i on are still to be written.
-use mathlib.Core.Path.{refl}
 use Prim.Native.Nat.{◌-◌}
-use native.Mathlib.Omega.{arith}
-use borrow.Author.Rules.{rules}
 use Rattle.network.specs.SmallSurveys.{small_link_count}
-use Rattle.small_surveys.specs.Numbered.{ToWrite, entry-positive, write-end, write-start, write-turn}
+use Rattle.small_surveys.specs.Numbered.{ToWrite}
 use Rattle.small_surveys.proofs.numbered.write_choices.Given as goal
 
 abbrev pub invariant-loop-i : goal.invariant-loop-i

@@ -1,6 +1,5 @@
 -- A trial that contends is offered.
 use mathlib.Core.Path.{sym, ◌∙◌}
-use borrow.Author.Rules.{rules}
 use Rattle.search.specs.Begun.{competed-new, competed-old}
 use Rattle.search.proofs.compete.Goals as goal
 

@@ -1,14 +1,10 @@
 -- What is left to try, from place i on, leads to what the whole led to at the start. Where the link at i loses, so do those behind it.
 use Prim.Native.Nat.{◌-◌}
-use mathlib.Core.Path.{◌≡◌, refl, sym, ◌∙◌}
-use native.Mathlib.Omega.{arith}
-use borrow.Author.Rules.{rules}
-use lib.ListN.{get_or, length}
+use mathlib.Core.Path.{◌≡◌}
+use lib.ListN.{length}
 use Rattle.search_trials.specs.Marks.{Flagged}
-use Rattle.search_trials.specs.Rest.{least_fits}
-use Rattle.search_trials.specs.Trials.{Joining, one-tried}
-use Rattle.search.specs.Begun.{best_by, by-loses, joining-at, turned}
-use Rattle.search.specs.Loops.{ones-end, ones-lose, ones-turn, tried_ones}
+use Rattle.search.specs.Begun.{best_by}
+use Rattle.search.specs.Loops.{tried_ones}
 use Rattle.search.proofs.consider_ones.Given as goal
 
 abbrev pub invariant-loop-i : goal.invariant-loop-i

@@ -1,7 +1,6 @@
 -- Both tests, one after the other.
 use mathlib.Core.Bool.{not}
 use mathlib.Core.Path.{sym, ap, ◌∙◌}
-use borrow.Author.Rules.{rules}
 use Rattle.search.specs.Begun.{fitting-admitted, fitting-barred}
 use Rattle.search.proofs.fit_together.Goals as goal
 

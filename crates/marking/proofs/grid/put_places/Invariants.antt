@@ -1,11 +1,9 @@
 -- `marking::grid::put_places` meets its contract. The invariant: the places so far and those of the rest are the places of n.
-use mathlib.Core.Path.{◌≡◌, ap₂, ◌∙◌}
+use mathlib.Core.Path.{◌≡◌}
 use mathlib.Core.List.{◌++◌}
-use Prim.Native.Nat.{ℕ, ◌+◌, ◌-◌, ◌≤◌, ◌<◌}
-use native.Mathlib.Omega.{arith}
-use borrow.Author.Rules.{rules}
-use lib.ListN.{drop, length, length-set, set, take}
-use Rattle.marking.specs.Digits.{digits-end, digits-turn, digits_by}
+use Prim.Native.Nat.{◌-◌, ◌≤◌}
+use lib.ListN.{drop, length, take}
+use Rattle.marking.specs.Digits.{digits_by}
 use Rattle.marking.proofs.grid.put_places.Given as goal
 
 abbrev pub invariant-loop-i : goal.invariant-loop-i

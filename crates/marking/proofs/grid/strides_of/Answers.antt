@@ -1,9 +1,8 @@
 use mathlib.Core.Path.{◌≡◌}
-use Prim.Native.Nat.{◌*◌, ◌-◌, ◌≤◌}
+use Prim.Native.Nat.{◌*◌, ◌-◌}
 use native.Mathlib.Omega.{arith}
-use borrow.Author.Rules.{rules}
 use lib.ListN.{drop, get_or, length, length-set}
-use Rattle.marking.specs.Digits.{few-products, total, total-none, total-turn, weights, weights-none, weights-turn}
+use Rattle.marking.specs.Digits.{few-products, total, total-none, total-turn, weights-none, weights-turn}
 use Rattle.marking.proofs.grid.strides_of.Goals as goal
 
 pub loop-i-init : goal.loop-i-init

@@ -1,10 +1,8 @@
 -- `marking::grid::strides_of` meets its contract. The invariant: the strides from i on, and the number of positions of these ceilings.
 use mathlib.Core.Path.{◌≡◌}
-use Prim.Native.Nat.{◌*◌, ◌-◌, ◌≤◌}
-use native.Mathlib.Omega.{arith}
-use borrow.Author.Rules.{rules}
-use lib.ListN.{drop, get_or, length, length-set}
-use Rattle.marking.specs.Digits.{few-products, total, total-none, total-turn, weights, weights-none, weights-turn}
+use Prim.Native.Nat.{◌≤◌}
+use lib.ListN.{drop, length}
+use Rattle.marking.specs.Digits.{total, weights}
 use Rattle.marking.proofs.grid.strides_of.Given as goal
 
 abbrev pub invariant-loop-i : goal.invariant-loop-i

@@ -6,9 +6,7 @@ use native.Mathlib.Omega.{arith}
 use borrow.Rule.Slice.PartMut.{mid_len, same_len_mid}
 use borrow.Author.Rules.{rules}
 use lib.ListN.{drop, length, length-set, length-take}
-use Rattle.network.specs.Capacities.{ceilings_held}
-use Rattle.network.specs.Yard.{usable_at}
-use Rattle.marking.specs.Parts.{Filled, filled-turn, none_filled, parts-apart}
+use Rattle.marking.specs.Parts.{filled-turn, none_filled, parts-apart}
 use Rattle.marking.proofs.grid.values_of.Goals as goal
 use Rattle.marking.proofs.grid.values_of.Goals.{In-loop-i}
 
@@ -27,16 +25,16 @@ loop-i-init c =
     (refl, refl, omega arith, omega arith, none_filled _ a.shape.m a.costs.now a.values.now _)
 
 pub overflow_add-to : goal.overflow_add-to
-overflow_add-to c = omega (arith, next-part ((goal.at.overflow_add-to c).In-loop-i), c.requires.1.array-is, c.well-formed)
+overflow_add-to c = omega (arith, next-part ((goal.at.overflow_add-to c).In-loop-i), c.requires.1.array-is, c.well_formed)
 
 pub offset_bounds-costs-from : goal.offset_bounds-costs-from
-offset_bounds-costs-from c = omega (arith, next-part ((goal.at.offset_bounds-costs-from c).In-loop-i), c.requires.1.costs-are, c.well-formed)
+offset_bounds-costs-from c = omega (arith, next-part ((goal.at.offset_bounds-costs-from c).In-loop-i), c.requires.1.costs-are, c.well_formed)
 
 pub slice_bounds-different_values-end : goal.slice_bounds-different_values-end
 slice_bounds-different_values-end c = omega (arith, next-part ((goal.at.slice_bounds-different_values-end c).In-loop-i), c.requires.1.costs-are)
 
 pub offset_bounds-values-from : goal.offset_bounds-values-from
-offset_bounds-values-from c = omega (arith, next-part ((goal.at.offset_bounds-values-from c).In-loop-i), c.requires.1.array-is, c.good)
+offset_bounds-values-from c = omega (arith, next-part ((goal.at.offset_bounds-values-from c).In-loop-i), c.requires.1.array-is, c.well_formed)
 
 pub slice_bounds-different_values-end-in-loop-i : goal.slice_bounds-different_values-end-in-loop-i
 slice_bounds-different_values-end-in-loop-i c = omega (arith, next-part ((goal.at.slice_bounds-different_values-end-in-loop-i c).In-loop-i), c.requires.1.array-is)
@@ -44,28 +42,26 @@ slice_bounds-different_values-end-in-loop-i c = omega (arith, next-part ((goal.a
 pub different_values-requires : goal.different_values-requires
 different_values-requires c =
     let l = c.loop-i in
-    let s = start ((goal.at.different_values-requires c).In-loop-i) in
-    let m = s.args.shape.m in
-    (s.pre.0, omega (arith, length-take (l.from + m - l.from) (drop l.from s.args.costs.now), s.pre.1.links), search rules)
+    let m = c.args.shape.m in
+    (c.requires.0, omega (arith, length-take (l.from + m - l.from) (drop l.from c.args.costs.now), c.requires.1.links), search rules)
 
 pub loop-i-preserved : goal.loop-i-preserved
 loop-i-preserved c =
     let l = c.loop-i in
-    let s = start ((goal.at.loop-i-preserved c).In-loop-i) in
-    let a = s.args in
+    let a = c.args in
     let m = a.shape.m in
     let new = c.different_values in
     let room = next-part ((goal.at.loop-i-preserved c).In-loop-i) in
     let width : l.from + m - l.from ≡ m = omega arith in
-    let kept = new.auto.1.1.1.0 in
-    let size : length new.new.1.1.1.0 ≡ m =
-    kept ∙ mid_len l.from (l.from + m) l.values (omega (arith, s.pre.1.array-is, l.invariant.0)) ∙ width in (
-      same_len_mid l.from (l.from + m - l.from) l.values new.new.1.1.1.0 kept ∙ l.invariant.0,
+    let kept = new.auto.values in
+    let size : length new.new.values ≡ m =
+    kept ∙ mid_len l.from (l.from + m) l.values (omega (arith, c.requires.1.array-is, l.invariant.0)) ∙ width in (
+      same_len_mid l.from (l.from + m - l.from) l.values new.new.values kept ∙ l.invariant.0,
       simp length-set l.invariant.1,
       omega arith,
       omega (arith, l.invariant.3, suc-mul l.i m, add-one l.i),
-      filled-turn l.invariant.4 l.from (l.from + m - l.from) new.result new.new.1.1.1.0 l.invariant.3 width
-          (omega (arith, l.invariant.1, s.pre.1.ceilings)) (omega (arith, s.pre.1.costs-are)) (omega (arith, s.pre.1.array-is, l.invariant.0)) size
+      filled-turn l.invariant.4 l.from (l.from + m - l.from) new.result new.new.values l.invariant.3 width
+          (omega (arith, l.invariant.1, c.requires.1.ceilings)) (omega (arith, c.requires.1.costs-are)) (omega (arith, c.requires.1.array-is, l.invariant.0)) size
           new.ensures,
     )
 

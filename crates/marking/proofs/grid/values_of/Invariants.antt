@@ -1,15 +1,10 @@
 -- `marking::grid::values_of` meets its contract. The invariant: the values of the first i ceilings are at the front of their parts.
-use mathlib.Core.Path.{◌≡◌, refl, ◌∙◌}
-use Prim.Native.Nat.{◌+◌, ◌-◌, ◌*◌, ◌≤◌}
-use native.Mathlib.Nat.{suc-mul}
-use native.Mathlib.Numerals.{add-one}
-use native.Mathlib.Omega.{arith}
-use borrow.Rule.Slice.PartMut.{mid_len, same_len_mid}
-use borrow.Author.Rules.{rules}
-use lib.ListN.{drop, length, length-set, length-take}
+use mathlib.Core.Path.{◌≡◌}
+use Prim.Native.Nat.{◌-◌, ◌*◌, ◌≤◌}
+use lib.ListN.{length}
 use Rattle.network.specs.Capacities.{ceilings_held}
 use Rattle.network.specs.Yard.{usable_at}
-use Rattle.marking.specs.Parts.{Filled, filled-turn, none_filled, parts-apart}
+use Rattle.marking.specs.Parts.{Filled}
 use Rattle.marking.proofs.grid.values_of.Given as goal
 
 abbrev pub invariant-loop-i : goal.invariant-loop-i

@@ -1,9 +1,8 @@
-use mathlib.Core.Path.{◌≡◌, refl, sym, ◌∙◌}
+use mathlib.Core.Path.{refl, sym, ◌∙◌}
 use mathlib.Core.List.{[]}
-use Prim.Native.Nat.{◌+◌, ◌≤◌}
 use native.Mathlib.Omega.{arith}
-use lib.ListN.{length, length-set}
-use Rattle.marking.specs.Paint.{paint, sweep, sweep-turn, sweep-end}
+use lib.ListN.{length-set}
+use Rattle.marking.specs.Paint.{paint, sweep-turn, sweep-end}
 use Rattle.marking.proofs.mark.mark_row.Goals as goal
 
 pub loop-left-init : goal.loop-left-init

@@ -1,11 +1,10 @@
 -- `marking::mark::mark_row` meets its contract. The invariant: what is left of the sweep, from the marks now, gives what the whole gives from those
 -- at entry.
-use mathlib.Core.Path.{◌≡◌, refl, sym, ◌∙◌}
+use mathlib.Core.Path.{◌≡◌}
 use mathlib.Core.List.{[]}
 use Prim.Native.Nat.{◌+◌, ◌≤◌}
-use native.Mathlib.Omega.{arith}
-use lib.ListN.{length, length-set}
-use Rattle.marking.specs.Paint.{paint, sweep, sweep-turn, sweep-end}
+use lib.ListN.{length}
+use Rattle.marking.specs.Paint.{paint, sweep}
 use Rattle.marking.proofs.mark.mark_row.Given as goal
 
 abbrev pub invariant-loop-left : goal.invariant-loop-left

@@ -1,8 +1,7 @@
 use mathlib.Core.Path.{◌≡◌, refl, sym, ap, ◌∙◌}
 use mathlib.Core.List.{[], ◌∷◌}
-use Prim.Native.Nat.{◌+◌, ◌*◌, ◌-◌, ◌≤◌}
+use Prim.Native.Nat.{◌+◌, ◌*◌, ◌-◌}
 use native.Mathlib.Omega.{arith}
-use lib.ListN.{length}
 use Rattle.marking.specs.Paint.{paint, rows_left, run, sweep, sweep-end, sweep-turn}
 use Rattle.marking.proofs.mark.mark_rows.Goals as goal
 use Rattle.marking.proofs.mark.mark_rows.Goals.{In-loop-left}
@@ -20,7 +19,7 @@ pub mark_row-requires : goal.mark_row-requires
 mark_row-requires c = omega (arith, next_row ((goal.at.mark_row-requires c).In-loop-left))
 
 pub overflow_add-at : goal.overflow_add-at
-overflow_add-at c = omega (arith, next_row ((goal.at.overflow_add-at c).In-loop-left), c.well-formed)
+overflow_add-at c = omega (arith, next_row ((goal.at.overflow_add-at c).In-loop-left), c.well_formed)
 
 pub loop-left-preserved : goal.loop-left-preserved
 loop-left-preserved c =

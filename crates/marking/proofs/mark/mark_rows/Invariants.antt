@@ -1,10 +1,9 @@
 -- `marking::mark::mark_rows` meets its contract. The invariant is that of `mark_row`, with rows for marks.
-use mathlib.Core.Path.{◌≡◌, refl, sym, ap, ◌∙◌}
+use mathlib.Core.Path.{◌≡◌}
 use mathlib.Core.List.{[], ◌∷◌}
-use Prim.Native.Nat.{◌+◌, ◌*◌, ◌-◌, ◌≤◌}
-use native.Mathlib.Omega.{arith}
+use Prim.Native.Nat.{◌+◌, ◌*◌, ◌≤◌}
 use lib.ListN.{length}
-use Rattle.marking.specs.Paint.{paint, rows_left, run, sweep, sweep-end, sweep-turn}
+use Rattle.marking.specs.Paint.{paint, run, sweep}
 use Rattle.marking.proofs.mark.mark_rows.Given as goal
 
 abbrev pub invariant-loop-left : goal.invariant-loop-left

@@ -1,9 +1,7 @@
 -- `marking::mark::next_unmarked` meets its contract. The invariant: what is found among the positions left is what is found among all.
-use mathlib.Core.Path.{◌≡◌, sym, ap, ◌∙◌}
-use Prim.Native.Nat.{ℕ, ◌+◌, ◌-◌, ◌≤◌}
-use native.Mathlib.Omega.{arith}
-use borrow.Author.Rules.{rules}
-use Rattle.marking.specs.Unmarked.{next_unmarked, unmarked-here, unmarked-later, unmarked-end}
+use mathlib.Core.Path.{◌≡◌}
+use Prim.Native.Nat.{◌-◌, ◌≤◌}
+use Rattle.marking.specs.Unmarked.{next_unmarked}
 use Rattle.marking.proofs.mark.next_unmarked.Given as goal
 
 abbrev pub invariant-loop-at : goal.invariant-loop-at

@@ -1,6 +1,5 @@
 -- `index_keys::key_at` meets its contract. By whether the list has a ceiling.
 use mathlib.Core.Path.{◌∙◌}
-use borrow.Author.Rules.{rules}
 use Rattle.index_keys.specs.Key.{key-all, key-sum}
 use Rattle.index_keys.proofs.key_at.Goals as goal
 

@@ -1,6 +1,5 @@
 -- `index_keys::packed` meets its contract. By the definition.
 use mathlib.Core.Path.{refl}
-use borrow.Author.Rules.{rules}
 use Rattle.index_keys.specs.Key.{packed}
 use Rattle.index_keys.proofs.packed.Goals as goal
 

@@ -1,7 +1,6 @@
 -- `index_keys::raised32` meets its contract. By the definition.
 use mathlib.Core.Path.{refl}
 use native.Mathlib.Omega.{arith}
-use borrow.Author.Rules.{rules}
 use Rattle.index_keys.specs.Key.{raised}
 use Rattle.index_keys.proofs.raised32.Goals as goal
 

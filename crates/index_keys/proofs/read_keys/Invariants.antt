@@ -1,14 +1,7 @@
 -- `index_keys::read_keys` meets its contract. The invariant: the plans before r have their marks, and the first r keys are theirs.
-use mathlib.Core.Path.{◌≡◌, sym, ap, ◌∙◌}
-use Prim.Native.Nat.{ℕ, ◌+◌, ◌-◌, ◌≤◌}
-use native.Mathlib.Omega.{arith}
-use borrow.Author.Rules.{rules}
-use lib.ListN.{length}
-use Rattle.network.specs.PlanList.{head_size, plan_mark, plan_size}
-use Rattle.network.specs.Fetching.{head_ceilings, head_count, head_slots, head_tree_size}
-use Rattle.planlist_fetching.specs.Found.{whole}
-use Rattle.index_keys.specs.Key.{slots-least}
-use Rattle.index_keys.specs.Reading.{Reading, reading-end, reading-inside, reading-start, reading-stops, reading-turn}
+use Prim.Native.Nat.{◌-◌}
+use Rattle.network.specs.Fetching.{head_count}
+use Rattle.index_keys.specs.Reading.{Reading}
 use Rattle.index_keys.proofs.read_keys.Given as goal
 
 abbrev pub invariant-loop-r : goal.invariant-loop-r

@@ -1,6 +1,5 @@
 -- `index_building::building::build` meets its contract.
 use native.Mathlib.Omega.{arith}
-use borrow.Author.Rules.{rules}
 use Rattle.planlist_fetching.specs.Found.{whole}
 use Rattle.index_building.proofs.building.build.Goals as goal
 

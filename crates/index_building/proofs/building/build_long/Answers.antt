@@ -1,6 +1,5 @@
 -- `index_building::building::build_long` meets its contract.
 use native.Mathlib.Omega.{arith}
-use borrow.Author.Rules.{rules}
 use Rattle.index_building.proofs.building.build_long.Goals as goal
 
 pub build_by-requires : goal.build_by-requires

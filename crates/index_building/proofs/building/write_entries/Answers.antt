@@ -1,9 +1,8 @@
 use mathlib.Core.Path.{◌≡◌, refl, ◌∙◌}
-use Prim.Native.Nat.{◌+◌, ◌-◌, ◌*◌}
+use Prim.Native.Nat.{◌+◌, ◌*◌}
 use native.Mathlib.Omega.{arith}
-use lib.ListN.{length}
 use Rattle.network.specs.Bytes.{little_endian}
-use Rattle.encoding.specs.Fields.{Written, written_start, written-turn}
+use Rattle.encoding.specs.Fields.{written_start, written-turn}
 use Rattle.index_building.specs.Entries.{entries-written}
 use Rattle.index_building.proofs.building.write_entries.Goals as goal
 
@@ -33,7 +32,7 @@ loop-r-preserved c =
     let place : l.at ≡ 0 + l.r * 2 = omega (arith, l.invariant.0.1) in
     let next = written-turn (little_endian 2) 2 (λ n. refl) a.numbers.now 0 a.index.now l.index l.r 0 l.invariant.0.0
     c.loop-r-test.true (omega arith) place c.write_u16.ensures in
-    ((next, omega (arith, l.invariant.0.1)), c.write_u16.auto.0 ∙ l.invariant.1)
+    ((next, omega (arith, l.invariant.0.1)), c.write_u16.auto.out ∙ l.invariant.1)
 
 pub shape_of-index : goal.shape_of-index
 shape_of-index c = c.loop-r.invariant.1

@@ -1,11 +1,9 @@
 -- `index_building::building::write_entries` meets its contract. The invariant: the first r numbers are written.
-use mathlib.Core.Path.{◌≡◌, refl, ◌∙◌}
-use Prim.Native.Nat.{◌+◌, ◌-◌, ◌*◌}
-use native.Mathlib.Omega.{arith}
+use mathlib.Core.Path.{◌≡◌}
+use Prim.Native.Nat.{◌-◌, ◌*◌}
 use lib.ListN.{length}
 use Rattle.network.specs.Bytes.{little_endian}
-use Rattle.encoding.specs.Fields.{Written, written_start, written-turn}
-use Rattle.index_building.specs.Entries.{entries-written}
+use Rattle.encoding.specs.Fields.{Written}
 use Rattle.index_building.proofs.building.write_entries.Given as goal
 
 abbrev pub invariant-loop-r : goal.invariant-loop-r

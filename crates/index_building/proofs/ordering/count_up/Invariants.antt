@@ -1,9 +1,8 @@
 -- `index_building::ordering::count_up` meets its contract. The invariant: the first r numbers are counted.
-use mathlib.Core.Path.{◌≡◌, refl, ap, ◌∙◌}
+use mathlib.Core.Path.{◌≡◌}
 use Prim.Native.Nat.{◌-◌, ◌≤◌}
-use native.Mathlib.Omega.{arith}
-use lib.ListN.{length, length-set, take}
-use Rattle.order.specs.Columns.{tabled, tabled-end, tabled_start, tabled-turn}
+use lib.ListN.{length, take}
+use Rattle.order.specs.Columns.{tabled}
 use Rattle.index_building.proofs.ordering.count_up.Given as goal
 
 abbrev pub invariant-loop-r : goal.invariant-loop-r

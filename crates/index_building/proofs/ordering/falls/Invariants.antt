@@ -1,9 +1,8 @@
 -- `index_building::ordering::falls` meets its contract. The invariant: from the key before the present one on, keys fall as they do from the first on.
-use mathlib.Core.Path.{◌≡◌, refl, sym, ◌∙◌}
+use mathlib.Core.Path.{◌≡◌}
 use Prim.Native.Nat.{◌-◌, ◌<◌}
-use native.Mathlib.Omega.{arith}
 use lib.ListN.{drop, length}
-use Rattle.order.specs.Columns.{falling, falling-again, falling-end, falling-stops}
+use Rattle.order.specs.Columns.{falling}
 use Rattle.index_building.proofs.ordering.falls.Given as goal
 
 abbrev pub invariant-loop-at : goal.invariant-loop-at

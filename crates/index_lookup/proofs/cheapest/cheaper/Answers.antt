@@ -3,7 +3,6 @@ use mathlib.Core.Bool.{Bool, cond}
 use mathlib.Core.Path.{◌≡◌, sym, ap₂, ◌∙◌}
 use Prim.Native.Nat.{◌≤◌, ◌<◌}
 use native.Mathlib.Omega.{arith}
-use borrow.Author.Rules.{rules}
 use borrow.Author.Tests.{le-leb, lt-leb}
 use lib.Dec.{leb}
 use Rattle.index_lookup.specs.Search.{cheaper-by, cheaper-none, cheaper_of}
@@ -14,7 +13,7 @@ pub returns-then-best-keys : goal.returns-then-best-keys
 returns-then-best-keys c = cheaper-none _ _ _ c.if-best-keys.true
 
 -- there is a best plan, so that the sums decide
-compared : (c : After-sum_in-2) {b : Bool} → leb c.before.before.sum-in.result c.sum-in2.result ≡ b
+compared : (c : After-sum_in-2) {b : Bool} → leb c.sum_in.result c.sum_in-2.result ≡ b
     → let a = c.args in cond b a.best a.r ≡ cheaper_of a.keys.now a.best a.r
 compared c e =
     let other = c.if-best-keys.false in

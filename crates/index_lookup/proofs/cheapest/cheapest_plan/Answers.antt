@@ -1,8 +1,6 @@
-use mathlib.Core.Path.{◌≡◌, refl}
-use Prim.Native.Nat.{◌-◌, ◌≤◌}
+use mathlib.Core.Path.{refl}
 use native.Mathlib.Omega.{arith}
-use lib.ListN.{length}
-use Rattle.index_lookup.specs.Search.{Searched, searched-end, searched-start, searched-turn}
+use Rattle.index_lookup.specs.Search.{searched-end, searched-start, searched-turn}
 use Rattle.index_lookup.proofs.cheapest.cheapest_plan.Goals as goal
 
 pub loop-r-init : goal.loop-r-init

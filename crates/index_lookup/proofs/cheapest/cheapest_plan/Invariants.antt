@@ -1,9 +1,8 @@
 -- What is found among the best plan so far and the plans not read yet is the cheapest plan.
-use mathlib.Core.Path.{◌≡◌, refl}
+use mathlib.Core.Path.{◌≡◌}
 use Prim.Native.Nat.{◌-◌, ◌≤◌}
-use native.Mathlib.Omega.{arith}
 use lib.ListN.{length}
-use Rattle.index_lookup.specs.Search.{Searched, searched-end, searched-start, searched-turn}
+use Rattle.index_lookup.specs.Search.{Searched}
 use Rattle.index_lookup.proofs.cheapest.cheapest_plan.Given as goal
 
 abbrev pub invariant-loop-r : goal.invariant-loop-r

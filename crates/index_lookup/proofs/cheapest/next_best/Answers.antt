@@ -3,7 +3,6 @@ use mathlib.Core.Bool.{Bool}
 use mathlib.Core.Path.{◌≡◌, sym, ap, ◌∙◌}
 use Prim.Native.Nat.{ℕ, ◌≤◌, ◌<◌}
 use native.Mathlib.Omega.{arith}
-use borrow.Author.Rules.{rules}
 use borrow.Author.Tests.{le-leb, lt-leb}
 use lib.Dec.{leb}
 use Rattle.index_lookup.specs.Search.{key_meets, next-by}
@@ -11,7 +10,7 @@ use Rattle.index_lookup.proofs.cheapest.next_best.Goals as goal
 use Rattle.index_lookup.proofs.cheapest.next_best.Goals.{After-y1_in}
 
 -- what the test says of the plan
-asked : (c : After-y1_in) {b : Bool} → leb c.y1-in.result c.before.before.before.args.bound ≡ b
+asked : (c : After-y1_in) {b : Bool} → leb c.y1_in.result c.args.bound ≡ b
     → let a = c.args in key_meets a.keys.now a.bound a.r ≡ b
 asked c e = ap (λ (y : ℕ). leb y c.args.bound) (sym c.y1_in.ensures) ∙ e
 

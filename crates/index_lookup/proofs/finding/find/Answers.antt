@@ -1,6 +1,5 @@
 -- `index_lookup::finding::find` meets its contract.
 use native.Mathlib.Omega.{arith}
-use borrow.Author.Rules.{rules}
 use mir.Facts.{to_z-of_z}
 use Rattle.planlist_fetching.specs.Found.{whole}
 use Rattle.index_lookup.proofs.finding.find.Goals as goal

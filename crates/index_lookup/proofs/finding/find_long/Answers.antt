@@ -1,5 +1,4 @@
 -- `index_lookup::finding::find_long` meets its contract.
-use borrow.Author.Rules.{rules}
 use mir.Facts.{to_z-of_z}
 use Rattle.index_lookup.proofs.finding.find_long.Goals as goal
 

@@ -1,15 +1,10 @@
 -- `index_lookup::testing::all_below` meets its contract. Where the entries passed so far are below n, those from `at` on decide.
-use mathlib.Core.Bool.{Bool, ◌&&◌}
-use mathlib.Core.Path.{◌≡◌, refl, sym, ap, ◌∙◌}
-use Prim.Native.Nat.{ℕ, ◌+◌, ◌-◌, ◌*◌, ◌≤◌, ◌<◌}
-use native.Mathlib.Omega.{arith}
-use borrow.Author.Rules.{rules}
-use borrow.Author.Tests.{le-ltb, lt-ltb}
+use mathlib.Core.Path.{◌≡◌}
+use Prim.Native.Nat.{◌+◌, ◌*◌, ◌≤◌}
 use lib.Dec.{ltb}
 use lib.ListN.{length}
 use Rattle.order.specs.Lists.{all}
 use Rattle.network.specs.Indexing.{entries_from}
-use Rattle.index_lookup.specs.Entries.{all_none, all-turn}
 use Rattle.index_lookup.proofs.testing.all_below.Given as goal
 
 abbrev pub invariant-loop-left : goal.invariant-loop-left

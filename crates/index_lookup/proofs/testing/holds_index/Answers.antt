@@ -1,6 +1,5 @@
 -- `index_lookup::testing::holds_index` meets its contract. Entries below the count that rise are the places by rising key, and no others are.
 use mathlib.Core.Path.{sym, ◌∙◌}
-use borrow.Author.Rules.{rules}
 use Rattle.index_lookup.specs.Known.{entries_below, holds_by, holds_not}
 use Rattle.index_lookup.proofs.testing.holds_index.Goals as goal
 

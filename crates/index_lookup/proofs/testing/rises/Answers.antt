@@ -1,17 +1,15 @@
 use mathlib.Core.Bool.{Bool, ◌&&◌}
 use mathlib.Core.Path.{◌≡◌, refl, sym, ap₂, ◌∙◌}
-use Prim.Native.Nat.{◌+◌, ◌-◌, ◌*◌, ◌≤◌}
+use Prim.Native.Nat.{◌+◌, ◌-◌}
 use native.Mathlib.Omega.{arith}
-use borrow.Author.Rules.{rules}
-use lib.ListN.{length}
 use Rattle.network.specs.Indexing.{entries_from}
-use Rattle.index_lookup.specs.Entries.{AllBelow, below-turn, rises-none, rises-turn, rises_by}
+use Rattle.index_lookup.specs.Entries.{below-turn, rises-none, rises-turn, rises_by}
 use Rattle.index_lookup.specs.Known.{key_before}
 use Rattle.index_lookup.proofs.testing.rises.Goals as goal
 use Rattle.index_lookup.proofs.testing.rises.Goals.{After-stands_before}
 
 -- whether all rise, by the entry at `at` and the next one
-seen : (c : After-stands_before) → {b : Bool} → c.stands-before.result ≡ b
+seen : (c : After-stands_before) → {b : Bool} → c.stands_before.result ≡ b
     → let a = c.args in
     rises_by (key_before a.keys.now) (entries_from a.n 0 a.index.now)
     ≡ b && rises_by (key_before a.keys.now) (entries_from (c.loop-left.left - 1) (c.loop-left.at + 2) a.index.now)

@@ -1,12 +1,9 @@
 -- `index_lookup::testing::rises` meets its contract. Where the entries passed so far rise, those from `at` on decide.
-use mathlib.Core.Bool.{Bool, ◌&&◌}
-use mathlib.Core.Path.{◌≡◌, refl, sym, ap₂, ◌∙◌}
-use Prim.Native.Nat.{◌+◌, ◌-◌, ◌*◌, ◌≤◌}
-use native.Mathlib.Omega.{arith}
-use borrow.Author.Rules.{rules}
+use mathlib.Core.Path.{◌≡◌}
+use Prim.Native.Nat.{◌+◌, ◌*◌, ◌≤◌}
 use lib.ListN.{length}
 use Rattle.network.specs.Indexing.{entries_from}
-use Rattle.index_lookup.specs.Entries.{AllBelow, below-turn, rises-none, rises-turn, rises_by}
+use Rattle.index_lookup.specs.Entries.{AllBelow, rises_by}
 use Rattle.index_lookup.specs.Known.{key_before}
 use Rattle.index_lookup.proofs.testing.rises.Given as goal
 

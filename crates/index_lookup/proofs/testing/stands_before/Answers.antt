@@ -1,5 +1,4 @@
 -- `index_lookup::testing::stands_before` meets its contract. By the two keys, then by the numbers.
-use borrow.Author.Rules.{rules}
 use Rattle.index_lookup.specs.Known.{before-by}
 use Rattle.index_lookup.proofs.testing.stands_before.Goals as goal
 

@@ -2,7 +2,6 @@
 use mathlib.Core.Path.{refl}
 use native.Mathlib.Nat.{le_of_eq}
 use native.Mathlib.Omega.{arith}
-use borrow.Author.Rules.{rules}
 use Rattle.solver.specs.Answer.{answer-none, answer-size, answer-tells, answer-tree}
 use Rattle.solver.proofs.links.best_links.Goals as goal
 
@@ -13,16 +12,16 @@ best_in_order-b-requires c =
 
 pub put_links-requires : goal.put_links-requires
 put_links-requires c =
-    let p = (start ((goal.at.put_links-requires c).After-best_in_order-b)).requires in
+    let p = c.requires in
     let f = c.if-b.true in (
       answer-size _ p.0.fine _ p.2 c.best_in_order-b.ensures _ p.0.tree f,
       p.3,
-      le_of_eq c.best_in_order-b.auto.1.1.1.1.1.1.0,
+      le_of_eq c.best_in_order-b.auto.taken,
     )
 
 pub returns-then-b : goal.returns-then-b
 returns-then-b c =
-    let p = (start ((goal.at.returns-then-b c).After-best_in_order-b)).requires in
+    let p = c.requires in
     let e = c.best_in_order-b.ensures in
     let f = c.if-b.true in (
       answer-tells _ p.0.fine _ p.2 e,
@@ -31,6 +30,6 @@ returns-then-b c =
 
 pub returns-else-b : goal.returns-else-b
 returns-else-b c =
-    let p = (start ((goal.at.returns-else-b c).After-best_in_order-b)).requires in
+    let p = c.requires in
     let e = c.best_in_order-b.ensures in
     (answer-tells _ p.0.fine _ p.2 e, answer-none _ p.0.fine _ p.2 e _ c.if-b.false)

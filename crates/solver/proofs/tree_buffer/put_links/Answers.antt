@@ -1,9 +1,8 @@
-use Prim.Native.Nat.{◌+◌, ◌-◌, ◌≤◌, ◌<◌}
+use Prim.Native.Nat.{◌+◌, ◌≤◌, ◌<◌}
 use mathlib.Core.Bool.{false}
 use mathlib.Core.Path.{◌≡◌, refl}
 use native.Mathlib.Nat.{zero-add}
 use native.Mathlib.Omega.{arith}
-use borrow.Author.Rules.{rules}
 use lib.ListN.{drop, get_or, length, length-set, set}
 use mir.Val.{bool_byte}
 use Rattle.network.specs.Capacities.{links_held}
@@ -13,13 +12,13 @@ use Rattle.solver.proofs.tree_buffer.put_links.Goals as goal
 use Rattle.solver.proofs.tree_buffer.put_links.Goals.{In-loop-n}
 
 -- the link at a turn has a flag
-within : (c : In-loop-n) → c.before.loop.e < length c.before.before.args.taken.now
+within : (c : In-loop-n) → c.loop-n.e < length c.args.taken.now
 within c =
     let v = c.loop-n in
     more-flags c.args.taken.now v.e (omega (arith, v.invariant.2, c.loop-n-test.true))
 
 -- and arrays hold it
-flagged : (c : In-loop-n) → c.before.loop.e < links_held
+flagged : (c : In-loop-n) → c.loop-n.e < links_held
 flagged c = omega (arith, c.requires.2, within c)
 
 -- what its turn leaves

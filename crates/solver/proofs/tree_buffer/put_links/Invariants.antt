@@ -1,15 +1,10 @@
 -- What is left to write, from link e and place n on, is what there was to write at the start.
-use Prim.Native.Nat.{◌+◌, ◌-◌, ◌≤◌, ◌<◌}
-use mathlib.Core.Bool.{false}
-use mathlib.Core.Path.{◌≡◌, refl}
-use native.Mathlib.Nat.{zero-add}
-use native.Mathlib.Omega.{arith}
-use borrow.Author.Rules.{rules}
-use lib.ListN.{drop, get_or, length, length-set, set}
-use mir.Val.{bool_byte}
+use Prim.Native.Nat.{◌+◌, ◌-◌, ◌≤◌}
+use mathlib.Core.Path.{◌≡◌}
+use lib.ListN.{drop, length}
 use Rattle.network.specs.Capacities.{links_held}
 use Rattle.search_trials.specs.Flags.{rising}
-use Rattle.solver.specs.Buffer.{left, more-flags, put-end, put-start, put-turn, put_at}
+use Rattle.solver.specs.Buffer.{left, put_at}
 use Rattle.solver.proofs.tree_buffer.put_links.Given as goal
 
 abbrev pub invariant-loop-n : goal.invariant-loop-n

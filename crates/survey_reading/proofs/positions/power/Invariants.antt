@@ -1,11 +1,6 @@
 -- After i turns there is m to the power of i.
 use Prim.Native.Nat.{◌-◌, ◌^◌, ◌≤◌}
-use mathlib.Core.Path.{◌≡◌, sym}
-use native.Mathlib.Nat.{pow-suc, pow-zero}
-use native.Mathlib.Numerals.{add-one}
-use native.Mathlib.Omega.{arith}
-use Rattle.survey_reading.specs.Positions.{power_small}
-use borrow.Author.Rules.{rules}
+use mathlib.Core.Path.{◌≡◌}
 use Rattle.survey_reading.proofs.positions.power.Given as goal
 
 abbrev pub invariant-loop : goal.invariant-loop

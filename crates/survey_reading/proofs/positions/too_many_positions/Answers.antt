@@ -1,6 +1,5 @@
 -- Where m to the power of p is above the limit, the positions are counted.
 use Rattle.survey_reading.specs.Positions.{counted-many, power-few}
-use borrow.Author.Rules.{rules}
 use Rattle.survey_reading.proofs.positions.too_many_positions.Goals as goal
 
 pub returns-then-power-le-MAX_PLANS : goal.returns-then-power-le-MAX_PLANS

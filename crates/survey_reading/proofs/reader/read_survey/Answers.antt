@@ -1,5 +1,4 @@
 -- It is `read_with` at the layout that the first two bytes say.
-use borrow.Author.Rules.{rules}
 use Rattle.survey_reading.proofs.reader.read_survey.Goals as goal
 
 pub returns : goal.returns

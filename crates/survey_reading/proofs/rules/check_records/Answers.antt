@@ -1,5 +1,4 @@
 -- `survey_reading::rules::check_records` meets its contract. The tests in their order; what a passed test says gives the next one its room.
-use borrow.Author.Rules.{rules}
 use mathlib.Core.Path.{◌≡◌, sym, ◌∙◌}
 use mathlib.Core.Bool.{false}
 use native.Mathlib.Omega.{arith}
@@ -11,7 +10,7 @@ use Rattle.survey_reading.proofs.rules.check_records.Goals as goal
 use Rattle.survey_reading.proofs.rules.check_records.Goals.{Else-bad_length}
 
 -- the length is right where the first test is passed
-right : (c : Else-bad_length) → bad_length c.before.before.before.args.l (length c.before.before.before.args.s.now) ≡ false
+right : (c : Else-bad_length) → bad_length c.args.l (length c.args.s.now) ≡ false
 right c = sym c.bad_length.ensures ∙ c.if-bad_length.false
 
 pub returns-then-bad_length : goal.returns-then-bad_length
@@ -26,15 +25,15 @@ check_yard-yard-requires c = (c.requires, omega (arith, whole-records _ _ (right
 
 pub check_links-requires : goal.check_links-requires
 check_links-requires c =
-    let yard = sym c.check_yard-yard.ensures ∙ c.enum_told-in-Fine-1.given.1 in
+    let yard = sym c.check_yard-yard.ensures ∙ c.in-Fine.is in
     whole _ _ c.requires (right ((goal.at.check_links-requires c).Else-bad_length)) yard
 
 pub returns-in-Refused : goal.returns-in-Refused
 unfolding records_checked refuse_if ◌or_else◌
 returns-in-Refused c =
-    rw (right ((goal.at.returns-in-Refused c).Else-bad_length), ← c.check_yard-yard.ensures, c.enum_told-1.given.1)
+    rw (right ((goal.at.returns-in-Refused c).Else-bad_length), ← c.check_yard-yard.ensures, c.in-Refused.is)
 
 pub returns-in-Fine : goal.returns-in-Fine
 unfolding records_checked refuse_if ◌or_else◌
 returns-in-Fine c =
-    rw (right ((goal.at.returns-in-Fine c).Else-bad_length), ← c.check_yard-yard.ensures, c.enum_told-in-Fine-1.given.1) c.check_links.ensures
+    rw (right ((goal.at.returns-in-Fine c).Else-bad_length), ← c.check_yard-yard.ensures, c.in-Fine.is) c.check_links.ensures

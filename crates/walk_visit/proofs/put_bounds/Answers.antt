@@ -1,5 +1,5 @@
 use mathlib.Core.Path.{◌≡◌, refl, sym, ap, ◌∙◌}
-use Prim.Native.Nat.{ℕ, ◌+◌, ◌-◌, ◌*◌, ◌≤◌, ◌<◌}
+use Prim.Native.Nat.{ℕ, ◌+◌, ◌≤◌, ◌<◌}
 use native.Mathlib.Nat.{suc-mul}
 use native.Mathlib.Numerals.{add-one}
 use native.Mathlib.Omega.{arith}
@@ -8,7 +8,7 @@ use mir.Syntax.{w16}
 use mir.Val.{to_z, of_z}
 use mir.Facts.{to_z-of_z}
 use lib.IntN.{ℤ, pos}
-use lib.ListN.{get_or, length, length-set, take}
+use lib.ListN.{get_or, length, length-set}
 use lib.Seq.{take_all}
 use Rattle.network.specs.Tabulate.{tabulate, tabulate-none, tabulate-turn}
 use Rattle.marking.specs.Parts.{parts-apart}
@@ -34,16 +34,16 @@ loop-i-init c =
     (refl, omega arith, omega arith, c.requires.1, sym (tabulate-none (bound_at a.m a.values.now a.places.now)))
 
 pub overflow_add-bounds : goal.overflow_add-bounds
-overflow_add-bounds c = omega (arith, next-value ((goal.at.overflow_add-bounds c).In-loop-i), c.well-formed)
+overflow_add-bounds c = omega (arith, next-value ((goal.at.overflow_add-bounds c).In-loop-i), c.well_formed)
 
 pub offset_bounds-values-from : goal.offset_bounds-values-from
-offset_bounds-values-from c = omega (arith, next-value ((goal.at.offset_bounds-values-from c).In-loop-i), c.well-formed)
+offset_bounds-values-from c = omega (arith, next-value ((goal.at.offset_bounds-values-from c).In-loop-i), c.well_formed)
 
 pub bounds-values-from : goal.bounds-values-from
 bounds-values-from c = omega (arith, next-value ((goal.at.bounds-values-from c).In-loop-i))
 
 pub overflow_add-from : goal.overflow_add-from
-overflow_add-from c = omega (arith, next-value ((goal.at.overflow_add-from c).In-loop-i), c.well-formed)
+overflow_add-from c = omega (arith, next-value ((goal.at.overflow_add-from c).In-loop-i), c.well_formed)
 
 pub loop-i-preserved : goal.loop-i-preserved
 loop-i-preserved c =
@@ -51,7 +51,7 @@ loop-i-preserved c =
     let a = c.args in
     let f = bound_at a.m a.values.now a.places.now in
     let value : ℕ → ℤ = λ k. get_or a.values.now (k + get_or a.places.now l.i 0) (pos 0) in
-    let same : to_z w16 (of_z w16 (value l.from)) ≡ f l.i = to_z-of_z (record { sfits = c.bounds-1.given }) ∙ ap value l.invariant.2 in (
+    let same : to_z w16 (of_z w16 (value l.from)) ≡ f l.i = to_z-of_z {w = w16} {z = value l.from} (search rules) ∙ ap value l.invariant.2 in (
       l.invariant.0,
       omega arith,
       omega (arith, l.invariant.2, suc-mul l.i a.m, add-one l.i),

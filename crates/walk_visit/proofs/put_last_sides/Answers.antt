@@ -1,8 +1,6 @@
 use mathlib.Core.Path.{◌≡◌, refl, sym, ap, ◌∙◌}
-use Prim.Native.Nat.{◌-◌, ◌≤◌}
 use native.Mathlib.Omega.{arith}
-use borrow.Author.Rules.{rules}
-use lib.ListN.{length, length-set, take}
+use lib.ListN.{length, length-set}
 use lib.Seq.{take_all}
 use Rattle.network.specs.Tabulate.{tabulate, tabulate-none, tabulate-turn}
 use Rattle.walk_visit.specs.Found.{last_side, last_sides}
@@ -12,7 +10,7 @@ pub loop-i-init : goal.loop-i-init
 loop-i-init c = (refl, omega arith, c.requires.1, sym (tabulate-none (last_side c.args.counts.now c.args.places.now)))
 
 pub offset_bounds-places-i : goal.offset_bounds-places-i
-offset_bounds-places-i c = let same = c.requires.0.alike in omega (arith, c.well-formed)
+offset_bounds-places-i c = let same = c.requires.0.alike in omega (arith, c.well_formed)
 
 pub bounds-places-i : goal.bounds-places-i
 bounds-places-i c = let same = c.requires.0.alike in omega arith

@@ -1,12 +1,9 @@
 -- `walk_visit::put_last_sides` meets its contract. The invariant: the sides in the first i ceilings.
-use mathlib.Core.Path.{◌≡◌, refl, sym, ap, ◌∙◌}
+use mathlib.Core.Path.{◌≡◌}
 use Prim.Native.Nat.{◌-◌, ◌≤◌}
-use native.Mathlib.Omega.{arith}
-use borrow.Author.Rules.{rules}
-use lib.ListN.{length, length-set, take}
-use lib.Seq.{take_all}
-use Rattle.network.specs.Tabulate.{tabulate, tabulate-none, tabulate-turn}
-use Rattle.walk_visit.specs.Found.{last_side, last_sides}
+use lib.ListN.{length, take}
+use Rattle.network.specs.Tabulate.{tabulate}
+use Rattle.walk_visit.specs.Found.{last_side}
 use Rattle.walk_visit.proofs.put_last_sides.Given as goal
 
 abbrev pub invariant-loop-i : goal.invariant-loop-i

@@ -18,29 +18,29 @@ use Rattle.planner_best.proofs.best.Goals as goal
 use Rattle.planner_best.proofs.best.Goals.{In-Fine}
 
 -- the survey is accepted
-accepted : (c : In-Fine) → checked_of (start c).args.survey.now ≡ Fine
-accepted c = sym c.read_survey-read.ensures.checked ∙ c.enum_told-1.given.1
+accepted : (c : In-Fine) → checked_of c.args.survey.now ≡ Fine
+accepted c = sym c.read_survey-read.ensures.checked ∙ c.in-Fine.is
 
 -- its network
 network : (c : In-Fine)
     → let read = c.read_survey-read in
-    Read (network_of c.args.survey.now) read.result.shape read.last.1.0 read.last.1.1.0 read.last.1.1.1.0
-network c = c.read_survey-read.ensures.accepted c.enum_told-1.given.1
+    Read (network_of c.args.survey.now) read.result.shape read.new.ends read.new.sums read.new.costs
+network c = c.read_survey-read.ensures.accepted c.in-Fine.is
 
 -- there is a number for each present ceiling
-numbered : (c : In-Fine) → (reading c).read-survey.result.shape.p ≤ length (start c).args.t2
+numbered : (c : In-Fine) → c.read_survey-read.result.shape.p ≤ length c.args.given
 numbered c =
     let all : length c.args.given ≡ ceilings_held = search rules in
     omega (arith, (network c).plannable.fine.few-ceilings)
 
 pub returns-then-tree-shape : goal.returns-then-tree-shape
 returns-then-tree-shape c =
-    let tree = (start ((goal.at.returns-then-tree-shape c).In-Fine)).args.tree.now in
+    let tree = c.args.tree.now in
     let read = network ((goal.at.returns-then-tree-shape c).In-Fine) in
     let t = read.plannable.tree in
     let e = asked-short _ _ tree (accepted ((goal.at.returns-then-tree-shape c).In-Fine)) _ read.network (omega arith) in
     let f = short-after _ _ tree (accepted ((goal.at.returns-then-tree-shape c).In-Fine)) _ read.network (omega arith) in
-    (e, (f, (best-promised _ _ tree e f, cut-asked _ _ _ e)))
+    record { reply = e; leaves = f; promised = best-promised _ _ tree e f; noticed = cut-asked _ _ _ e }
 
 pub overflow_mul-size : goal.overflow_mul-size
 overflow_mul-size c = omega (arith, (network ((goal.at.overflow_mul-size c).In-Fine)).few-costs)
@@ -97,30 +97,30 @@ pub slice_bounds-given-end : goal.slice_bounds-given-end
 slice_bounds-given-end c = omega (arith, numbered ((goal.at.slice_bounds-given-end c).In-Fine))
 
 pub slice_bounds-solve-end-in-Fine-4 : goal.slice_bounds-solve-end-in-Fine-4
-slice_bounds-solve-end-in-Fine-4 c = sym (length-take-le _ _ (slice_bounds-given-end ((goal.at.slice_bounds-solve-end-in-Fine-4 c).After-order-in-Fine-1)))
+slice_bounds-solve-end-in-Fine-4 c = sym (length-take-le _ _ (omega (arith, numbered ((goal.at.slice_bounds-solve-end-in-Fine-4 c).In-Fine))))
 
 pub solve-requires : goal.solve-requires
 solve-requires c =
-    let read = network (told ((goal.at.solve-requires c).After-order_usable-usable)) in
+    let read = network ((goal.at.solve-requires c).In-Fine) in
     let t = read.plannable.tree in
-    (read.plannable, c.order_usable-usable.ensures.links, length-take-le _ _ (numbered (told ((goal.at.solve-requires c).After-order_usable-usable))), omega arith)
+    (read.plannable, c.order_usable-usable.ensures.links, length-take-le _ _ (numbered ((goal.at.solve-requires c).In-Fine)), omega arith)
 
 pub returns-in-Refused : goal.returns-in-Refused
 returns-in-Refused c =
-    let refused = sym c.read_survey-read.ensures.checked ∙ c.checked-1.given.1 in
+    let refused = sym c.read_survey-read.ensures.checked ∙ c.in-Refused.is in
     let tree = c.args.tree.now in
     let e = asked-refused _ _ tree _ refused in
     let f = refused-after _ _ tree _ refused in
-    (e, (f, (best-promised _ _ tree e f, cut-asked _ _ _ e)))
+    record { reply = e; leaves = f; promised = best-promised _ _ tree e f; noticed = cut-asked _ _ _ e }
 
 pub returns-else-tree-shape : goal.returns-else-tree-shape
 returns-else-tree-shape c =
-    let i = start (told ((goal.at.returns-else-tree-shape c).After-order_usable-usable)) in
-    let read = network (told ((goal.at.returns-else-tree-shape c).After-order_usable-usable)) in
+    let i = c in
+    let read = network ((goal.at.returns-else-tree-shape c).In-Fine) in
     let t = read.plannable.tree in
     let tree = i.args.tree.now in
     let room = c.if-tree-shape.false in
     let solved = c.solve.ensures in
-    let e = asked-answer _ _ tree (accepted (told ((goal.at.returns-else-tree-shape c).After-order_usable-usable))) _ read.network _ (omega arith) solved.0 in
-    let f = answer-after _ _ tree (accepted (told ((goal.at.returns-else-tree-shape c).After-order_usable-usable))) _ read.network _ (omega arith) solved.1 in
-    (e, (f, (best-promised _ _ tree e f, cut-asked _ _ _ e)))
+    let e = asked-answer _ _ tree (accepted ((goal.at.returns-else-tree-shape c).In-Fine)) _ read.network _ (omega arith) solved.0 in
+    let f = answer-after _ _ tree (accepted ((goal.at.returns-else-tree-shape c).In-Fine)) _ read.network _ (omega arith) solved.1 in
+    record { reply = e; leaves = f; promised = best-promised _ _ tree e f; noticed = cut-asked _ _ _ e }

@@ -1,6 +1,5 @@
 -- `planner_index::index` meets its contract.
 use mathlib.Core.Path.{sym, ◌∙◌}
-use borrow.Author.Rules.{rules}
 use Rattle.index_building.specs.Replies.{built-unfit, unfit-damaged}
 use Rattle.planner_index.specs.Kept.{index-promised}
 use Rattle.planner_index.proofs.index.Goals as goal
@@ -10,7 +9,7 @@ returns-then-is_damaged c =
     let a = c.args in
     let damaged = sym c.is_damaged.ensures ∙ c.if-is_damaged.true in
     let made = built-unfit a.list.now a.buffer.now (unfit-damaged a.list.now damaged) in
-    (made.0, (made.1, index-promised a.list.now a.buffer.now made.0 made.1))
+    record { reply = made.0; leaves = made.1; promised = index-promised a.list.now a.buffer.now made.0 made.1 }
 
 pub build-requires : goal.build-requires
 build-requires c = sym c.is_damaged.ensures ∙ c.if-is_damaged.false
@@ -19,4 +18,4 @@ pub returns : goal.returns
 returns c =
     let a = c.args in
     let made = c.build.ensures in
-    (made.0, (made.1, index-promised a.list.now a.buffer.now made.0 made.1))
+    record { reply = made.reply; leaves = made.leaves; promised = index-promised a.list.now a.buffer.now made.reply made.leaves }

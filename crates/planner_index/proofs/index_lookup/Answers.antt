@@ -1,7 +1,7 @@
 -- `planner_index::index_lookup` meets its contract.
 use mathlib.Core.Path.{sym, ◌∙◌}
-use borrow.Author.Rules.{rules}
-use mir.Facts.{to_z-of_z}
+use Rattle.std.proofs.lemmas.Int.{to_z-of_z}
+use mir.Syntax.{w16}
 use Rattle.index_building.specs.Replies.{unfit-damaged}
 use Rattle.index_lookup.specs.Finding.{looked-unfit}
 use Rattle.planner_index.specs.Kept.{lookup-promised, says-looked}
@@ -13,7 +13,7 @@ returns-then-is_damaged c =
     let index = c.args.index.now in
     let damaged = sym c.is_damaged.ensures ∙ c.if-is_damaged.true in
     let reply = says-looked list index c.args.y (looked-unfit list index c.args.y (unfit-damaged list damaged)) in
-    (reply, lookup-promised list index c.args.y c.shared_slice_known-2-1.given reply)
+    record { reply = reply; promised = lookup-promised list index c.args.y c.type_inv.index reply }
 
 pub find-requires : goal.find-requires
 find-requires c = sym c.is_damaged.ensures ∙ c.if-is_damaged.false
@@ -22,5 +22,5 @@ pub returns : goal.returns
 returns c =
     let list = c.args.list.now in
     let index = c.args.index.now in
-    let reply = says-looked list index c.args.y (rw (to_z-of_z c.ranges.y) at c.find.ensures) in
-    (reply, lookup-promised list index c.args.y c.shared_slice_known-2-1.given reply)
+    let reply = says-looked list index c.args.y (rw (to_z-of_z w16 c.args.y c.ranges.y) at c.find.ensures) in
+    record { reply = reply; promised = lookup-promised list index c.args.y c.type_inv.index reply }

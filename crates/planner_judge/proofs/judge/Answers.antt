@@ -13,17 +13,16 @@ use Rattle.network.specs.declared.Checked.TheVariants.{Fine}
 use Rattle.survey_reading.specs.Survey.{Read}
 use Rattle.trees_drawn.specs.Drawn.{drawable}
 use Rattle.planner_judge.specs.Judge.{judged-no-tree, judged-refused, judged-tree}
-use borrow.Author.Rules.{rules}
 use Rattle.planner_judge.proofs.judge.Goals as goal
 use Rattle.planner_judge.proofs.judge.Goals.{In-Fine}
 
 -- the survey
 abbrev survey : In-Fine → List ℕ
-survey c = c.before.before.before.before.before.before.before.before.before.before.before.before.args.survey.now
+survey c = c.args.survey.now
 
 -- it is accepted
 accepted : (c : In-Fine) → checked_of (survey c) ≡ Fine
-accepted c = sym c.read_survey-read.ensures.checked ∙ c.enum_told-1.given.1
+accepted c = sym c.read_survey-read.ensures.checked ∙ c.in-Fine.is
 
 -- its network
 network : (c : In-Fine)
@@ -31,7 +30,7 @@ network : (c : In-Fine)
     c.read_survey-read.new.ends
     c.read_survey-read.new.sums
     c.read_survey-read.new.costs
-network c = c.read_survey-read.ensures.accepted c.enum_told-1.given.1
+network c = c.read_survey-read.ensures.accepted c.in-Fine.is
 
 pub overflow_mul-size : goal.overflow_mul-size
 overflow_mul-size c = omega (arith, (network ((goal.at.overflow_mul-size c).In-Fine)).few-costs)
@@ -68,8 +67,8 @@ tree_costs-requires c =
 
 pub returns-in-Refused : goal.returns-in-Refused
 returns-in-Refused c =
-    let e = judged-refused _ _ _ (sym c.read_survey-read.ensures.checked ∙ c.checked-1.given.1) in
-    (e, (judge-promised _ _ e, cut-judged _ _ e))
+    let e = judged-refused _ _ _ (sym c.read_survey-read.ensures.checked ∙ c.in-Refused.is) in
+    record { reply = e; promised = judge-promised _ _ e; noticed = cut-judged _ _ e }
 
 pub returns-then-is_tree : goal.returns-then-is_tree
 returns-then-is_tree c =
@@ -77,9 +76,9 @@ returns-then-is_tree c =
     let tree = sym c.is_tree.ensures ∙ c.if-is_tree.true in
     let costs = c.tree_costs.ensures ∙ ap apart (costs-net _ _ _ _ read.plannable _) in
     let e = judged-tree _ _ (accepted ((goal.at.returns-then-is_tree c).In-Fine)) _ read.network _ tree costs in
-    (e, (judge-promised _ _ e, cut-judged _ _ e))
+    record { reply = e; promised = judge-promised _ _ e; noticed = cut-judged _ _ e }
 
 pub returns-else-is_tree : goal.returns-else-is_tree
 returns-else-is_tree c =
     let e = judged-no-tree _ _ (accepted ((goal.at.returns-else-is_tree c).In-Fine)) _ (network ((goal.at.returns-else-is_tree c).In-Fine)).network (sym c.is_tree.ensures ∙ c.if-is_tree.false) in
-    (e, (judge-promised _ _ e, cut-judged _ _ e))
+    record { reply = e; promised = judge-promised _ _ e; noticed = cut-judged _ _ e }

@@ -7,7 +7,7 @@ use Rattle.std.proofs.Common.{◌∙◌, length-drop, length-take-le}
 use native.Mathlib.Omega.{arith}
 use borrow.Author.Tests.{eqb-false, eqb-true}
 use Rattle.std.proofs.Math.ListN.{length, take}
-use Rattle.order.specs.Test.{decide}
+use Rattle.order.proofs.Test.{decide}
 use Rattle.network.specs.Fetching.{fetch_links, fetch_number, fetch_start, links_start, head_tree_size}
 use Rattle.network.specs.Promise.{LinksKept, NumberKept}
 use Rattle.planlist_fetching.specs.Found.{found, plan-inside}

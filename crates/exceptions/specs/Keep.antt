@@ -17,14 +17,18 @@ use Rattle.std.proofs.lemmas.List.{get_or-replicate}
 use Rattle.std.proofs.Math.ListN.{length-replicate, get_or}
 use Rattle.std.proofs.Math.Seq.{append_snoc, take-suc-set}
 use borrow.Author.Tests.{eq-eqb, eqb-true}
-use Rattle.order.specs.Test.{Decided, by-test, clash, decide, left, right}
-use Rattle.order.specs.Lists.{◌∈◌, count, filter, sublist-⊆}
-use Rattle.spanning.specs.Labelling.{Crosses→crosses, Edge, Labelling, crosses, crosses→Crosses}
+use Rattle.order.specs.Test.{Decided, by-test, clash, left}
+use Rattle.order.proofs.Test.{decide, right}
+use Rattle.order.specs.Lists.{◌∈◌, count, filter}
+use Rattle.order.proofs.Lists.{sublist-⊆}
+use Rattle.spanning.specs.Labelling.{Edge, Labelling, crosses}
+use Rattle.spanning.proofs.Labelling.{Crosses→crosses, crosses→Crosses}
 use Rattle.spanning.specs.LabelList.{label_of}
 use Rattle.spanning.specs.Tree.{EndsBelow, identity}
 use Rattle.network.specs.Capacities.{patterns_held, stations_held}
 use Rattle.kmax.specs.Ceilings.{slack_of}
-use Rattle.kmax.specs.Digits.{admits, admits-few, marked}
+use Rattle.kmax.specs.Digits.{admits, marked}
+use Rattle.kmax.proofs.Digits.{admits-few}
 use Rattle.forest.specs.Groups.{Led, apart, apart-led, joined, joined-led}
 use Rattle.forest.specs.declared.Forest.{Forest}
 use Rattle.network.specs.Yard.{ends_at}

@@ -8,7 +8,8 @@ use Rattle.std.proofs.Math.Path.{ap₂}
 use Rattle.order.specs.Lists.{◌∈◌}
 use Rattle.order.specs.Order.{orderℤ}
 use Rattle.kmax.specs.Ceilings.{Ceiling, admissible, exceptional}
-use Rattle.kmax.specs.Digits.{admits, admits-admissible, ceilings-ranks, pattern, pattern-none}
+use Rattle.kmax.specs.Digits.{admits, pattern}
+use Rattle.kmax.proofs.Digits.{admits-admissible, ceilings-ranks, pattern-none}
 use Rattle.planning.specs.Graph.{under}
 use Rattle.network.specs.Yard.{graph, ranks}
 use Rattle.network.specs.NetworkFine.{NetworkFine}

@@ -2,10 +2,12 @@
 use Rattle.std.specs.Prelude.{ℕ, ◌≤◌, ◌<◌, ◌≡◌, length, get_or}
 use mathlib.Core.List.{List, Sublistᴰ}
 use Rattle.std.proofs.Common.{arith}
-use Rattle.order.specs.Lists.{◌∈◌, get_or-mem, numbers_from, sublist-few, sublist-⊆}
+use Rattle.order.specs.Lists.{◌∈◌, numbers_from}
+use Rattle.order.proofs.Lists.{get_or-mem, sublist-few, sublist-⊆}
 use Rattle.order.specs.Order.{orderℕ, pair-first, pairs}
-use Rattle.order.specs.Perm.{pairwise-imp, pairwise-sublist}
-use Rattle.order.specs.Sorted.{Apart, Sorted, sort_sorted}
+use Rattle.order.proofs.Perm.{pairwise-imp, pairwise-sublist}
+use Rattle.order.specs.Sorted.{Apart, Sorted}
+use Rattle.order.proofs.Sorted.{sort_sorted}
 use Rattle.order.specs.Least.{ranked}
 use Rattle.network.specs.Capacities.{links_held}
 use Rattle.network.specs.Yard.{sum_at}

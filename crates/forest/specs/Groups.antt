@@ -3,8 +3,10 @@ use Rattle.std.specs.Prelude.{ℕ, ◌<◌, true, false, not, ◌≡◌, refl, e
 use Rattle.std.proofs.Common.{sym, ◌∙◌, subst, eq-eqb, ne_eqb}
 use Rattle.std.proofs.Math.Path.{fun_ext}
 use Rattle.network.specs.Capacities.{stations_held}
-use Rattle.spanning.specs.Labelling.{Edge, Labelling, Same, crosses, merge, merge-hit, merge-miss, same?}
-use Rattle.spanning.specs.LabelList.{Labels, first-known, first-labels, first_labels, label_of, merge-labels, relabel, relabel-labels}
+use Rattle.spanning.specs.Labelling.{Edge, Labelling, Same, crosses, merge}
+use Rattle.spanning.proofs.Labelling.{merge-hit, merge-miss, same?}
+use Rattle.spanning.specs.LabelList.{Labels, first_labels, label_of, relabel}
+use Rattle.spanning.proofs.LabelList.{first-known, first-labels, merge-labels, relabel-labels}
 use Rattle.forest.specs.declared.Forest.{Forest}
 
 -- a link between two stations

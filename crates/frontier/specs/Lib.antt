@@ -5,10 +5,6 @@ pub mod Frontier
 -- theorems
 pub mod Best
 pub mod Walk
-pub mod Found
-pub mod Listed
 pub mod Plans
 -- what code goes by: positions by places
 pub mod Places
--- positions by their numbers, and in order
-pub mod Ordered

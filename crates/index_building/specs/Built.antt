@@ -10,7 +10,8 @@ use Rattle.order.specs.Order.{dictionary, orderℕ, orderℤ}
 use Rattle.order.specs.Sorted.{sort}
 use Rattle.network.specs.Fetching.{head_count}
 use Rattle.network.specs.Indexing.{index_in, index_key, index_of}
-use Rattle.order.specs.Columns.{numbers-alike, places_by, tabled, tabled-at, tabled-length}
+use Rattle.order.specs.Columns.{places_by, tabled}
+use Rattle.order.proofs.Columns.{numbers-alike, tabled-at, tabled-length}
 use Rattle.index_keys.specs.Key.{plan_key}
 use Rattle.index_keys.specs.Order.{AllBytes, earlier-by}
 use Rattle.index_building.specs.Entries.{entries_in, entry_bytes}

@@ -12,7 +12,8 @@ use Rattle.std.specs.Int.Signed.{le_z}
 use mir.Syntax.{Width, w8, w16, w32}
 use mir.Val.{Fits, SFits, bits, hbits}
 use mir.ValLaws.{of_z_fits, pow-bits, to_z-of_z}
-use Rattle.order.specs.Test.{by-test, test_iff}
+use Rattle.order.specs.Test.{by-test}
+use Rattle.order.proofs.Test.{test_iff}
 use Rattle.order.specs.Order.{dictionary_le, orderℕ, orderℤ, pair_le, tie_break}
 use Rattle.network.specs.Bytes.{bits_of, byte_at, i16_at, i32_at, signed, u16_at, u32_at}
 use Rattle.network.specs.Capacities.{ceilings_held}
@@ -21,7 +22,7 @@ use Rattle.network.specs.Survey.{narrow_slots}
 use Rattle.network.specs.PlanList.{costs_at, plan_ceiling}
 use Rattle.network.specs.Fetching.{head_ceilings, head_slots, plan_start}
 use Rattle.network.specs.Indexing.{index_key, meets, plan_cost, plan_costs, plan_sum, without_ceilings}
-use Rattle.order.specs.Numbers.{tie-last}
+use Rattle.order.proofs.Numbers.{tie-last}
 use Rattle.index_keys.specs.Key.{ceiling_bits, key_at, packed, plan_key, raised, raised16, raised32, slots-least, sum_in, y1_in}
 
 -- each member is a byte: what a proof knows of each slice of bytes (`shared-slice-known.given`)

@@ -13,7 +13,8 @@ use Rattle.network.specs.PlanList.{head_size, plan_mark, plan_size}
 use Rattle.network.specs.Fetching.{damaged, head_count, head_slots, head_tree_size, is_marked, plan_start}
 use Rattle.network.specs.Indexing.{plan_numbers}
 use Rattle.planlist_fetching.specs.Found.{plan-inside}
-use Rattle.order.specs.Columns.{tabled, tabled-end, tabled_start, tabled-turn}
+use Rattle.order.specs.Columns.{tabled}
+use Rattle.order.proofs.Columns.{tabled-end, tabled_start, tabled-turn}
 use Rattle.index_keys.specs.Key.{KeysRead, key_at, plan_key}
 
 -- the plans from number r on have their marks

@@ -7,7 +7,8 @@ use Rattle.std.proofs.Common.{sym, ◌∙◌, subst}
 use Rattle.std.proofs.Math.Path.{ap, ap₂}
 use Prim.Native.Nat.{ℕ, zero, suc, ◌+◌, ◌-◌, ◌≤◌, ◌<◌}
 use native.Mathlib.Omega.{arith}
-use Rattle.order.specs.Lists.{◌∈◌, all, length-nil}
+use Rattle.order.specs.Lists.{◌∈◌, all}
+use Rattle.order.proofs.Lists.{length-nil}
 use Rattle.network.specs.Bytes.{u16_at}
 use Rattle.network.specs.Indexing.{entries_from}
 

@@ -14,8 +14,9 @@ use mir.Syntax.{w16}
 use Rattle.order.specs.Test.{by-test}
 use Rattle.order.specs.Lists.{◌∈◌, numbers_from}
 use Rattle.order.specs.Order.{TotalOrder, dictionary, equal, orderℕ, orderℤ}
-use Rattle.order.specs.Sorted.{numbers-mem}
-use Rattle.order.specs.Least.{better, least, least-some}
+use Rattle.order.proofs.Sorted.{numbers-mem}
+use Rattle.order.specs.Least.{better, least}
+use Rattle.order.proofs.Least.{least-some}
 use Rattle.network.specs.Bytes.{bits_of}
 use Rattle.network.specs.Checked.{refuse_if, ◌or_else◌}
 use Rattle.network.specs.Fetching.{head_count}
@@ -23,7 +24,8 @@ use Rattle.network.specs.Indexing.{cheapest, declined, entries_from, found_by, f
 use Rattle.network.specs.Indexing.{meets, plan_numbers, plan_sum, unfit}
 use Rattle.network.specs.declared.Found.{Found}
 use Rattle.network.specs.declared.Found.TheVariants.{Plan}
-use Rattle.order.specs.Columns.{places_by, tabled, tabled-at, tabled-length}
+use Rattle.order.specs.Columns.{places_by, tabled}
+use Rattle.order.proofs.Columns.{tabled-at, tabled-length}
 use Rattle.index_keys.specs.Key.{plan_key, raised16, sum_in, y1_in}
 use Rattle.index_keys.specs.Order.{AllBytes, meets-key, sum-key}
 use Rattle.index_building.specs.Built.{places-index}

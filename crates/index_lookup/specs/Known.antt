@@ -11,13 +11,18 @@ use Rattle.std.proofs.Math.Path.{refl, subst, subst⁻¹}
 use native.Mathlib.Omega.{arith}
 use borrow.Author.Tests.{eq-eqb, le-leb, le-ltb, leb-false, leb-true, lt-ltb, ltb-true, ne_eqb, not-true}
 use Rattle.std.proofs.Math.ListN.{get_or}
-use Rattle.order.specs.Test.{both, by-test, clash, fails, left, right, test_iff}
-use Rattle.order.specs.Lists.{◌∈◌, all, all-mem, numbers_from}
-use Rattle.order.specs.Order.{TotalOrder, dictionary, equal, equal→≡, less-le-trans, less→le, orderℕ, pair_le, pairs, ≡→equal}
-use Rattle.order.specs.Sorted.{Rising, numbers-mem, sort, sort-mem}
+use Rattle.order.specs.Test.{by-test, clash, left}
+use Rattle.order.proofs.Test.{both, fails, right, test_iff}
+use Rattle.order.specs.Lists.{◌∈◌, all, numbers_from}
+use Rattle.order.proofs.Lists.{all-mem}
+use Rattle.order.specs.Order.{TotalOrder, dictionary, equal, orderℕ, pair_le, pairs}
+use Rattle.order.proofs.Order.{equal→≡, less-le-trans, less→le, ≡→equal}
+use Rattle.order.specs.Sorted.{Rising, sort}
+use Rattle.order.proofs.Sorted.{numbers-mem, sort-mem}
 use Rattle.network.specs.Indexing.{entries_from}
-use Rattle.order.specs.Numbers.{rising-numbers, sorted-numbers, tie-last}
-use Rattle.order.specs.Columns.{numbers-alike, places_by}
+use Rattle.order.proofs.Numbers.{rising-numbers, sorted-numbers, tie-last}
+use Rattle.order.specs.Columns.{places_by}
+use Rattle.order.proofs.Columns.{numbers-alike}
 use Rattle.index_lookup.specs.Entries.{AllBelow, entries-length, rises_by}
 
 -- ---- definitions

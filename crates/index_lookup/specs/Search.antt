@@ -10,7 +10,8 @@ use Rattle.std.proofs.Math.ListN.{length}
 use Rattle.order.specs.Test.{by-test}
 use Rattle.order.specs.Lists.{numbers_from}
 use Rattle.order.specs.Order.{orderℕ}
-use Rattle.order.specs.Least.{challenge, least, scan, scan-least}
+use Rattle.order.specs.Least.{challenge, least, scan}
+use Rattle.order.proofs.Least.{scan-least}
 use Rattle.index_keys.specs.Key.{sum_in, y1_in}
 
 -- ---- definitions

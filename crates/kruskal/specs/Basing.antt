@@ -7,13 +7,14 @@ use native.Mathlib.Omega.{arith}
 use Rattle.std.proofs.Math.ListN.{length, length-append}
 use Rattle.std.proofs.lemmas.List.{length-map, take-append-le}
 use Rattle.std.proofs.Math.Seq.{length-take-le}
-use Rattle.order.specs.Lists.{get_or-mem, length-nil, map-mem, sublist-⊆}
+use Rattle.order.proofs.Lists.{get_or-mem, length-nil, map-mem, sublist-⊆}
 use Rattle.order.specs.Perm as perm
 use Rattle.spanning.specs.Labelling.{Edge, Labelling, crosses}
 use Rattle.spanning.specs.LabelList.{label_of}
 use Rattle.spanning.specs.Tree.{AllWithin, Forest as Ringless, Within, identity}
-use Rattle.spanning.specs.Count.{forest-few}
-use Rattle.spanning.specs.Kruskal.{greedy-forest, kruskal, kruskal-greedy}
+use Rattle.spanning.proofs.Count.{forest-few}
+use Rattle.spanning.specs.Kruskal.{kruskal}
+use Rattle.spanning.proofs.Kruskal.{greedy-forest, kruskal-greedy}
 use Rattle.network.specs.Capacities.{stations_held, sum_held}
 use Rattle.network.specs.Yard.{ends_at, sum_at}
 use Rattle.buffers.specs.Overwrite.{length-overwrite, overwrite, take-overwrite, written}

@@ -12,7 +12,8 @@ use Rattle.order.specs.Lists.{◌∈◌}
 use Rattle.order.specs.Perm as perm
 use Rattle.spanning.specs.Labelling.{Labelling, crosses, merge}
 use Rattle.spanning.specs.LabelList.{label_of}
-use Rattle.spanning.specs.Tree.{EndsBelow, identity, merge_all, merge_all-append}
+use Rattle.spanning.specs.Tree.{EndsBelow, identity, merge_all}
+use Rattle.spanning.proofs.Tree.{merge_all-append}
 use Rattle.spanning.specs.Kruskal.{kruskal}
 use Rattle.network.specs.Capacities.{links_held, stations_held}
 use Rattle.network.specs.Yard.{ends_at, sum_at}

@@ -1,6 +1,7 @@
 -- Kruskal's method as a program has it: a forest value that takes one link after another. What a walk over links needs of its input.
 use Rattle.std.specs.Prelude.{ℕ, ◌+◌, ◌*◌, ◌≤◌, ◌<◌, Bool, cond, false, true, List, ◌≡◌, length, get_or, set, replicate}
-use Rattle.order.specs.Lists.{◌∈◌, get_or-mem}
+use Rattle.order.specs.Lists.{◌∈◌}
+use Rattle.order.proofs.Lists.{get_or-mem}
 use Rattle.spanning.specs.Labelling.{crosses}
 use Rattle.spanning.specs.LabelList.{label_of}
 use Rattle.network.specs.Capacities.{links_held, sum_held}

@@ -3,7 +3,8 @@ use Rattle.std.specs.Prelude.{ℕ, ◌+◌, ◌≤◌, ◌<◌, Bool, cond, true
 use Rattle.std.proofs.Common.{append-nil, add-zero, le_refl, add-one, arith, length-set, take_all, take-suc, take-suc-set}
 use mir.Val.{bool_byte}
 use Rattle.std.proofs.lemmas.List.{take-set-le}
-use Rattle.order.specs.Lists.{filter, filter-append}
+use Rattle.order.specs.Lists.{filter}
+use Rattle.order.proofs.Lists.{filter-append}
 
 -- the first n entries of an array are the links l
 pub record Holding (l out : List ℕ) (n : ℕ) : Type 0 where

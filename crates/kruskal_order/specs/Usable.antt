@@ -2,8 +2,9 @@
 use Rattle.std.specs.Prelude.{ℕ, ◌≤◌, ◌<◌, true, ◌≡◌, length}
 use mathlib.Core.List.{List, Sublistᴰ}
 use Rattle.std.proofs.Common.{sym, ap, arith}
-use Rattle.order.specs.Lists.{◌∈◌, filter, filter-all, filter-among, filter-mem, sublist-⊆}
-use Rattle.order.specs.Perm.{pairwise-sublist}
+use Rattle.order.specs.Lists.{◌∈◌, filter}
+use Rattle.order.proofs.Lists.{filter-all, filter-among, filter-mem, sublist-⊆}
+use Rattle.order.proofs.Perm.{pairwise-sublist}
 use Rattle.order.specs.Sorted.{Apart}
 use Rattle.network.specs.Capacities.{links_held}
 use Rattle.network.specs.Resting.{all-usable}

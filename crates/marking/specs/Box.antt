@@ -2,11 +2,13 @@
 use Rattle.std.specs.Prelude.{◌≡◌, refl, ◌⊎◌, Bool, true, false, cond, ◌&&◌, List, [], ◌∷◌, ℕ, suc, ◌+◌, ◌*◌, ◌-◌, ◌≤◌, ◌<◌, length, get_or, leb}
 use Rattle.std.proofs.Common.{sym, ap, ap₂, ◌∙◌, subst, inl, inr, suc-mul, add-mul, mul-le-mul_right, arith, leb-true, leb-false, get_or-set_same, get_or-set_other}
 use Rattle.std.proofs.Math.Path.{subst⁻¹}
-use Rattle.order.specs.Test.{Decided, decide}
+use Rattle.order.specs.Test.{Decided}
+use Rattle.order.proofs.Test.{decide}
 use Rattle.order.specs.Order.{orderℕ}
 use Rattle.frontier.specs.Dominance.{le_all}
 use Rattle.frontier.specs.Frontier.{product}
-use Rattle.frontier.specs.Places.{InRange, in-nil, in-cons, number, number_lt}
+use Rattle.frontier.specs.Places.{InRange, in-nil, in-cons, number}
+use Rattle.frontier.proofs.Places.{number_lt}
 use Rattle.marking.specs.Paint.{Run, run, sweep, paint, length-paint, Off, On, sweep-off, sweep-on}
 
 -- the sides of the box from the places `is` through the places `ks`

@@ -3,7 +3,7 @@ use Rattle.std.specs.Prelude.{Bool, ◌≡◌, refl, ℕ, zero, suc, ◌+◌, �
 use mathlib.Core.List.{List, [], ◌∷◌}
 use Rattle.std.proofs.Common.{sym, ap, ◌∙◌, arith, length-drop, ext_get_or, get_or-take, length-take-le}
 use Rattle.std.proofs.lemmas.List.{length-map}
-use Rattle.order.specs.Lists.{get_or_map}
+use Rattle.order.proofs.Lists.{get_or_map}
 use Rattle.frontier.specs.Frontier.{product}
 use Rattle.frontier.specs.Places.{places}
 use Rattle.planning.specs.Graph.{Graph, values_at, values_from}

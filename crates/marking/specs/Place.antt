@@ -4,9 +4,12 @@ use mathlib.Core.List.Memᴰ.{head as here}
 use mathlib.Core.List.Memᴰ.{tail as there}
 use Rattle.std.proofs.Common.{sym, ap, ap₂, zero-add, arith, drop_of_length-le, drop-cons}
 use Rattle.std.specs.Int.Signed.{le_z}
-use Rattle.order.specs.Test.{by-test, refute}
-use Rattle.order.specs.Lists.{◌∈◌, get_or-mem}
-use Rattle.order.specs.Order.{le_refl, orderℤ, reverse}
+use Rattle.order.specs.Test.{by-test}
+use Rattle.order.proofs.Test.{refute}
+use Rattle.order.specs.Lists.{◌∈◌}
+use Rattle.order.proofs.Lists.{get_or-mem}
+use Rattle.order.specs.Order.{orderℤ, reverse}
+use Rattle.order.proofs.Order.{le_refl}
 use Rattle.order.specs.Sorted.{insert}
 use Rattle.frontier.specs.Frontier.{Picks, picks-cons, picks-nil}
 use Rattle.frontier.specs.Places.{AllFalling, Falling, InRange, all_cons, all_nil, in-cons, in-nil, pick}

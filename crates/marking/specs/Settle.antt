@@ -3,11 +3,13 @@ use Rattle.std.specs.Prelude.{Bool, true, cond, ◌&&◌, List, [], map, ◌≡�
 use Rattle.std.proofs.Math.Option.{Option, none, some}
 use Rattle.std.proofs.Common.{sym, ap, ap₂, ◌∙◌, zero-add, arith, le-leb}
 use Rattle.order.specs.Order.{orderℕ}
-use Rattle.frontier.specs.Best.{best-some}
+use Rattle.frontier.proofs.Best.{best-some}
 use Rattle.frontier.specs.Dominance.{le_all}
 use Rattle.frontier.specs.Frontier.{Problem, best, positions, product, settles}
-use Rattle.frontier.specs.Places.{AllFalling, InRange, in-cons, in-nil, pick, pick-le}
-use Rattle.frontier.specs.Places.{places, places-number, places-range, positions-number, settles-none, settles-some}
+use Rattle.frontier.specs.Places.{AllFalling, InRange, in-cons, in-nil, pick}
+use Rattle.frontier.proofs.Places.{pick-le}
+use Rattle.frontier.specs.Places.{places}
+use Rattle.frontier.proofs.Places.{places-number, places-range, positions-number, settles-none, settles-some}
 use Rattle.marking.specs.Paint.{paint}
 use Rattle.marking.specs.Box.{in_box, paint-on, sides}
 

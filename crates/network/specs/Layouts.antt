@@ -5,8 +5,10 @@ use mathlib.Core.List.Memᴰ.{tail as there}
 use Rattle.std.proofs.Common.{arith, leb-true, ltb-true, get_or-take}
 use Rattle.std.proofs.lemmas.Bool.{not-true}
 use Rattle.std.proofs.Math.ListN.{get_or-eq_default}
-use Rattle.order.specs.Lists.{◌∈◌, all, all-mem}
-use Rattle.order.specs.Test.{left, right}
+use Rattle.order.specs.Lists.{◌∈◌, all}
+use Rattle.order.proofs.Lists.{all-mem}
+use Rattle.order.specs.Test.{left}
+use Rattle.order.proofs.Test.{right}
 use Rattle.network.specs.Limits.{max_ceilings}
 use Rattle.network.specs.Bytes.{byte_at, mark_at}
 use Rattle.network.specs.Survey.{layout_of, layouts, link_size, opens, plain, rest_size, row_where, yard_size}

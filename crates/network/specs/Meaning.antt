@@ -5,17 +5,20 @@ use Rattle.std.proofs.Math.Option.{none, some}
 use Rattle.std.proofs.Common.{ap, arith}
 use Rattle.std.specs.Int.Signed.{le_z}
 use Rattle.std.proofs.lemmas.Bool.{not-true}
-use Rattle.order.specs.Test.{clash, fails, left, right, both}
+use Rattle.order.specs.Test.{clash, left}
+use Rattle.order.proofs.Test.{fails, right, both}
 use Rattle.order.specs.Lists.{◌∈◌, first}
-use Rattle.order.specs.Order.{dictionary, dictionary_le, equal→≡, le_refl, orderℕ, orderℤ, ≡→equal}
-use Rattle.order.specs.Sorted.{Rising, first-lowest}
-use Rattle.order.specs.Least.{least_first}
-use Rattle.spanning.specs.Joined.{spanning-iff}
-use Rattle.spanning.specs.Listing.{is_listed-iff, listing-iff, listing-length, listing-sorted}
+use Rattle.order.specs.Order.{dictionary, dictionary_le, orderℕ, orderℤ}
+use Rattle.order.proofs.Order.{equal→≡, le_refl, ≡→equal}
+use Rattle.order.specs.Sorted.{Rising}
+use Rattle.order.proofs.Sorted.{first-lowest}
+use Rattle.order.proofs.Least.{least_first}
+use Rattle.spanning.proofs.Joined.{spanning-iff}
+use Rattle.spanning.proofs.Listing.{is_listed-iff, listing-iff, listing-length, listing-sorted}
 use Rattle.frontier.specs.Dominance.{le_all, same}
-use Rattle.frontier.specs.Best.{best_none, best-some}
+use Rattle.frontier.proofs.Best.{best_none, best-some}
 use Rattle.planning.specs.Graph.{Sound, search_tree}
-use Rattle.planning.specs.Search.{search-best}
+use Rattle.planning.proofs.Search.{search-best}
 use Rattle.network.specs.Yard.{Tree, best, dominates, ends, fits, graph, is_tree, ranks, stations, tree_size, tree_sum, trees, usable, yard}
 use Rattle.network.specs.Tabulate.{tabulate}
 use Rattle.network.specs.PlanList.{costs_of}

@@ -6,14 +6,15 @@ use Rattle.std.proofs.Math.Nat.{pow-le-pow_right, pow-zero}
 use borrow.Author.Tests.{eqb-false, le-ltb, leb-false, ltb-false, lt-ltb}
 use Rattle.std.proofs.Math.ListN.{length-drop}
 use Rattle.std.proofs.Math.Seq.{length-take-le}
-use Rattle.order.specs.Lists.{◌∈◌, mem-get_or}
+use Rattle.order.specs.Lists.{◌∈◌}
+use Rattle.order.proofs.Lists.{mem-get_or}
 use Rattle.order.specs.Test.{by-test}
-use Rattle.order.specs.Lowered.{lowered-weighs}
+use Rattle.order.proofs.Lowered.{lowered-weighs}
 use Rattle.spanning.specs.Tree.{EndsBelow}
 use Rattle.frontier.specs.Frontier.{product}
 use Rattle.kmax.specs.Ceilings.{slack_of}
 use Rattle.planning.specs.Graph.{Graph, Sound, values_at, values_from}
-use Rattle.planning.specs.Grid.{values-few}
+use Rattle.planning.proofs.Grid.{values-few}
 use Rattle.network.specs.Limits.{max_ceilings, max_links, max_plans, max_slack, max_stations, max_tree}
 use Rattle.network.specs.Capacities.{ceilings_held, exceptions_held, links_held, plans_held, raise, stations_held, sum_held}
 use Rattle.network.specs.Bytes.{byte_at}

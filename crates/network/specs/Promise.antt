@@ -5,12 +5,15 @@ use mathlib.Core.List.Memᴰ
 use mathlib.Core.List.Memᴰ.{head as here}
 use Rattle.std.proofs.Common.{arith, le-ltb}
 use Rattle.std.proofs.lemmas.Bool.{not-true}
-use Rattle.order.specs.Lists.{◌∈◌, any, any_none, none_any}
-use Rattle.order.specs.Order.{dictionary, dictionary_le, orderℕ, orderℤ, ≡→equal}
-use Rattle.order.specs.Sorted.{Rising, first-lowest}
+use Rattle.order.specs.Lists.{◌∈◌, any}
+use Rattle.order.proofs.Lists.{any_none, none_any}
+use Rattle.order.specs.Order.{dictionary, dictionary_le, orderℕ, orderℤ}
+use Rattle.order.proofs.Order.{≡→equal}
+use Rattle.order.specs.Sorted.{Rising}
+use Rattle.order.proofs.Sorted.{first-lowest}
 use Rattle.frontier.specs.Frontier.{attains, nondominated}
-use Rattle.frontier.specs.Walk.{positions-length, solved-length}
-use Rattle.frontier.specs.Listed.{listed-empty, listed-feasible, listed-first, listed-rising, listed-vectors}
+use Rattle.frontier.proofs.Walk.{positions-length, solved-length}
+use Rattle.frontier.proofs.Listed.{listed-empty, listed-feasible, listed-first, listed-rising, listed-vectors}
 use Rattle.planning.specs.Graph.{Sound}
 use Rattle.planning.specs.Grid as grid
 use Rattle.network.specs.Limits.{max_plans}

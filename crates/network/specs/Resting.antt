@@ -3,11 +3,14 @@ use Rattle.std.specs.Prelude.{ℕ, ◌%◌, ◌^◌, ◌≤◌, ◌<◌, ◌≡�
 use Rattle.std.proofs.Common.{ap, ◌∙◌}
 use Rattle.std.proofs.Math.Nat.{zero-div}
 use native.Mathlib.Omega.{arith}
-use Rattle.order.specs.Test.{both, left, right}
-use Rattle.order.specs.Lists.{◌∈◌, count-le-length, filter-all, filter-mem, length-filter, mem-filter, numbers_from}
+use Rattle.order.specs.Test.{left}
+use Rattle.order.proofs.Test.{both, right}
+use Rattle.order.specs.Lists.{◌∈◌, numbers_from}
+use Rattle.order.proofs.Lists.{count-le-length, filter-all, filter-mem, length-filter, mem-filter}
 use Rattle.order.specs.Order.{orderℕ}
-use Rattle.order.specs.Perm.{pairwise-filter}
-use Rattle.order.specs.Sorted.{Apart, mem-numbers, numbers-length, numbers-mem, numbers-rising, rising-apart}
+use Rattle.order.proofs.Perm.{pairwise-filter}
+use Rattle.order.specs.Sorted.{Apart}
+use Rattle.order.proofs.Sorted.{mem-numbers, numbers-length, numbers-mem, numbers-rising, rising-apart}
 use Rattle.spanning.specs.Labelling.{Edge}
 use Rattle.spanning.specs.Tree.{Within}
 use Rattle.network.specs.Yard.{joins_working, working, works}

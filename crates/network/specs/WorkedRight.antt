@@ -1,7 +1,8 @@
 -- The theorem that every row of the table of worked yards is right. It is computed from the definitions.
 use Rattle.std.specs.Prelude.{map, ◌≡◌, refl, length}
 use Rattle.order.specs.Lists.{◌∈◌, numbers_from}
-use Rattle.order.specs.Every.{◌▸◌, done, every}
+use Rattle.order.specs.Every.{◌▸◌, done}
+use Rattle.order.proofs.Every.{every}
 use Rattle.spanning.specs.Labelling.{crosses, merge}
 use Rattle.spanning.specs.Tree as tree
 use Rattle.spanning.specs.Choose.{choose, choose_from}

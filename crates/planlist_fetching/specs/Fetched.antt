@@ -10,7 +10,8 @@ use Rattle.std.proofs.Math.Seq.{take_at}
 use Rattle.std.specs.Int.{w32}
 use store.Seg.{eqb_same}
 use Rattle.order.specs.Test.{by-test}
-use Rattle.order.specs.Lists.{◌∈◌, get_or_map, get_or-mem, map-mem}
+use Rattle.order.specs.Lists.{◌∈◌}
+use Rattle.order.proofs.Lists.{get_or_map, get_or-mem, map-mem}
 use Rattle.network.specs.Capacities.{ceilings_held}
 use Rattle.network.specs.Limits.{max_ceilings, max_plans, max_tree}
 use Rattle.network.specs.Bytes.{bits_of, byte_at, little_endian, mark_at}

@@ -1,8 +1,9 @@
 -- The list of an accepted survey keeps within what a plan list may hold, so that its plans are found, and its records say what they are.
 use Rattle.std.specs.Prelude.{List, [], ◌++◌, ◌≡◌, ℕ, ◌≤◌, ◌<◌, get_or, length}
 use Rattle.std.proofs.Common.{ap, ◌∙◌, arith, lt-ltb}
-use Rattle.order.specs.Lists.{◌∈◌, get_or-mem}
-use Rattle.frontier.specs.Plans.{plans-few}
+use Rattle.order.specs.Lists.{◌∈◌}
+use Rattle.order.proofs.Lists.{get_or-mem}
+use Rattle.frontier.proofs.Plans.{plans-few}
 use Rattle.network.specs.Limits.{max_ceilings, max_plans, max_tree}
 use Rattle.network.specs.Yard.{tree_size, yard}
 use Rattle.network.specs.Walk.{plans}

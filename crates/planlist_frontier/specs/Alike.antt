@@ -5,10 +5,13 @@ use mathlib.Core.List.Memᴰ.{head as here}
 use mathlib.Core.List.Memᴰ.{tail as there}
 use Rattle.std.proofs.Common.{ap, ◌∙◌, arith}
 use Rattle.order.specs.Test.{by-test}
-use Rattle.order.specs.Lists.{◌∈◌, any, filter, filter-mem, map-mem}
-use Rattle.order.specs.Order.{TotalOrder, dictionary, dictionary_le, le_refl, tie_break}
+use Rattle.order.specs.Lists.{◌∈◌, any, filter}
+use Rattle.order.proofs.Lists.{filter-mem, map-mem}
+use Rattle.order.specs.Order.{TotalOrder, dictionary, dictionary_le, tie_break}
+use Rattle.order.proofs.Order.{le_refl}
 use Rattle.order.specs.Sorted.{Rising, insert}
-use Rattle.frontier.specs.Dominance.{dominates, le_all, le_all-refl}
+use Rattle.frontier.specs.Dominance.{dominates, le_all}
+use Rattle.frontier.proofs.Dominance.{le_all-refl}
 use Rattle.frontier.specs.Frontier.{Problem, insert_plan, vector, vector_order}
 
 -- ---- the same entries added behind

@@ -3,11 +3,15 @@ use Rattle.std.specs.Prelude.{◌≡◌, refl, Bool, true, false, not, cond, Lis
 use Rattle.std.proofs.Common.{sym, ap, ap₂, ◌∙◌, inl, inr, ⊎_elim}
 use mathlib.Core.List.Memᴰ
 use mathlib.Core.List.Memᴰ.{head as here}
-use Rattle.order.specs.Test.{by-test, clash, refute}
-use Rattle.order.specs.Lists.{◌∈◌, any, filter, filter-mem}
+use Rattle.order.specs.Test.{by-test, clash}
+use Rattle.order.proofs.Test.{refute}
+use Rattle.order.specs.Lists.{◌∈◌, any, filter}
+use Rattle.order.proofs.Lists.{filter-mem}
 use Rattle.order.specs.Order.{TotalOrder, orderℤ, dictionary_le}
-use Rattle.order.specs.Sorted.{Rising, Sorted, insert, rising-sorted}
-use Rattle.frontier.specs.Dominance.{le_all, le_all-refl, le_all→dictionary_le, dominates, le-cases}
+use Rattle.order.specs.Sorted.{Rising, Sorted, insert}
+use Rattle.order.proofs.Sorted.{rising-sorted}
+use Rattle.frontier.specs.Dominance.{le_all, dominates}
+use Rattle.frontier.proofs.Dominance.{le_all-refl, le_all→dictionary_le, le-cases}
 use Rattle.frontier.specs.Frontier.{Problem, insert_plan, vector, vector_order}
 use Rattle.network.specs.declared.Costs.{Costs}
 use Rattle.network.specs.PlanList.{costs_at}

@@ -8,10 +8,13 @@ use mathlib.Core.List.Memᴰ.{tail as there}
 use mathlib.Core.List.{List, [], ◌∷◌}
 use Prim.Native.Nat.{ℕ, zero, suc, ◌≤◌, ◌<◌}
 use Rattle.std.specs.Int.Signed.{le_z}
-use Rattle.order.specs.Test.{by-test, clash, refute}
-use Rattle.order.specs.Lists.{◌∈◌, filter-all, none_any}
-use Rattle.order.specs.Order.{Less, TotalOrder, dictionary-trans, le_refl, le_z-trans, orderℤ}
-use Rattle.order.specs.Perm.{pairwise-imp}
+use Rattle.order.specs.Test.{by-test, clash}
+use Rattle.order.proofs.Test.{refute}
+use Rattle.order.specs.Lists.{◌∈◌}
+use Rattle.order.proofs.Lists.{filter-all, none_any}
+use Rattle.order.specs.Order.{Less, TotalOrder, dictionary-trans, le_z-trans, orderℤ}
+use Rattle.order.proofs.Order.{le_refl}
+use Rattle.order.proofs.Perm.{pairwise-imp}
 use Rattle.order.specs.Sorted.{Rising}
 use Rattle.frontier.specs.Frontier.{vector, vector_order}
 use Rattle.network.specs.Calls.{cost_values}

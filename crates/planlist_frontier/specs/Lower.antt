@@ -2,9 +2,11 @@
 use Rattle.std.specs.Prelude.{◌≡◌, refl, Bool, true, false, cond, List, [], ◌∷◌, ℕ, zero, suc, ◌+◌, ◌*◌, ◌-◌, ◌≤◌, ◌<◌, ℤ, length, take, drop, get_or}
 use Rattle.std.proofs.Common.{sym, ap, ◌∙◌, ⊎_elim, add-mul, eq-or-lt_of_le, mul-le-mul_right, suc-mul, zero-mul, arith, drop-drop}
 use Rattle.std.specs.Int.Signed.{le_z}
-use Rattle.order.specs.Test.{by-test, refute}
-use Rattle.order.specs.Order.{TotalOrder, le_refl, le_z-trans, orderℤ}
-use Rattle.order.specs.Perm.{pairwise-at}
+use Rattle.order.specs.Test.{by-test}
+use Rattle.order.proofs.Test.{refute}
+use Rattle.order.specs.Order.{TotalOrder, le_z-trans, orderℤ}
+use Rattle.order.proofs.Order.{le_refl}
+use Rattle.order.proofs.Perm.{pairwise-at}
 use Rattle.order.specs.Sorted.{Sorted}
 use Rattle.network.specs.PlanList.{plan_size, plan_sum_at}
 use Rattle.encoding.specs.Blocks.{blocks}

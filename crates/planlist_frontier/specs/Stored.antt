@@ -8,12 +8,13 @@ use Rattle.std.proofs.Math.Path.{ap₂, subst⁻¹}
 use Rattle.std.proofs.Math.Nat.{sub-zero}
 use Rattle.std.proofs.lemmas.List.{length-map}
 use Rattle.std.specs.Int.Signed.{le_z}
-use Rattle.order.specs.Lists.{◌∈◌, map-mem}
+use Rattle.order.specs.Lists.{◌∈◌}
+use Rattle.order.proofs.Lists.{map-mem}
 use Rattle.order.specs.Order.{TotalOrder, dictionary_le, orderℤ}
 use Rattle.order.specs.Sorted.{Rising}
 use Rattle.frontier.specs.Dominance.{le_all}
 use Rattle.frontier.specs.Frontier.{Problem, insert_plan, vector, vector_order}
-use Rattle.frontier.specs.Plans.{collect-member}
+use Rattle.frontier.proofs.Plans.{collect-member}
 use Rattle.planning.specs.Graph.{Graph, costs_from}
 use Rattle.network.specs.Capacities.{ceilings_held}
 use Rattle.network.specs.Tabulate.{tabulate, tabulate-first, tabulate-none}

@@ -4,8 +4,10 @@ use Rattle.std.proofs.Math.Path.{refl, ap₂}
 use Rattle.std.proofs.Common.{sym, ◌∙◌, add-one, arith, drop_of_length-le, drop-cons}
 use Rattle.std.specs.Int.Signed.{le_z}
 use Rattle.order.specs.Test.{by-test}
-use Rattle.order.specs.Order.{TotalOrder, dictionary-less, dictionary_le, le_refl, orderℤ, tie_break}
-use Rattle.frontier.specs.Dominance.{le_all, le_all→dictionary_le}
+use Rattle.order.specs.Order.{TotalOrder, dictionary_le, orderℤ, tie_break}
+use Rattle.order.proofs.Order.{dictionary-less, le_refl}
+use Rattle.frontier.specs.Dominance.{le_all}
+use Rattle.frontier.proofs.Dominance.{le_all→dictionary_le}
 use Rattle.network.specs.Calls.{cost_values}
 use Rattle.network.specs.declared.Costs.{Costs}
 

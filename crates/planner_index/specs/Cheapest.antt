@@ -4,11 +4,14 @@ use Rattle.std.proofs.Math.Option.{none, some}
 use Rattle.std.proofs.Common.{arith}
 use borrow.Author.Tests.{leb-true}
 use Rattle.std.specs.Int.Signed.{le_z}
-use Rattle.order.specs.Test.{both, fails, left, right}
+use Rattle.order.specs.Test.{left}
+use Rattle.order.proofs.Test.{both, fails, right}
 use Rattle.order.specs.Lists.{◌∈◌, first}
-use Rattle.order.specs.Order.{le_refl, orderℕ, orderℤ}
-use Rattle.order.specs.Sorted.{first-lowest, mem-numbers, numbers-mem, numbers-rising}
-use Rattle.order.specs.Least.{IsLeast, least_first, least-none, least-some}
+use Rattle.order.specs.Order.{orderℕ, orderℤ}
+use Rattle.order.proofs.Order.{le_refl}
+use Rattle.order.proofs.Sorted.{first-lowest, mem-numbers, numbers-mem, numbers-rising}
+use Rattle.order.specs.Least.{IsLeast}
+use Rattle.order.proofs.Least.{least_first, least-none, least-some}
 use Rattle.network.specs.Fetching.{head_count}
 use Rattle.network.specs.Indexing.{cheapest, meets, plan_numbers, plan_sum}
 use Rattle.network.specs.IndexPromise.{IsCheapest, NoneMeets}

@@ -8,14 +8,18 @@ use Rattle.std.proofs.Math.ListN.{drop}
 use Rattle.std.specs.Int.Signed.{mag}
 use Rattle.order.specs.Test.{by-test}
 use Rattle.order.specs.Lists.{count}
-use Rattle.order.specs.Perm.{Perm, count-perm, perm-length}
-use Rattle.order.specs.Order.{dictionary, orderℕ, orderℤ, ≡→equal}
-use Rattle.order.specs.Sorted.{Rising, numbers-length, numbers-mem, sort-mem, sort-perm}
+use Rattle.order.specs.Perm.{Perm}
+use Rattle.order.proofs.Perm.{count-perm, perm-length}
+use Rattle.order.specs.Order.{dictionary, orderℕ, orderℤ}
+use Rattle.order.proofs.Order.{≡→equal}
+use Rattle.order.specs.Sorted.{Rising}
+use Rattle.order.proofs.Sorted.{numbers-length, numbers-mem, sort-mem, sort-perm}
 use Rattle.network.specs.Bytes.{little_endian}
 use Rattle.network.specs.PlanList.{join}
 use Rattle.network.specs.Fetching.{damaged, head_count}
 use Rattle.network.specs.Indexing.{entries_from, index_in, index_key, index_need, index_of, is_index, plan_numbers, without_ceilings}
-use Rattle.order.specs.Numbers.{Telling, numbers-once, sorted-numbers}
+use Rattle.order.specs.Numbers.{Telling}
+use Rattle.order.proofs.Numbers.{numbers-once, sorted-numbers}
 use Rattle.planlist_fetching.specs.Found.{whole}
 use Rattle.index_lookup.specs.Entries.{AllBelow}
 use Rattle.planner_index.specs.Held.{entries-held}

@@ -8,10 +8,12 @@ use Rattle.std.proofs.Math.Option.{Option, none, some}
 use Rattle.std.proofs.Math.Path.{refl, sym, ap, subst⁻¹}
 use Rattle.std.proofs.Math.ListN.{drop, length-append, take-append-drop}
 use Rattle.std.specs.Int.Signed.{mag}
-use Rattle.order.specs.Test.{both, by-test, fails}
+use Rattle.order.specs.Test.{by-test}
+use Rattle.order.proofs.Test.{both, fails}
 use Rattle.order.specs.Lists.{◌∈◌, all}
-use Rattle.order.specs.Order.{dictionary, equal→≡, orderℕ}
-use Rattle.order.specs.Sorted.{numbers-mem}
+use Rattle.order.specs.Order.{dictionary, orderℕ}
+use Rattle.order.proofs.Order.{equal→≡}
+use Rattle.order.proofs.Sorted.{numbers-mem}
 use Rattle.network.specs.Walk.{plans}
 use Rattle.network.specs.Survey.{network_of}
 use Rattle.network.specs.Calls.{Reply}

@@ -2,7 +2,8 @@
 use Rattle.std.specs.Prelude.{true, false, not, ◌&&◌, List, ◌≡◌, ℕ, ◌*◌, ◌≤◌, leb, ℤ, length, take}
 use Rattle.std.proofs.Common.{sym, subst, ◌∙◌, eq-eqb, leb-true, ltb-false, ne_eqb}
 use Rattle.std.proofs.Math.Path.{ap}
-use Rattle.order.specs.Test.{clash, left, right}
+use Rattle.order.specs.Test.{clash, left}
+use Rattle.order.proofs.Test.{right}
 use Rattle.network.specs.Limits.{max_links}
 use Rattle.network.specs.Checked.{fine-both, refuse-fine, refuse_if, ◌or_else◌}
 use Rattle.network.specs.Calls.{if_fine, status}

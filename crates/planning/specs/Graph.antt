@@ -2,7 +2,6 @@
 -- finds the best tree under ceilings without going through all trees. All of it computes on closed data.
 use Rattle.std.specs.Prelude.{Bool, true, cond, ◌&&◌, not, List, [], ◌∷◌, map, ◌≡◌, ℕ, suc, ◌-◌, ◌≤◌, ◌<◌, eqb, leb, ℤ, pos, length}
 use Rattle.std.proofs.Math.Option.{Option, none, some}
-use Rattle.std.proofs.Common.{sym}
 use Rattle.order.specs.Lists.{◌∈◌, distinct, filter, numbers_from}
 use Rattle.order.specs.Lowered.{sumℤ}
 use Rattle.order.specs.Perm.{sum}
@@ -11,7 +10,7 @@ use Rattle.order.specs.Sorted.{Apart, ascending, sort}
 use Rattle.order.specs.Least.{ranked}
 use Rattle.spanning.specs.Labelling.{Edge}
 use Rattle.spanning.specs.Tree.{Within, identity, is_forest}
-use Rattle.spanning.specs.Best.{Usable, by_cost, tree_key, tree_order, whole}
+use Rattle.spanning.specs.Best.{Usable, by_cost, whole}
 use Rattle.spanning.specs.Listing.{spanning_trees}
 use Rattle.frontier.specs.Frontier.{Problem}
 use Rattle.kmax.specs.KMax.{kmax}
@@ -78,11 +77,6 @@ module _ (G : Graph) where
   -- us is no worse than ts: its sum is smaller, or the same and us is not later in dictionary order
   abbrev pub NoWorse : List ℕ → List ℕ → Type 0
   NoWorse us ts = sum_order.le (sum_key us) (sum_key ts) ≡ true
-
-  -- THE TIE RULE for signed sums: of equally many links, the smaller sum and then dictionary order is the smaller weight and then dictionary order
-  pub by-weight : Sound G → (us ts : List ℕ) → length us ≡ length ts
-      → sum_order.le (sum_key us) (sum_key ts) ≡ tree_order.le (tree_key weight us) (tree_key weight ts)
-  by-weight S us ts e = rw (S.weighs us ts e, S.weighs ts us (sym e))
 
   -- the ceiling costs i, i + 1, .. of a tree, of the ranks js
   abbrev pub costs_from : ℕ → List ℕ → List ℕ → List ℤ

@@ -4,8 +4,10 @@ use Rattle.std.proofs.Math.Bool.{cond}
 use Rattle.std.proofs.Common.{sym, ◌∙◌, subst}
 use Rattle.std.proofs.Math.Path.{ap}
 use borrow.Author.Tests.{not-true}
-use Rattle.order.specs.Test.{by-test, clash, right}
-use Rattle.order.specs.Lists.{◌∈◌, get_or-mem}
+use Rattle.order.specs.Test.{by-test, clash}
+use Rattle.order.proofs.Test.{right}
+use Rattle.order.specs.Lists.{◌∈◌}
+use Rattle.order.proofs.Lists.{get_or-mem}
 use Rattle.order.specs.Order.{orderℕ}
 use Rattle.order.specs.Sorted.{Sorted}
 use Rattle.network.specs.Yard.{sum_at}

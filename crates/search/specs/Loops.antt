@@ -9,14 +9,18 @@ use Rattle.std.proofs.Math.Path.{refl, sym, ap}
 use Rattle.std.proofs.lemmas.Bool.{not-false, not-true}
 use Rattle.std.proofs.Math.ListN.{get_or}
 use Rattle.std.proofs.Math.Seq.{drop-cons}
-use Rattle.order.specs.Test.{by-test, fails, left, right}
-use Rattle.order.specs.Lists.{◌∈◌, count, map-mem, sublist-⊆}
+use Rattle.order.specs.Test.{by-test, left}
+use Rattle.order.proofs.Test.{fails, right}
+use Rattle.order.specs.Lists.{◌∈◌, count}
+use Rattle.order.proofs.Lists.{map-mem, sublist-⊆}
 use Rattle.order.specs.Order.{orderℕ}
-use Rattle.order.specs.Perm.{pairwise-sublist, sum}
+use Rattle.order.specs.Perm.{sum}
+use Rattle.order.proofs.Perm.{pairwise-sublist}
 use Rattle.order.specs.Sorted.{Sorted}
 use Rattle.network.specs.Yard.{sum_at}
 use Rattle.kmax.specs.Ceilings.{slack_of}
-use Rattle.kmax.specs.Digits.{admits, admits-few, marked, ones}
+use Rattle.kmax.specs.Digits.{admits, marked, ones}
+use Rattle.kmax.proofs.Digits.{admits-few}
 use Rattle.exceptions.specs.Patterns.{Patterned, admitted, pattern_at}
 use Rattle.exceptions.specs.Keep.{Exceptions}
 use Rattle.exceptions.specs.Select.{sublist-in-order}

@@ -14,7 +14,7 @@ use Rattle.kruskal.specs.Base.{kept}
 use Rattle.kruskal.specs.Grown.{with_flag, flags_of}
 use Rattle.kruskal.specs.declared.links.Base.{Base}
 use Rattle.exceptions.specs.Patterns.{Patterned, admitted}
-use Rattle.kmax.specs.Digits.{admits-none}
+use Rattle.kmax.proofs.Digits.{admits-none}
 use Rattle.search_trials.specs.Marks.{Flagged}
 use Rattle.search_trials.specs.Search.{beats, considered, nothing, offered, tried, tried_if}
 use Rattle.search_trials.specs.Stands.{Keeps, Stands, exceptions_of, grown_from, links_by}

@@ -5,7 +5,8 @@ use Rattle.std.proofs.Math.Path.{sym, subst}
 use Rattle.std.proofs.Common.{ap, ap₂, ◌∙◌, arith}
 use Rattle.std.proofs.Math.Dec.{eqb, leb, ltb}
 use borrow.Author.Tests.{eq-eqb, eqb-true, eqb-false, le-leb, le-ltb, leb-true, lt-ltb, ltb-false, ltb-true, ne_eqb}
-use Rattle.order.specs.Test.{by-test, clash, fails, left, right}
+use Rattle.order.specs.Test.{by-test, clash, left}
+use Rattle.order.proofs.Test.{fails, right}
 use Rattle.kruskal.specs.Grown.{flags_of}
 use Rattle.kruskal.specs.Tree.{Tree}
 use Rattle.search_trials.specs.Flags.{first}

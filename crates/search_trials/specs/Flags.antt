@@ -17,9 +17,12 @@ use Rattle.std.proofs.Math.Seq.{drop-cons}
 use Rattle.std.proofs.lemmas.Bool.{lt-leb}
 use Rattle.order.specs.Test.{clash}
 use Rattle.order.specs.Lists.{◌∈◌}
-use Rattle.order.specs.Order.{dictionary_le, le_refl, orderℕ}
-use Rattle.order.specs.Sorted.{Apart, ascending, mem-sort, rising-unique, sort-mem, sort-rising}
-use Rattle.spanning.specs.Rising.{RisingIn, rising-in, rising-weaken}
+use Rattle.order.specs.Order.{dictionary_le, orderℕ}
+use Rattle.order.proofs.Order.{le_refl}
+use Rattle.order.specs.Sorted.{Apart, ascending}
+use Rattle.order.proofs.Sorted.{mem-sort, rising-unique, sort-mem, sort-rising}
+use Rattle.spanning.specs.Rising.{RisingIn}
+use Rattle.spanning.proofs.Rising.{rising-in, rising-weaken}
 use Rattle.network.specs.Capacities.{links_held}
 use Rattle.kruskal.specs.Grown.{with_flag, flags_of}
 

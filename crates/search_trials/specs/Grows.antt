@@ -10,12 +10,15 @@ use Rattle.std.proofs.Common.{⊎_elim, sym, ap, ◌∙◌}
 use Rattle.std.proofs.Math.Path.{fun_ext, subst}
 use borrow.Author.Tests.{eq-eqb, ne_eqb, not-false, not-true}
 use Rattle.order.specs.Test.{by-test, clash}
-use Rattle.order.specs.Perm.{Perm, perm-cons, perm-map, perm-nil, perm-refl, perm-swap, perm-sym, perm-trans, perm-⊆}
-use Rattle.spanning.specs.Labelling.{Crosses→crosses, Labelling, crosses, crosses→Crosses, merge}
+use Rattle.order.specs.Perm.{Perm, perm-cons, perm-nil, perm-swap, perm-trans}
+use Rattle.order.proofs.Perm.{perm-map, perm-refl, perm-sym, perm-⊆}
+use Rattle.spanning.specs.Labelling.{Labelling, crosses, merge}
+use Rattle.spanning.proofs.Labelling.{Crosses→crosses, crosses→Crosses}
 use Rattle.spanning.specs.LabelList.{label_of}
-use Rattle.spanning.specs.Tree.{EndsBelow, Forest, forest-perm, identity, merge_all}
+use Rattle.spanning.specs.Tree.{EndsBelow, Forest, identity, merge_all}
+use Rattle.spanning.proofs.Tree.{forest-perm}
 use Rattle.spanning.specs.Kruskal.{kruskal}
-use Rattle.spanning.specs.Lost.{kruskal-all, kruskal-whole}
+use Rattle.spanning.proofs.Lost.{kruskal-all, kruskal-whole}
 use Rattle.network.specs.Capacities.{links_held, stations_held}
 use Rattle.network.specs.Yard.{ends_at}
 use Rattle.forest.specs.Groups.{Led, apart, apart-labels, apart-led, joined, joined-labels, joined-led}

@@ -12,8 +12,10 @@ use Rattle.std.proofs.Math.Decide.{ℕ_discrete}
 use native.Mathlib.Omega.{arith}
 use Rattle.std.proofs.Math.Seq.{append_snoc}
 use Rattle.std.proofs.lemmas.List.{set_comm, set-get_or}
-use Rattle.order.specs.Test.{by-test, fails}
-use Rattle.order.specs.Lists.{◌∈◌, get_or-mem}
+use Rattle.order.specs.Test.{by-test}
+use Rattle.order.proofs.Test.{fails}
+use Rattle.order.specs.Lists.{◌∈◌}
+use Rattle.order.proofs.Lists.{get_or-mem}
 use Rattle.order.specs.Sorted.{Apart}
 use Rattle.network.specs.Capacities.{links_held}
 use Rattle.spanning.specs.Places.{at_places}

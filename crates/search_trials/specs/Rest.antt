@@ -8,10 +8,12 @@ use Rattle.std.proofs.Common.{sym, ap, ap₂, ◌∙◌, arith, length-drop, tak
 use Rattle.std.proofs.Math.Nat.{mul-le-mul_right}
 use borrow.Author.Tests.{eqb-true, le-ltb, lt-ltb, ltb-true, ne_eqb}
 use Rattle.std.proofs.Math.ListN.{length}
-use Rattle.order.specs.Test.{by-test, clash, fails, left, right}
-use Rattle.order.specs.Lists.{sublist-⊆}
+use Rattle.order.specs.Test.{by-test, clash, left}
+use Rattle.order.proofs.Test.{fails, right}
+use Rattle.order.proofs.Lists.{sublist-⊆}
 use Rattle.order.specs.Order.{orderℕ}
-use Rattle.order.specs.Perm.{sum, sum-append}
+use Rattle.order.specs.Perm.{sum}
+use Rattle.order.proofs.Perm.{sum-append}
 use Rattle.order.specs.Sorted.{Sorted}
 use Rattle.network.specs.Capacities.{links_held, sum_held}
 use Rattle.network.specs.Yard.{sum_at}

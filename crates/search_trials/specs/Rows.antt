@@ -11,12 +11,16 @@ use Rattle.std.proofs.Math.Path.{sym, ap, fun_ext}
 use native.Mathlib.Omega.{arith}
 use Rattle.std.proofs.lemmas.Bool.{not-true}
 use Rattle.std.proofs.Math.ListN.{length, get_or, take}
-use Rattle.order.specs.Test.{by-test, left, right, test_iff}
-use Rattle.order.specs.Lists.{◌⊆◌, get_or_default}
-use Rattle.spanning.specs.Labelling.{Edge, Labelling, Linked, Same, crosses, crosses-false, merge, merge-joins, merge_keeps, same-crosses, same-merge}
+use Rattle.order.specs.Test.{by-test, left}
+use Rattle.order.proofs.Test.{right, test_iff}
+use Rattle.order.specs.Lists.{◌⊆◌}
+use Rattle.order.proofs.Lists.{get_or_default}
+use Rattle.spanning.specs.Labelling.{Edge, Labelling, Linked, Same, crosses, merge}
+use Rattle.spanning.proofs.Labelling.{crosses-false, merge-joins, merge_keeps, same-crosses, same-merge}
 use Rattle.spanning.specs.LabelList.{label_of}
 use Rattle.spanning.specs.Tree.{EndsBelow, identity, merge_all}
-use Rattle.spanning.specs.Places.{first-same, first_place}
+use Rattle.spanning.specs.Places.{first_place}
+use Rattle.spanning.proofs.Places.{first-same}
 use Rattle.spanning.specs.Lost.{first_row, lost_one, lost_two, row_at}
 use Rattle.network.specs.Capacities.{stations_held}
 use Rattle.network.specs.Yard.{ends_at}

@@ -9,10 +9,11 @@ use Rattle.std.proofs.Common.{inl, inr, sym, ap, ◌∙◌, arith, le-leb, leb-f
 use Rattle.std.proofs.Math.Logic.{⊎_elim}
 use Rattle.std.proofs.lemmas.Bool.{lt-leb}
 use Rattle.order.specs.Test.{by-test}
-use Rattle.order.specs.Lists.{◌∈◌, ◌⊆◌, map-mem}
+use Rattle.order.specs.Lists.{◌∈◌, ◌⊆◌}
+use Rattle.order.proofs.Lists.{map-mem}
 use Rattle.order.specs.Order.{orderℕ}
 use Rattle.order.specs.Sorted.{Apart, Rising}
-use Rattle.spanning.specs.Rising.{trichotomy}
+use Rattle.spanning.proofs.Rising.{trichotomy}
 
 -- the lower one of two links
 unfoldable pub lower : ℕ → ℕ → ℕ

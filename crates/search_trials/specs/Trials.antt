@@ -5,13 +5,18 @@ use mathlib.Core.List.{List, [], ◌∷◌, ◌++◌, map}
 use Rattle.std.proofs.Math.Path.{sym}
 use Rattle.std.proofs.Common.{◌∙◌, subst, mul-le-mul_right, length-append}
 use native.Mathlib.Omega.{arith}
-use Rattle.order.specs.Perm.{perm-map, perm-sym, perm-⊆, sum, sum-append, sum-perm}
+use Rattle.order.specs.Perm.{sum}
+use Rattle.order.proofs.Perm.{perm-map, perm-sym, perm-⊆, sum-append, sum-perm}
 use Rattle.trees_costs.specs.Added.{sum-le}
-use Rattle.spanning.specs.Labelling.{Crosses, Edge, Labelling, ◌≈◌, crosses, crosses→Crosses, merge}
-use Rattle.spanning.specs.Tree.{EndsBelow, identity, merge_all, merge_all-⊑}
+use Rattle.spanning.specs.Labelling.{Crosses, Edge, Labelling, ◌≈◌, crosses, merge}
+use Rattle.spanning.proofs.Labelling.{crosses→Crosses}
+use Rattle.spanning.specs.Tree.{EndsBelow, identity, merge_all}
+use Rattle.spanning.proofs.Tree.{merge_all-⊑}
 use Rattle.spanning.specs.Kruskal.{kruskal}
-use Rattle.spanning.specs.Places.{at_places, length-sum, other, other_two, sum-without, sum-without-two, two_past, weight-at, weight-none, weight_at}
-use Rattle.spanning.specs.Lost.{kept-one, kept-two, lost-apart, lost_one, lost_two}
+use Rattle.spanning.specs.Places.{at_places, other, other_two, weight_at}
+use Rattle.spanning.proofs.Places.{length-sum, sum-without, sum-without-two, two_past, weight-at, weight-none}
+use Rattle.spanning.specs.Lost.{lost_one, lost_two}
+use Rattle.spanning.proofs.Lost.{kept-one, kept-two, lost-apart}
 use Rattle.network.specs.Capacities.{links_held, stations_held, sum_held}
 use Rattle.network.specs.Yard.{ends_at, sum_at}
 use Rattle.kruskal.specs.Base.{Recorded}

@@ -3,12 +3,15 @@ use Rattle.std.specs.Prelude.{Bool, true, false, ◌&&◌, List, [], ◌∷◌, 
 use mathlib.Core.List.Memᴰ
 use Rattle.std.proofs.Common.{⊎_elim, inl, inr, sym, ap, ap₂, ◌∙◌, zero-add, arith, ltb-true, length-append}
 use Rattle.std.proofs.lemmas.List.{length-map}
-use Rattle.order.specs.Lists.{◌∈◌, all, all-mem, get_or_map, map-mem, numbers_from}
-use Rattle.order.specs.Sorted.{Rising, mem-numbers, number_at, is_rising→rising}
-use Rattle.order.specs.Test.{clash, left, right}
+use Rattle.order.specs.Lists.{◌∈◌, all, numbers_from}
+use Rattle.order.proofs.Lists.{all-mem, get_or_map, map-mem}
+use Rattle.order.specs.Sorted.{Rising}
+use Rattle.order.proofs.Sorted.{mem-numbers, number_at, is_rising→rising}
+use Rattle.order.specs.Test.{clash, left}
+use Rattle.order.proofs.Test.{right}
 use Rattle.frontier.specs.Frontier.{Picks, picks-cons, picks-nil, positions}
-use Rattle.frontier.specs.Walk.{positions-length, positions-mem}
-use Rattle.frontier.specs.Ordered.{positions-pick}
+use Rattle.frontier.proofs.Walk.{positions-length, positions-mem}
+use Rattle.frontier.proofs.Ordered.{positions-pick}
 use Rattle.buffers.specs.Overwrite.{overwrite, overwrite-chain}
 use Rattle.network.specs.Bytes.{bits_of, little_endian}
 use Rattle.network.specs.Survey.{plain}

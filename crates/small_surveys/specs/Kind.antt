@@ -11,12 +11,15 @@ use borrow.Author.Tests.{eqb-true, leb-false, leb-true, ltb-true, not-false, not
 use Rattle.std.proofs.Math.ListN.{get_or}
 use Rattle.std.specs.Int.{Width, w16, w32}
 use mir.ValLaws.{sfits_le, to_z-of_z}
-use Rattle.order.specs.Lists.{◌∈◌, all, all-mem, get_or-mem, mem-get_or, numbers_from}
-use Rattle.order.specs.Order.{Less, dictionary, less-irrefl}
-use Rattle.order.specs.Perm.{pairwise-at}
-use Rattle.order.specs.Test.{by-test, left, right}
-use Rattle.frontier.specs.Ordered.{each-picks, picks-each, positions-rise}
-use Rattle.frontier.specs.Walk.{positions-length, positions-mem}
+use Rattle.order.specs.Lists.{◌∈◌, all, numbers_from}
+use Rattle.order.proofs.Lists.{all-mem, get_or-mem, mem-get_or}
+use Rattle.order.specs.Order.{Less, dictionary}
+use Rattle.order.proofs.Order.{less-irrefl}
+use Rattle.order.proofs.Perm.{pairwise-at}
+use Rattle.order.specs.Test.{by-test, left}
+use Rattle.order.proofs.Test.{right}
+use Rattle.frontier.proofs.Ordered.{each-picks, picks-each, positions-rise}
+use Rattle.frontier.proofs.Walk.{positions-length, positions-mem}
 use Rattle.network.specs.Bytes.{bits_of, byte_at}
 use Rattle.network.specs.Survey.{layout_of, plain, row_where}
 use Rattle.network.specs.PlanList.{join}

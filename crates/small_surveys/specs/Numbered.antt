@@ -6,9 +6,10 @@ use Rattle.std.proofs.Common.{sym, ap₂, subst, ◌∙◌, div-lt_iff_lt-mul, m
 use Rattle.std.proofs.Math.Path.{ap}
 use Rattle.std.proofs.Math.Nat.{add-mul-div_right, add-mul-mod_self_right, mod-add-div', mod-one}
 use native.Mathlib.Omega.{arith}
-use Rattle.frontier.specs.Frontier.{Picks, picks-length, positions, product}
-use Rattle.frontier.specs.Ordered.{positions-at, positions-pick}
-use Rattle.frontier.specs.Places.{pick-picks, places-range}
+use Rattle.frontier.specs.Frontier.{Picks, positions, product}
+use Rattle.frontier.proofs.Frontier.{picks-length}
+use Rattle.frontier.proofs.Ordered.{positions-at, positions-pick}
+use Rattle.frontier.proofs.Places.{pick-picks, places-range}
 use Rattle.network.specs.PlanList.{join}
 use Rattle.network.specs.Survey.{plain, row_where}
 use Rattle.network.specs.Writing.{Link, layout_for, link_bytes, no_link, survey_at_front, yard_bytes}

@@ -4,7 +4,8 @@ use mathlib.Core.List.{List, [], foldl}
 use Rattle.std.proofs.Math.Path.{refl, ap}
 use Rattle.std.proofs.Common.{sym, ◌∙◌, subst, arith, length-take-le}
 use Rattle.order.specs.Test.{clash}
-use Rattle.order.specs.Lists.{◌∈◌, filter, filter-among, sublist-⊆}
+use Rattle.order.specs.Lists.{◌∈◌, filter}
+use Rattle.order.proofs.Lists.{filter-among, sublist-⊆}
 use Rattle.forest.specs.Groups.{apart}
 use Rattle.kruskal.specs.Base.{Based, Joinable, kept, kept-sublist}
 use Rattle.kruskal.specs.Basing.{joinable-near}

@@ -6,23 +6,29 @@ use mathlib.Core.List.{List, [], ◌∷◌, Sublistᴰ}
 use Rattle.std.proofs.Math.Path.{sym, ap, fun_ext}
 use Rattle.std.proofs.Common.{◌∙◌, subst, arith}
 use borrow.Author.Tests.{not-false, not-true}
-use Rattle.order.specs.Test.{both, left, right}
-use Rattle.order.specs.Lists.{◌∈◌, ◌⊆◌, filter, filter-mem, mem-filter, numbers_from, sublist-⊆}
+use Rattle.order.specs.Test.{left}
+use Rattle.order.proofs.Test.{both, right}
+use Rattle.order.specs.Lists.{◌∈◌, ◌⊆◌, filter, numbers_from}
+use Rattle.order.proofs.Lists.{filter-mem, mem-filter, sublist-⊆}
 use Rattle.order.specs.Order.{orderℕ, orderℤ, pairs}
-use Rattle.order.specs.Perm.{pairwise-filter, pairwise-imp, pairwise-sublist}
-use Rattle.order.specs.Sorted.{Apart, Rising, mem-numbers, numbers-rising, rising-apart, sort-mem, sublist-rising}
+use Rattle.order.proofs.Perm.{pairwise-filter, pairwise-imp, pairwise-sublist}
+use Rattle.order.specs.Sorted.{Apart, Rising}
+use Rattle.order.proofs.Sorted.{mem-numbers, numbers-rising, rising-apart, sort-mem, sublist-rising}
 use Rattle.order.specs.Least.{ranked}
 use Rattle.spanning.specs.Labelling.{Labelling}
 use Rattle.spanning.specs.Tree.{identity}
-use Rattle.spanning.specs.Kruskal.{greedy-⊆, kruskal, kruskal-greedy}
+use Rattle.spanning.specs.Kruskal.{kruskal}
+use Rattle.spanning.proofs.Kruskal.{greedy-⊆, kruskal-greedy}
 use Rattle.spanning.specs.Best.{by_cost}
 use Rattle.kmax.specs.Ceilings.{Ceiling, admissible, exceptional}
 use Rattle.kmax.specs.Pattern.{lone}
 use Rattle.kmax.specs.Digits.{admits, marked}
 use Rattle.planning.specs.Graph.{IsLink, exceptionals, links, normals, search_sets, under}
-use Rattle.planning.specs.Complete.{link-below, links-rising}
-use Rattle.planning.specs.Search.{EnoughSets, base, search-base, search-sets}
-use Rattle.planning.specs.Patterns.{KeptLink, has, keeps, kept-enough}
+use Rattle.planning.proofs.Complete.{link-below, links-rising}
+use Rattle.planning.specs.Search.{EnoughSets, base}
+use Rattle.planning.proofs.Search.{search-base, search-sets}
+use Rattle.planning.specs.Patterns.{KeptLink, has, keeps}
+use Rattle.planning.proofs.Patterns.{kept-enough}
 use Rattle.network.specs.Yard.{best, ends_at, graph, ranks, sum_at, tree_size, usable}
 use Rattle.network.specs.NetworkFine.{NetworkFine, graph-sound}
 use Rattle.network.specs.Network.{Network}

@@ -3,10 +3,12 @@ use Rattle.std.specs.Prelude.{Bool, List, [], ◌∷◌, ◌≡◌, refl}
 use mathlib.Core.List.Memᴰ.{head as here}
 use mathlib.Core.List.Memᴰ.{tail as there}
 use Rattle.order.specs.Test.{by-test}
-use Rattle.order.specs.Lists.{◌∈◌, filter, filter-mem, mem-filter}
-use Rattle.order.specs.Perm.{pairwise-filter}
+use Rattle.order.specs.Lists.{◌∈◌, filter}
+use Rattle.order.proofs.Lists.{filter-mem, mem-filter}
+use Rattle.order.proofs.Perm.{pairwise-filter}
 use Rattle.order.specs.Order.{Less, TotalOrder}
-use Rattle.order.specs.Sorted.{Apart, mem-sort, rising-unique, sort, sort-mem, sort-rising}
+use Rattle.order.specs.Sorted.{Apart, sort}
+use Rattle.order.proofs.Sorted.{mem-sort, rising-unique, sort-mem, sort-rising}
 
 module _ {A : Type 0} where
   pub filter-ext : (p q : A → Bool) (l : List A) → ((x : A) → x ∈ l → p x ≡ q x) → filter p l ≡ filter q l

@@ -13,17 +13,21 @@ use Rattle.order.specs.Test.{by-test, clash}
 use Rattle.order.specs.Lists.{◌∈◌}
 use Rattle.order.specs.Perm as perm
 use Rattle.order.specs.Order.{dictionary, dictionary_le, orderℕ, orderℤ, pair_le, pairs}
-use Rattle.order.specs.Sorted.{Apart, ascending, sort-perm}
+use Rattle.order.specs.Sorted.{Apart, ascending}
+use Rattle.order.proofs.Sorted.{sort-perm}
 use Rattle.order.specs.Least.{ranked}
 use Rattle.spanning.specs.Labelling.{Labelling, crosses, merge}
 use Rattle.spanning.specs.Tree.{identity, is_forest}
-use Rattle.spanning.specs.Size.{is_forest-iff}
+use Rattle.spanning.proofs.Size.{is_forest-iff}
 use Rattle.spanning.specs.Kruskal.{kruskal}
-use Rattle.spanning.specs.Rising.{trichotomy}
-use Rattle.spanning.specs.Best.{forest-apart, whole, whole_below, whole-tree}
+use Rattle.spanning.proofs.Rising.{trichotomy}
+use Rattle.spanning.specs.Best.{whole}
+use Rattle.spanning.proofs.Best.{forest-apart, whole_below, whole-tree}
 use Rattle.kmax.specs.Ceilings.{admissible}
-use Rattle.kmax.specs.Search.{offer, search-snoc, search_in, try_one}
-use Rattle.planning.specs.Graph.{IsLink, by-weight, completed, search_sets, total, under}
+use Rattle.kmax.specs.Search.{offer, search_in, try_one}
+use Rattle.kmax.proofs.Search.{search-snoc}
+use Rattle.planning.specs.Graph.{IsLink, completed, search_sets, total, under}
+use Rattle.planning.proofs.Graph.{by-weight}
 use Rattle.network.specs.Capacities.{links_held}
 use Rattle.network.specs.Yard.{ends_at, graph, stations, sum_at, tree_size, usable}
 use Rattle.network.specs.NetworkFine.{NetworkFine, graph-sound}

@@ -6,8 +6,8 @@ use Rattle.std.proofs.Math.Path.{refl}
 use Rattle.std.proofs.Common.{sym, ap, ◌∙◌, arith}
 use Rattle.std.proofs.Math.Seq.{take-append_seam}
 use Rattle.order.specs.Test.{clash}
-use Rattle.spanning.specs.Listing.{is_listed-iff, listing-length}
-use Rattle.frontier.specs.Best.{best-some}
+use Rattle.spanning.proofs.Listing.{is_listed-iff, listing-length}
+use Rattle.frontier.proofs.Best.{best-some}
 use Rattle.network.specs.Yard.{best, ends as ends_of, stations, tree_size, usable, yard}
 use Rattle.network.specs.Calls.{apart, is_none, together, tree_with}
 use Rattle.network.specs.Meaning.{together-apart}

@@ -6,8 +6,9 @@ use Rattle.std.proofs.Math.Bool.{true, false}
 use Rattle.std.proofs.Math.Nat.{div-div-eq-div-mul, pow-zero, zero-div}
 use Rattle.std.proofs.Math.ListN.{length}
 use mir.Val.{bool_byte}
-use Rattle.order.specs.Lists.{filter, filter-append, numbers_from}
-use Rattle.order.specs.Sorted.{numbers_more}
+use Rattle.order.specs.Lists.{filter, numbers_from}
+use Rattle.order.proofs.Lists.{filter-append}
+use Rattle.order.proofs.Sorted.{numbers_more}
 use Rattle.network.specs.Resting.{all-counted, working-few}
 use Rattle.network.specs.Yard.{working, works}
 

@@ -10,9 +10,10 @@ use Rattle.std.proofs.Math.ListN.{get_or, length, length-map}
 use Rattle.std.proofs.Math.Seq.{get_or-take, length-take-le}
 use Rattle.std.specs.Int.{w16, w32}
 use Rattle.std.proofs.lemmas.Int.{to_z-of_z}
-use Rattle.order.specs.Lists.{get_or_default, get_or_map, numbers_from}
+use Rattle.order.specs.Lists.{numbers_from}
+use Rattle.order.proofs.Lists.{get_or_default, get_or_map}
 use Rattle.order.specs.Test.{by-test}
-use Rattle.order.specs.Sorted.{number_at, numbers-length}
+use Rattle.order.proofs.Sorted.{number_at, numbers-length}
 use Rattle.network.specs.Limits.{max_links}
 use Rattle.network.specs.Column.{column, column-at, column-length}
 use Rattle.network.specs.Checked.{first_refusal, first_found, first_more, ◌or_else◌}

@@ -9,7 +9,8 @@ use Rattle.std.proofs.Math.Seq.{drop-append-add, get_or-append-add, take_at}
 use Rattle.std.specs.Int.{w16, w32}
 use mir.ValLaws.{of_z_fits}
 use store.Seg.{eqb_same}
-use Rattle.order.specs.Lists.{get_or_map, map-mem, numbers_from}
+use Rattle.order.specs.Lists.{numbers_from}
+use Rattle.order.proofs.Lists.{get_or_map, map-mem}
 use Rattle.order.specs.Test.{by-test}
 use Rattle.network.specs.Bytes.{bits_of, byte_at, little_endian, mark_at, u32_at}
 use Rattle.network.specs.Limits.{max_links}

@@ -12,8 +12,9 @@ use Rattle.std.proofs.Math.Seq.{take_all}
 use borrow.Author.Tests.{eqb-true, not-false}
 use Rattle.std.specs.Int.{w16, w32}
 use Rattle.order.specs.Lists.{numbers_from}
-use Rattle.order.specs.Sorted.{numbers-length}
-use Rattle.order.specs.Test.{by-test, left, right}
+use Rattle.order.proofs.Sorted.{numbers-length}
+use Rattle.order.specs.Test.{by-test, left}
+use Rattle.order.proofs.Test.{right}
 use Rattle.network.specs.Bytes.{byte_at, little_endian, mark_at, signed}
 use Rattle.network.specs.Survey.{count_in, has_count, layout_of, link_count, link_start}
 use Rattle.network.specs.PlanList.{join}

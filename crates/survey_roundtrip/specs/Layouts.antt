@@ -2,7 +2,8 @@
 use Rattle.std.specs.Prelude.{Bool, true, false, cond, not, List, ◌≡◌, refl, ℕ, ◌+◌, ◌≤◌, length, eqb}
 use Rattle.std.proofs.Common.{⊎_elim, inl, inr, sym, ap, arith, eqb-true, ne_eqb}
 use Rattle.std.proofs.lemmas.Bool.{not-false}
-use Rattle.order.specs.Every.{◌▸◌, done, every}
+use Rattle.order.specs.Every.{◌▸◌, done}
+use Rattle.order.proofs.Every.{every}
 use Rattle.order.specs.Test.{clash}
 use Rattle.network.specs.Survey.{has_count, layout_of, link_size, narrow_slots, plain, rest_in, row_where, triple, with_count, with_rest, yard_size}
 use Rattle.network.specs.Layouts.{layout-has, row_has}

@@ -7,8 +7,9 @@ use Rattle.std.proofs.Common.{◌∙◌, arith}
 use Prim.Native.Nat.{ℕ, zero, suc, ◌*◌, ◌/◌, ◌%◌, ◌≤◌, ◌<◌}
 use Rattle.std.proofs.Math.Nat.{zero-add}
 use Rattle.std.proofs.Math.ListN.{get_or, length-map, take}
-use Rattle.order.specs.Lists.{get_or_map, numbers_from}
-use Rattle.order.specs.Sorted.{number_at, numbers-length}
+use Rattle.order.specs.Lists.{numbers_from}
+use Rattle.order.proofs.Lists.{get_or_map}
+use Rattle.order.proofs.Sorted.{number_at, numbers-length}
 use Rattle.network.specs.Tabulate.{tabulate, tabulate-at, tabulate-same}
 use Rattle.network.specs.Survey.{ceiling_in, ceilings_in, cost_in, costs_in, end_in, ends_in, layout_of, link_count, link_start, narrow_slots, network_of}
 use Rattle.network.specs.Survey.{network_with, raised, ranks_in, sums_in}

@@ -5,7 +5,8 @@ use mathlib.Core.List.Memᴰ.{tail as there}
 use Rattle.std.proofs.Common.{suc-mul, add-one, drop_of_length-le, drop-cons}
 use native.Mathlib.Omega.{arith}
 use Rattle.std.proofs.Math.IntN.{sub_ℕ}
-use Rattle.order.specs.Lists.{◌∈◌, get_or-mem}
+use Rattle.order.specs.Lists.{◌∈◌}
+use Rattle.order.proofs.Lists.{get_or-mem}
 use Rattle.order.specs.Perm.{sum}
 use Rattle.network.specs.Capacities.{raise}
 use Rattle.network.specs.Yard.{sum_at}

@@ -8,7 +8,7 @@ use Rattle.std.proofs.Math.IntN.{ℤ}
 use Rattle.std.proofs.Math.ListN.{length}
 use Rattle.std.proofs.lemmas.List.{length-map}
 use Rattle.std.proofs.Math.Seq.{ext_get_or, get_or-take, length-take-le}
-use Rattle.order.specs.Lists.{get_or_map}
+use Rattle.order.proofs.Lists.{get_or_map}
 use Rattle.order.specs.Order.{orderℤ}
 use Rattle.kmax.specs.KMax.{kmax}
 use Rattle.network.specs.Capacities.{tree_held}

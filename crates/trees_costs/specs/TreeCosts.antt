@@ -7,14 +7,17 @@ use Rattle.std.proofs.Math.Nat.{mul-le-mul_right, zero-add}
 use native.Mathlib.Omega.{arith}
 use borrow.Author.Tests.{eqb-true, ltb-false, ltb-true}
 use Rattle.std.proofs.Math.IntN.{ℤ}
-use Rattle.order.specs.Test.{by-test, left, right}
-use Rattle.order.specs.Lists.{all, get_or-mem}
+use Rattle.order.specs.Test.{by-test, left}
+use Rattle.order.proofs.Test.{right}
+use Rattle.order.specs.Lists.{all}
+use Rattle.order.proofs.Lists.{get_or-mem}
 use Rattle.order.specs.Order.{orderℤ}
-use Rattle.order.specs.Lowered.{sum-lowered}
+use Rattle.order.proofs.Lowered.{sum-lowered}
 use Rattle.kmax.specs.KMax.{kmax}
 use Rattle.planning.specs.Graph.{Graph, costs_from}
 use Rattle.spanning.specs.Tree as tree
-use Rattle.spanning.specs.Rising.{is_rising_in, is_rising_in-iff, rising-range}
+use Rattle.spanning.specs.Rising.{is_rising_in}
+use Rattle.spanning.proofs.Rising.{is_rising_in-iff, rising-range}
 use Rattle.spanning.specs.Listing.{is_listed}
 use Rattle.network.specs.Capacities.{ceilings_held, links_held, raise, sum_held, tree_held}
 use Rattle.network.specs.Column.{column, column-at, column-length, column-more, column-none, column-past}

@@ -7,16 +7,19 @@ use Rattle.std.proofs.Math.Bool.{and-false}
 use mathlib.Core.List.{List, [], ◌∷◌, map}
 use Rattle.std.proofs.Math.Numerals.{add-one}
 use Rattle.std.proofs.lemmas.List.{length-map}
-use Rattle.order.specs.Test.{by-test, test_iff}
-use Rattle.order.specs.Lists.{all, all-mem}
+use Rattle.order.specs.Test.{by-test}
+use Rattle.order.proofs.Test.{test_iff}
+use Rattle.order.specs.Lists.{all}
+use Rattle.order.proofs.Lists.{all-mem}
 use Rattle.order.specs.Sorted.{Apart}
 use Rattle.spanning.specs.Labelling.{Edge, crosses}
 use Rattle.spanning.specs.LabelList.{label_of}
 use Rattle.spanning.specs.Tree.{AllWithin, EndsBelow, Within, identity, is_forest, is_tree}
-use Rattle.spanning.specs.Size.{is_forest-iff, is_tree-iff}
-use Rattle.spanning.specs.Count.{forest-spans}
-use Rattle.spanning.specs.Rising.{is_rising_in, is_rising_in-iff, rising-range}
-use Rattle.spanning.specs.Best.{edges-within}
+use Rattle.spanning.proofs.Size.{is_forest-iff, is_tree-iff}
+use Rattle.spanning.proofs.Count.{forest-spans}
+use Rattle.spanning.specs.Rising.{is_rising_in}
+use Rattle.spanning.proofs.Rising.{is_rising_in-iff, rising-range}
+use Rattle.spanning.proofs.Best.{edges-within}
 use Rattle.spanning.specs.Listing.{is_listed}
 use Rattle.forest.specs.Groups.{Led, apart, apart-labels, apart-led, joined-labels}
 use Rattle.network.specs.Capacities.{stations_held}

@@ -7,12 +7,14 @@ use Rattle.std.proofs.Math.Option.{Option, none, some}
 use Rattle.std.proofs.Math.Path.{refl, sym, ap}
 use Rattle.std.proofs.Math.ListN.{drop, length, take}
 use Rattle.std.proofs.Math.Seq.{take-suc}
-use Rattle.order.specs.Lists.{◌∈◌, map_some-append, map_some-mem, prepend}
-use Rattle.frontier.specs.Best.{best-some}
-use Rattle.frontier.specs.Dominance.{le_all, le_all-tail, le_all-trans}
+use Rattle.order.specs.Lists.{◌∈◌, prepend}
+use Rattle.order.proofs.Lists.{map_some-append, map_some-mem}
+use Rattle.frontier.proofs.Best.{best-some}
+use Rattle.frontier.specs.Dominance.{le_all}
+use Rattle.frontier.proofs.Dominance.{le_all-tail, le_all-trans}
 use Rattle.frontier.specs.Frontier.{Entry, Problem, answers, best, collect, covered, insert_plan, positions, solve, solved, vector, visit, walk}
-use Rattle.frontier.specs.Plans.{collect-append}
-use Rattle.frontier.specs.Walk.{walk-grows, walk-member}
+use Rattle.frontier.proofs.Plans.{collect-append}
+use Rattle.frontier.proofs.Walk.{walk-grows, walk-member}
 
 module _ {C S : Type 0} (P : Problem C S) where
   open P use {order, objective, ceilings, values}

@@ -6,11 +6,13 @@ use Rattle.std.proofs.Math.Option.{Option, none, some}
 use Rattle.std.proofs.Math.Path.{subst⁻¹}
 use Rattle.std.proofs.lemmas.List.{get_or-replicate}
 use Rattle.order.specs.Test.{by-test}
-use Rattle.order.specs.Lists.{◌∈◌, any_snoc}
+use Rattle.order.specs.Lists.{◌∈◌}
+use Rattle.order.proofs.Lists.{any_snoc}
 use Rattle.frontier.specs.Frontier.{Entry, answers, collect, covered, covers, solve}
-use Rattle.frontier.specs.Plans.{Front, collect-front, collect-member}
-use Rattle.frontier.specs.Walk.{positions-length}
-use Rattle.planning.specs.Grid.{walk-lists}
+use Rattle.frontier.specs.Plans.{Front}
+use Rattle.frontier.proofs.Plans.{collect-front, collect-member}
+use Rattle.frontier.proofs.Walk.{positions-length}
+use Rattle.planning.proofs.Grid.{walk-lists}
 use Rattle.network.specs.Capacities.{ceilings_held}
 use Rattle.network.specs.Resting.{working-few}
 use Rattle.network.specs.Survey.{narrow_slots}

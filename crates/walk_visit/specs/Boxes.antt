@@ -11,11 +11,13 @@ use borrow.Author.Tests.{leb-true}
 use Rattle.std.proofs.Math.ListN.{get_or, length, take}
 use Rattle.std.proofs.lemmas.List.{length-map}
 use Rattle.std.proofs.Math.Seq.{get_or-drop, get_or-take}
-use Rattle.order.specs.Lists.{get_or_map}
+use Rattle.order.proofs.Lists.{get_or_map}
 use Rattle.order.specs.Order.{orderℕ, orderℤ}
-use Rattle.frontier.specs.Dominance.{le_all, le_all-head, le_all-tail}
+use Rattle.frontier.specs.Dominance.{le_all}
+use Rattle.frontier.proofs.Dominance.{le_all-head, le_all-tail}
 use Rattle.frontier.specs.Frontier.{Picks, picks-cons, picks-nil, product}
-use Rattle.frontier.specs.Places.{AllFalling, InRange, all_cons, all_nil, in-cons, in-nil, number, number_lt, pick}
+use Rattle.frontier.specs.Places.{AllFalling, InRange, all_cons, all_nil, in-cons, in-nil, number, pick}
+use Rattle.frontier.proofs.Places.{number_lt}
 use Rattle.network.specs.Tabulate.{tabulate, tabulate-first, tabulate-none, tabulate-same}
 use Rattle.marking.specs.Place.{place-from, place_in, places_of}
 use Rattle.marking.specs.Paint.{Run, run}

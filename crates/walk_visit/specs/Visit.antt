@@ -6,15 +6,17 @@ use Rattle.std.proofs.Math.Path.{refl, ap₂, subst}
 use Rattle.std.proofs.Common.{sym, ap, ◌∙◌, arith, take_at}
 use Prim.Native.Nat.{ℕ, ◌*◌, ◌≤◌, ◌<◌}
 use Rattle.std.proofs.lemmas.List.{length-map}
-use Rattle.order.specs.Lists.{get_or_map}
+use Rattle.order.proofs.Lists.{get_or_map}
 use Rattle.order.specs.Order.{orderℕ, orderℤ}
-use Rattle.frontier.specs.Best.{best-some}
+use Rattle.frontier.proofs.Best.{best-some}
 use Rattle.frontier.specs.Dominance.{le_all}
-use Rattle.frontier.specs.Frontier.{Picks, picks-length}
+use Rattle.frontier.specs.Frontier.{Picks}
+use Rattle.frontier.proofs.Frontier.{picks-length}
 use Rattle.frontier.specs.Places as by
-use Rattle.frontier.specs.Places.{AllFalling, InRange, pick, places-number, places-range}
+use Rattle.frontier.specs.Places.{AllFalling, InRange, pick}
+use Rattle.frontier.proofs.Places.{places-number, places-range}
 use Rattle.planning.specs.Graph.{Sound}
-use Rattle.planning.specs.Grid.{all-fall, on-grid}
+use Rattle.planning.proofs.Grid.{all-fall, on-grid}
 use Rattle.network.specs.Yard.{best, ceiling_costs, graph, usable_at, yard}
 use Rattle.network.specs.Walk.{position_count, positions, values}
 use Rattle.network.specs.PlanList.{costs_of}

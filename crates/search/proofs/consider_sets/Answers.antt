@@ -4,7 +4,7 @@ use mathlib.Core.List.{[], ◌∷◌}
 use mathlib.Core.Path.{◌≡◌, refl, sym, subst}
 use native.Mathlib.Omega.{arith}
 use lib.ListN.{get_or, length}
-use Rattle.order.specs.Lists.{get_or-mem}
+use Rattle.order.proofs.Lists.{get_or-mem}
 use Rattle.search_trials.specs.Marks.{Flagged}
 use Rattle.search_trials.specs.Rest.{from_place}
 use Rattle.search_trials.specs.Search.{tried}

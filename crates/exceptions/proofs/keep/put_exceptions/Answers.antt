@@ -2,8 +2,8 @@ use Prim.Native.Nat.{ℕ, ◌≤◌, ◌<◌}
 use mathlib.Core.Path.{refl, ◌∙◌}
 use native.Mathlib.Omega.{arith}
 use lib.ListN.{get_or, length, length-set}
-use Rattle.order.specs.Test.{both}
-use Rattle.order.specs.Lists.{get_or-mem}
+use Rattle.order.proofs.Test.{both}
+use Rattle.order.proofs.Lists.{get_or-mem}
 use Rattle.spanning.specs.Tree.{EndsBelow}
 use Rattle.network.specs.Capacities.{patterns_held, stations_held}
 use Rattle.network.specs.Yard.{ends_at}

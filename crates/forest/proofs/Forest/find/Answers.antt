@@ -4,7 +4,7 @@ use mathlib.Core.Path.{◌≡◌}
 use native.Mathlib.Omega.{arith}
 use borrow.Author.Rules.{rules}
 use lib.ListN.{length}
-use Rattle.order.specs.Lists.{get_or_default}
+use Rattle.order.proofs.Lists.{get_or_default}
 use Rattle.network.specs.Capacities.{stations_held}
 use Rattle.forest.proofs.Forest.find.Goals as goal
 

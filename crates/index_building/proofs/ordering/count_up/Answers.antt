@@ -1,7 +1,8 @@
 use mathlib.Core.Path.{◌≡◌, refl, ap, ◌∙◌}
 use native.Mathlib.Omega.{arith}
 use lib.ListN.{length, length-set}
-use Rattle.order.specs.Columns.{tabled, tabled-end, tabled_start, tabled-turn}
+use Rattle.order.specs.Columns.{tabled}
+use Rattle.order.proofs.Columns.{tabled-end, tabled_start, tabled-turn}
 use Rattle.index_building.proofs.ordering.count_up.Goals as goal
 
 pub loop-r-init : goal.loop-r-init

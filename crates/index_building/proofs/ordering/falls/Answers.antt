@@ -1,6 +1,6 @@
 use mathlib.Core.Path.{refl, sym, ◌∙◌}
 use native.Mathlib.Omega.{arith}
-use Rattle.order.specs.Columns.{falling-again, falling-end, falling-stops}
+use Rattle.order.proofs.Columns.{falling-again, falling-end, falling-stops}
 use Rattle.index_building.proofs.ordering.falls.Goals as goal
 
 pub loop-at-init : goal.loop-at-init

@@ -1,6 +1,7 @@
 -- `index_building::ordering::order_numbers` meets its contract.
 use Rattle.std.proofs.Common.{ℕ, ◌-◌, sym, ap, ◌∙◌, arith}
-use Rattle.order.specs.Columns.{falling-places, sorted-places, tabled}
+use Rattle.order.specs.Columns.{tabled}
+use Rattle.order.proofs.Columns.{falling-places, sorted-places}
 use Rattle.index_building.proofs.ordering.order_numbers.Goals as goal
 
 pub returns-then-falls : goal.returns-then-falls

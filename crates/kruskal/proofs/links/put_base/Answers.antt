@@ -5,7 +5,7 @@ use mathlib.Core.Path.{◌≡◌, refl, ap, ◌∙◌}
 use native.Mathlib.Omega.{arith}
 use borrow.Author.Rules.{rules}
 use lib.ListN.{length, length-set, get_or}
-use Rattle.order.specs.Lists.{get_or-mem}
+use Rattle.order.proofs.Lists.{get_or-mem}
 use Rattle.spanning.specs.Labelling.{Edge, crosses}
 use Rattle.spanning.specs.LabelList.{label_of}
 use Rattle.spanning.specs.Tree.{EndsBelow}

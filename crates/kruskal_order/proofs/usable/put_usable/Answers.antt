@@ -2,7 +2,7 @@ use Prim.Native.Nat.{◌<◌}
 use mathlib.Core.Path.{refl}
 use native.Mathlib.Omega.{arith}
 use lib.ListN.{length-set, get_or}
-use Rattle.order.specs.Lists.{get_or-mem}
+use Rattle.order.proofs.Lists.{get_or-mem}
 use Rattle.network.specs.Capacities.{links_held}
 use Rattle.kruskal_order.specs.Collect.{collect-end, collect-room, collect-start, collect-turn, one_at_most}
 use Rattle.kruskal_order.specs.Usable.{usable_of}

@@ -2,7 +2,7 @@ use Prim.Native.Nat.{◌≤◌, ◌<◌}
 use mathlib.Core.Path.{refl, ap, sym, ◌∙◌}
 use native.Mathlib.Omega.{arith}
 use lib.ListN.{get_or, length}
-use Rattle.order.specs.Lists.{get_or-mem}
+use Rattle.order.proofs.Lists.{get_or-mem}
 use Rattle.network.specs.Capacities.{links_held}
 use Rattle.search_trials.specs.Flags.{flags-length}
 use Rattle.search_trials.specs.Marks.{without_end, without-start, without-turn}

@@ -1,7 +1,7 @@
 use Prim.Native.Nat.{◌<◌}
 use mathlib.Core.Path.{sym, ◌∙◌}
 use native.Mathlib.Omega.{arith}
-use Rattle.spanning.specs.Places.{from_end, from_found, from_next, from_start}
+use Rattle.spanning.proofs.Places.{from_end, from_found, from_next, from_start}
 use Rattle.search_trials.specs.Rows.{joined-apart, joined-here}
 use Rattle.search_trials.proofs.trials.place_joined.Goals as goal
 

@@ -1,7 +1,7 @@
 -- `survey_writing::padding::end_at` meets its contract. Past the end stands the default.
 use mathlib.Core.Path.{sym}
 use lib.ListN.{get_or-eq_default}
-use Rattle.order.specs.Lists.{get_or_default}
+use Rattle.order.proofs.Lists.{get_or_default}
 use Rattle.network.specs.Writing.{no_station}
 use Rattle.survey_writing.proofs.padding.end_at.Goals as goal
 

@@ -7,7 +7,7 @@ use lib.IntN.{pos, ◌*ℤ◌, ◌-ℤ◌}
 use mir.Syntax.{w32}
 use mir.Val.{SFits, hbits, of_z, to_z}
 use mir.ValLaws.{to_z-of_z, to_z_pos}
-use Rattle.order.specs.Lowered.{sub-integers, sub_small}
+use Rattle.order.proofs.Lowered.{sub-integers, sub_small}
 use Rattle.network.specs.Capacities.{raise}
 use Rattle.trees_costs.specs.Added.{lowered_sum}
 use Rattle.trees_costs.proofs.sums.lowered.Goals as goal

@@ -6,17 +6,21 @@ use Rattle.std.specs.Prelude.{List, [], ◌∷◌, map, ◌≡◌, refl, ℕ, su
 use Rattle.std.proofs.Math.Option.{some}
 use Rattle.std.proofs.Common.{sym, ap, ◌∙◌, arith}
 use Rattle.std.proofs.lemmas.List.{length-map}
-use Rattle.order.specs.Lists.{◌∈◌, count-le-length, distinct, distinct-few, first-distinct, first-exists, first-mem}
-use Rattle.order.specs.Lists.{length-filter, map-mem, mem-filter, numbers_from}
-use Rattle.order.specs.Perm.{perm-length}
-use Rattle.order.specs.Order.{TotalOrder, equal, equal-refl, equal→≡, orderℤ, reverse, ≡→equal}
-use Rattle.order.specs.Sorted.{distinct_apart, mem-numbers, mem-sort, numbers-length, sort-perm, sort-rising}
-use Rattle.spanning.specs.Rising.{rising-range}
-use Rattle.spanning.specs.Listing.{listing-iff, listing-length}
+use Rattle.order.specs.Lists.{◌∈◌, distinct}
+use Rattle.order.proofs.Lists.{count-le-length, distinct-few, first-distinct, first-exists, first-mem}
+use Rattle.order.specs.Lists.{numbers_from}
+use Rattle.order.proofs.Lists.{length-filter, map-mem, mem-filter}
+use Rattle.order.proofs.Perm.{perm-length}
+use Rattle.order.specs.Order.{TotalOrder, equal, orderℤ, reverse}
+use Rattle.order.proofs.Order.{equal-refl, equal→≡, ≡→equal}
+use Rattle.order.proofs.Sorted.{distinct_apart, mem-numbers, mem-sort, numbers-length, sort-perm, sort-rising}
+use Rattle.spanning.proofs.Rising.{rising-range}
+use Rattle.spanning.proofs.Listing.{listing-iff, listing-length}
 use Rattle.frontier.specs.Frontier.{OnGrid, Picks, listed, picks-cons, picks-nil, plans}
-use Rattle.frontier.specs.Plans.{plans-listed}
+use Rattle.frontier.proofs.Plans.{plans-listed}
 use Rattle.frontier.specs.Places.{AllFalling, Falling, all_cons, all_nil}
-use Rattle.kmax.specs.KMax.{kmax, kmax-mem}
+use Rattle.kmax.specs.KMax.{kmax}
+use Rattle.kmax.proofs.KMax.{kmax-mem}
 use Rattle.planning.specs.Graph.{Graph, IsLink, Sound, costs_from, links, problem, values_at, values_from}
 
 -- a member is among the different ones, where the test decides equality

@@ -5,12 +5,15 @@ use mathlib.Core.List.Memᴰ.{head as here}
 use Rattle.std.specs.Prelude.{List, [], ◌∷◌, map, ◌≡◌, refl, ℕ, zero, suc, ◌<◌, ◌/◌, ◌%◌, get_or, length, replicate}
 use mathlib.Core.List.Memᴰ.{tail as there}
 use Rattle.std.proofs.Common.{⊎_elim, sym, ap, ◌∙◌, mod-lt}
-use Rattle.order.specs.Lists.{◌∈◌, map-mem}
-use Rattle.order.specs.Order.{Less, TotalOrder, dictionary, less-first, less-rest}
-use Rattle.order.specs.Perm.{pairwise_append, pairwise-imp, pairwise_map}
+use Rattle.order.specs.Lists.{◌∈◌}
+use Rattle.order.proofs.Lists.{map-mem}
+use Rattle.order.specs.Order.{Less, TotalOrder, dictionary}
+use Rattle.order.proofs.Order.{less-first, less-rest}
+use Rattle.order.proofs.Perm.{pairwise_append, pairwise-imp, pairwise_map}
 use Rattle.order.specs.Sorted.{Rising}
 use Rattle.frontier.specs.Frontier.{Picks, picks-cons, picks-nil, positions, prefix_each, product}
-use Rattle.frontier.specs.Places.{factor-pos, pick, places, places-number, places-range, positions-number}
+use Rattle.frontier.specs.Places.{pick, places}
+use Rattle.frontier.proofs.Places.{factor-pos, places-number, places-range, positions-number}
 
 -- ---- by numbers
 

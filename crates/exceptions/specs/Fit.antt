@@ -3,7 +3,8 @@ use Rattle.std.specs.Prelude.{ℕ, ◌<◌, Bool, false, ◌&&◌, List, [], ◌
 use Rattle.std.proofs.Common.{le_refl}
 use Rattle.kmax.specs.Digits.{admits, marked}
 use Rattle.network.specs.Capacities.{patterns_held}
-use Rattle.network.specs.Column.{column, column-at}
+use Rattle.network.specs.Column.{column}
+use Rattle.network.proofs.Column.{column-at}
 
 -- for each pattern, whether links of it may be exceptions
 unfoldable pub fit_of : List ℕ → List Bool

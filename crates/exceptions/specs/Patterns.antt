@@ -15,7 +15,8 @@ use Rattle.kmax.specs.KMax.{above}
 use Rattle.kmax.specs.Ceilings.{ceilings}
 use Rattle.kmax.specs.Digits.{admits, flag, pattern}
 use Rattle.network.specs.Capacities.{ceilings_held}
-use Rattle.network.specs.Tabulate.{tabulate, tabulate-at, tabulate-length, tabulate-none, tabulate-turn}
+use Rattle.network.specs.Tabulate.{tabulate}
+use Rattle.network.proofs.Tabulate.{tabulate-at, tabulate-length, tabulate-none, tabulate-turn}
 use Rattle.network.specs.Yard.{ceiling_part, cost_at}
 
 -- the pattern of link e

@@ -17,7 +17,7 @@ use Rattle.order.proofs.Test.{test_iff}
 use Rattle.order.specs.Order.{dictionary_le, orderℕ, orderℤ, pair_le, tie_break}
 use Rattle.network.specs.Bytes.{bits_of, byte_at, i16_at, i32_at, signed, u16_at, u32_at}
 use Rattle.network.specs.Capacities.{ceilings_held}
-use Rattle.network.specs.Tabulate.{tabulate-at}
+use Rattle.network.proofs.Tabulate.{tabulate-at}
 use Rattle.network.specs.Survey.{narrow_slots}
 use Rattle.network.specs.PlanList.{costs_at, plan_ceiling}
 use Rattle.network.specs.Fetching.{head_ceilings, head_slots, plan_start}

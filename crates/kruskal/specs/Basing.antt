@@ -9,6 +9,7 @@ use Rattle.std.proofs.lemmas.List.{length-map, take-append-le}
 use Rattle.std.proofs.Math.Seq.{length-take-le}
 use Rattle.order.proofs.Lists.{get_or-mem, length-nil, map-mem, sublist-⊆}
 use Rattle.order.specs.Perm as perm
+use Rattle.order.proofs.Perm as perm_laws
 use Rattle.spanning.specs.Labelling.{Edge, Labelling, crosses}
 use Rattle.spanning.specs.LabelList.{label_of}
 use Rattle.spanning.specs.Tree.{AllWithin, Forest as Ringless, Within, identity}
@@ -160,7 +161,7 @@ module _ (ends sums links : List ℕ) where
             whole = rw e (collect-taken ends links f base _ count at b.whole h (omega arith) c);
             led = rw e (joined-led f (ends_at ends x).a (ends_at ends x).b b.led near.0 near.1);
             groups = rw more joins;
-            total = rw more (let t = b.total in omega (arith, perm.sum-append (sum_at sums) (take count base) (x ∷ [])));
+            total = rw more (let t = b.total in omega (arith, perm_laws.sum-append (sum_at sums) (take count base) (x ∷ [])));
             light = omega arith;
             rows = rw (w, more) (rw own at rows);
             fewer = omega arith;

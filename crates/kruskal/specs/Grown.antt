@@ -10,6 +10,7 @@ use Rattle.std.proofs.Math.Seq.{append_snoc}
 use Rattle.order.specs.Test.{by-test}
 use Rattle.order.specs.Lists.{◌∈◌}
 use Rattle.order.specs.Perm as perm
+use Rattle.order.proofs.Perm as perm_laws
 use Rattle.spanning.specs.Labelling.{Labelling, crosses, merge}
 use Rattle.spanning.specs.LabelList.{label_of}
 use Rattle.spanning.specs.Tree.{EndsBelow, identity, merge_all}
@@ -62,7 +63,7 @@ module _ (ends sums : List ℕ) where
             ∙ ap (λ (L : Labelling). merge L (ends_at ends e)) h.labels
             ∙ sym (ap (merge_all identity) (map-append (ends_at ends) ts (e ∷ [])) ∙ merge_all-append identity (map (ends_at ends) ts) (ends_at ends e ∷ []));
         flags = ap (λ (f : List Bool). with_flag f e) h.flags ∙ sym (foldl-append with_flag (replicate links_held false) ts (e ∷ []));
-        total = let s = h.total in omega (arith, perm.sum-append (sum_at sums) ts (e ∷ []));
+        total = let s = h.total in omega (arith, perm_laws.sum-append (sum_at sums) ts (e ∷ []));
         size = let s = h.size in omega (arith, length-append ts (e ∷ []));
       }
 

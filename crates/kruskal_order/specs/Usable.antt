@@ -7,7 +7,7 @@ use Rattle.order.proofs.Lists.{filter-all, filter-among, filter-mem, sublist-⊆
 use Rattle.order.proofs.Perm.{pairwise-sublist}
 use Rattle.order.specs.Sorted.{Apart}
 use Rattle.network.specs.Capacities.{links_held}
-use Rattle.network.specs.Resting.{all-usable}
+use Rattle.network.proofs.Resting.{all-usable}
 use Rattle.network.specs.Yard.{ends_at, usable_at}
 use Rattle.kruskal_order.specs.ByCost.{link_order, order-apart, order_below}
 

@@ -9,7 +9,8 @@ use Rattle.frontier.specs.Places.{places}
 use Rattle.planning.specs.Graph.{Graph, values_at, values_from}
 use Rattle.network.specs.Capacities.{ceilings_held, links_held}
 use Rattle.network.specs.Network.{Network}
-use Rattle.network.specs.Tabulate.{tabulate, tabulate-at, tabulate-length}
+use Rattle.network.specs.Tabulate.{tabulate}
+use Rattle.network.proofs.Tabulate.{tabulate-at, tabulate-length}
 use Rattle.network.specs.Walk.{values}
 use Rattle.network.specs.Yard.{graph, usable}
 use Rattle.marking.specs.Values.{falling-values}

@@ -1,7 +1,6 @@
 -- What callers rely on in an index and in a lookup. The contract of building has `IndexPromised`, that of a lookup `LookupPromised`.
-use Rattle.std.specs.Prelude.{true, false, List, ◌⊎◌, ◌≡◌, ℕ, ◌≤◌, ◌<◌, eqb, ℤ, pos, get_or, length}
-use Rattle.std.proofs.Common.{ap, arith}
-use Rattle.std.specs.Int.Signed.{le_z, mag}
+use Rattle.std.specs.Prelude.{true, false, List, ◌⊎◌, ◌≡◌, ℕ, ◌≤◌, ◌<◌, eqb, ℤ, length}
+use Rattle.std.specs.Int.Signed.{le_z}
 use Rattle.order.specs.Lists.{◌∈◌, count}
 use Rattle.order.specs.Order.{dictionary, orderℤ}
 use Rattle.order.specs.Sorted.{Rising}
@@ -9,8 +8,7 @@ use Rattle.network.specs.Calls.{Reply}
 use Rattle.network.specs.Fetching.{head_count}
 use Rattle.network.specs.Indexing.{declined, entries_from, index_after, index_key, index_need, meets, plan_sum, says_found}
 use Rattle.network.specs.Promise.{Archived}
-use Rattle.network.specs.declared.Found.{Found}
-use Rattle.network.specs.declared.Found.TheVariants.{Plan, Refused as Found-as-Refused}
+use Rattle.network.specs.declared.Found.TheVariants.{Plan}
 use Rattle.network.specs.declared.Status.{Status}
 
 -- numbers that are the plan numbers of a list, each once, in the rising order of what plans stand by
@@ -48,14 +46,3 @@ pub record LookupPromised (list index : List ℕ) (y : ℤ) (reply : Reply) : Ty
   -- on a list that a list call made, with what building left in a buffer of 2 bytes a plan or more, the reply is a plan or 13
   pub answers : (s buffer : List ℕ) → Archived s list → index_need list ≤ length buffer → index ≡ index_after list buffer
       → ((r : ℕ) × (reply ≡ says_found (Plan r))) ⊎ (reply ≡ says_found (declined 13))
-
--- `says_found` is one-to-one: no two cases of the enum say the same
-pub found-once : (a b : Found) → says_found a ≡ says_found b → a ≡ b
-unfolding says_found
-found-once (Plan r) (Plan q) e = ap Plan (ap (λ (a : Reply). mag (get_or a.values 0 (pos 0))) e)
-found-once (Found-as-Refused r) (Found-as-Refused q) e =
-    let number = ap (λ (a : Reply). a.number) e in
-    let place = ap (λ (a : Reply). a.place) e in
-    λ i. Found-as-Refused (record { number = number i; place = place i })
-found-once (Plan r) (Found-as-Refused q) e = let z : ◌≡◌ {A = ℕ} 1 0 = ap (λ (a : Reply). length a.values) e in absurd (omega arith)
-found-once (Found-as-Refused r) (Plan q) e = let z : ◌≡◌ {A = ℕ} 0 1 = ap (λ (a : Reply). length a.values) e in absurd (omega arith)

@@ -31,14 +31,9 @@ pub mod Printing
 pub mod WorkedYards
 pub mod Worked
 pub mod WorkedRight
--- theorems: which stations work, what the definitions mean, what holds of a survey's layout, of an accepted survey's bytes, of its costs and of its
--- network
-pub mod Resting
 pub mod Meaning
 pub mod Layouts
 pub mod Accepted
-pub mod Sums
-pub mod Costs
 pub mod NetworkFine
 -- the network of a shape and its columns
 pub mod Shaped
@@ -55,5 +50,3 @@ pub mod Promise
 pub mod IndexPromise
 pub mod WritingPromise
 pub mod SmallPromise
--- the stations at rest, byte by byte
-pub mod RestBits

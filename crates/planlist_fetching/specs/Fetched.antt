@@ -15,12 +15,12 @@ use Rattle.order.proofs.Lists.{get_or_map, get_or-mem, map-mem}
 use Rattle.network.specs.Capacities.{ceilings_held}
 use Rattle.network.specs.Limits.{max_ceilings, max_plans, max_tree}
 use Rattle.network.specs.Bytes.{bits_of, byte_at, little_endian, mark_at}
-use Rattle.network.specs.Tabulate.{tabulate-length}
+use Rattle.network.proofs.Tabulate.{tabulate-length}
 use Rattle.network.specs.PlanList.{ceiling_bytes, costs_at, costs_of, head_bytes, head_mark, head_size, join, list_bytes}
 use Rattle.network.specs.PlanList.{plan_bytes, plan_mark, plan_size, plan_slots, record_of}
 use Rattle.network.specs.Yard.{ceiling_costs, tree_size}
 use Rattle.network.specs.Walk.{plans, solved_count}
-use Rattle.network.specs.NetworkFine.{slots-few}
+use Rattle.network.proofs.NetworkFine.{slots-few}
 use Rattle.network.specs.Fetching.{head_count, damaged, fetch_links, fetch_number, fetch_start, head_slots, links_start, plan_start, head_tree_size}
 use Rattle.network.specs.declared.Costs.{Costs}
 use Rattle.network.specs.Network.{Network}

@@ -7,7 +7,7 @@ use borrow.Author.Tests.{ltb-false, ltb-true, lt-ltb, le-ltb}
 use Rattle.network.specs.Limits.{max_ceilings, max_plans, max_tree}
 use Rattle.network.specs.Bytes.{mark_at}
 use Rattle.network.specs.PlanList.{head_mark, head_size, plan_size}
-use Rattle.network.specs.Accepted.{or-false}
+use Rattle.network.proofs.Accepted.{or-false}
 use Rattle.network.specs.Fetching.{damaged, fetch_number, head_ceilings, head_count, head_slots, head_tree_size, is_marked, plan_start}
 
 -- a list with room for its head and for its plans, which are not too many

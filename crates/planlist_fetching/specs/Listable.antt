@@ -11,9 +11,10 @@ use Rattle.network.specs.Survey.{network_of}
 use Rattle.network.specs.PlanList.{costs_of, list_bytes, plan_slots}
 use Rattle.network.specs.Refusals.{checked_of}
 use Rattle.network.specs.Fetching.{head_count}
-use Rattle.network.specs.Meaning.{tree-size}
-use Rattle.network.specs.NetworkFine.{survey-fine, survey-limits, survey-sound, tree-limit}
-use Rattle.network.specs.Promise.{Reads, complete}
+use Rattle.network.proofs.Meaning.{tree-size}
+use Rattle.network.proofs.NetworkFine.{survey-fine, survey-limits, survey-sound, tree-limit}
+use Rattle.network.specs.Promise.{Reads}
+use Rattle.network.proofs.Promise.{complete}
 use Rattle.network.specs.declared.Checked.TheVariants.{Fine}
 use Rattle.planlist_records.specs.Held.{Writable}
 use Rattle.planlist_fetching.specs.Fetched.{listed-costs, listed-count, listed-links, listed-number}

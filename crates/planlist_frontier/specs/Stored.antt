@@ -17,7 +17,8 @@ use Rattle.frontier.specs.Frontier.{Problem, insert_plan, vector, vector_order}
 use Rattle.frontier.proofs.Plans.{collect-member}
 use Rattle.planning.specs.Graph.{Graph, costs_from}
 use Rattle.network.specs.Capacities.{ceilings_held}
-use Rattle.network.specs.Tabulate.{tabulate, tabulate-first, tabulate-none}
+use Rattle.network.specs.Tabulate.{tabulate}
+use Rattle.network.proofs.Tabulate.{tabulate-first, tabulate-none}
 use Rattle.network.specs.Yard.{ceiling_costs, graph, ranks, tree_sum, yard}
 use Rattle.network.specs.PlanList.{costs_at, costs_of}
 use Rattle.network.specs.Calls.{cost_values}

@@ -8,7 +8,8 @@ use Rattle.order.specs.Test.{by-test}
 use Rattle.network.specs.Bytes.{bits_of, byte_at, i16_at, i32_at, little_endian, signed, u16_at}
 use Rattle.network.specs.Capacities.{ceilings_held}
 use Rattle.network.specs.PlanList.{ceiling_bytes, costs_at, plan_bytes, plan_ceiling, plan_mark, plan_size, plan_sum_at}
-use Rattle.network.specs.Tabulate.{tabulate, tabulate-at, tabulate-length, tabulate-same}
+use Rattle.network.specs.Tabulate.{tabulate}
+use Rattle.network.proofs.Tabulate.{tabulate-at, tabulate-length, tabulate-same}
 use Rattle.network.specs.declared.Costs.{Costs}
 use Rattle.encoding.specs.SignedRoundTrip.{i16-bytes, i32-bytes}
 use Rattle.encoding.specs.Blocks.{blocks, blocks-turn}

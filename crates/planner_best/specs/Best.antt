@@ -9,7 +9,7 @@ use Rattle.network.specs.Checked.{refuse_if, ◌or_else◌}
 use Rattle.network.specs.Refusals.{checked_of}
 use Rattle.network.specs.Survey.{network_of}
 use Rattle.network.specs.Calls.{asked, asked_checked, best_tree, cost_values, if_fine, is_none, links_of, reply, says, tree_after, tree_with}
-use Rattle.network.specs.Meaning.{together-apart}
+use Rattle.network.proofs.Meaning.{together-apart}
 use Rattle.network.specs.declared.Answer.{Answer}
 use Rattle.network.specs.declared.Answer.TheVariants.{Refused as Answer-as-Refused}
 use Rattle.network.specs.declared.Checked.TheVariants.{Fine, Refused}

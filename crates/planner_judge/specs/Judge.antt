@@ -8,7 +8,7 @@ use Rattle.network.specs.PlanList.{costs_of}
 use Rattle.network.specs.Checked.{refuse_if, ◌or_else◌}
 use Rattle.network.specs.Refusals.{checked_of}
 use Rattle.network.specs.Calls.{apart, cost_values, drawn_checked, judged, reply, says, together}
-use Rattle.network.specs.Meaning.{together-apart}
+use Rattle.network.proofs.Meaning.{together-apart}
 use Rattle.network.specs.Survey.{network_of}
 use Rattle.network.specs.declared.Answer.TheVariants.{Plan, Refused as Answer-as-Refused}
 use Rattle.network.specs.declared.Checked.TheVariants.{Fine, Refused}

@@ -7,8 +7,9 @@ use Rattle.network.specs.PlanList.{buffer_need, filled, list_bytes}
 use Rattle.network.specs.Checked.{refuse_if, ◌or_else◌}
 use Rattle.network.specs.Refusals.{checked_of}
 use Rattle.network.specs.Calls.{if_fine, list_after, list_checked, list_status, plans_after, plans_checked, room_checked, status}
-use Rattle.network.specs.NetworkFine.{survey-sound}
-use Rattle.network.specs.Promise.{Promised, complete}
+use Rattle.network.proofs.NetworkFine.{survey-sound}
+use Rattle.network.specs.Promise.{Promised}
+use Rattle.network.proofs.Promise.{complete}
 use Rattle.network.specs.Network.{Network}
 use Rattle.network.specs.declared.Checked.TheVariants.{Fine, Refused}
 use Rattle.network.specs.declared.Refusal.{Refusal}

@@ -5,7 +5,8 @@ use Rattle.std.proofs.Math.Path.{ap}
 use Rattle.order.specs.Test.{clash, left}
 use Rattle.order.proofs.Test.{right}
 use Rattle.network.specs.Limits.{max_links}
-use Rattle.network.specs.Checked.{fine-both, refuse-fine, refuse_if, ◌or_else◌}
+use Rattle.network.specs.Checked.{refuse_if, ◌or_else◌}
+use Rattle.network.proofs.CheckedLaws.{fine-both, refuse-fine}
 use Rattle.network.specs.Calls.{if_fine, status}
 use Rattle.network.specs.Writing.{Figures, figures_checked, figures_from, kind_of, layout_for, unknown_kind, write_after, write_checked, write_status}
 use Rattle.network.specs.Writing.{yard_figures_checked}

@@ -7,7 +7,8 @@ use borrow.Author.Tests.{le-ltb}
 use Rattle.std.proofs.Math.Dec.{ltb}
 use Rattle.std.proofs.Math.ListN.{take}
 use Rattle.std.proofs.Math.Seq.{take_at}
-use Rattle.network.specs.Checked.{fine-both, refuse-fine, refuse_if, ◌or_else◌}
+use Rattle.network.specs.Checked.{refuse_if, ◌or_else◌}
+use Rattle.network.proofs.CheckedLaws.{fine-both, refuse-fine}
 use Rattle.network.specs.Refusals.{checked_of}
 use Rattle.network.specs.Calls.{if_fine, status}
 use Rattle.network.specs.Writing.{Figures, figures_checked, kind_of, layout_for, survey_at_front, survey_of, unknown_kind}

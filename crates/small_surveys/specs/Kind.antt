@@ -23,8 +23,9 @@ use Rattle.frontier.proofs.Walk.{positions-length, positions-mem}
 use Rattle.network.specs.Bytes.{bits_of, byte_at}
 use Rattle.network.specs.Survey.{layout_of, plain, row_where}
 use Rattle.network.specs.PlanList.{join}
-use Rattle.network.specs.Accepted.{or-false}
-use Rattle.network.specs.Checked.{fine-both, first_fine, first-none, refuse-fine, refuse_if, ◌or_else◌}
+use Rattle.network.proofs.Accepted.{or-false}
+use Rattle.network.specs.Checked.{refuse_if, ◌or_else◌}
+use Rattle.network.proofs.CheckedLaws.{fine-both, first_fine, first-none, refuse-fine}
 use Rattle.network.specs.Refusals.{absent_costs, bad_costs, bad_ends, bad_ranks, bad_sum, checked_of}
 use Rattle.network.specs.Writing.{Figures, Link, figures_checked, figures_of, kind_of, layout_for, link_bytes, link_figures_checked, no_link}
 use Rattle.network.specs.Writing.{survey_in, survey_of, unknown_kind, yard_bytes, yard_figures_checked}

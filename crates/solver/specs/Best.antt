@@ -30,7 +30,8 @@ use Rattle.planning.proofs.Search.{search-base, search-sets}
 use Rattle.planning.specs.Patterns.{KeptLink, has, keeps}
 use Rattle.planning.proofs.Patterns.{kept-enough}
 use Rattle.network.specs.Yard.{best, ends_at, graph, ranks, sum_at, tree_size, usable}
-use Rattle.network.specs.NetworkFine.{NetworkFine, graph-sound}
+use Rattle.network.specs.NetworkFine.{NetworkFine}
+use Rattle.network.proofs.NetworkFine.{graph-sound}
 use Rattle.network.specs.Network.{Network}
 use Rattle.forest.specs.Groups.{apart, apart-labels, apart-led}
 use Rattle.kruskal_order.specs.ByCost.{link_order}

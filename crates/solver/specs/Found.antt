@@ -12,6 +12,7 @@ use borrow.Author.Tests.{eq-eqb, eqb-true, le-leb, le-ltb, lt-leb, lt-ltb, ne_eq
 use Rattle.order.specs.Test.{by-test, clash}
 use Rattle.order.specs.Lists.{◌∈◌}
 use Rattle.order.specs.Perm as perm
+use Rattle.order.proofs.Perm as perm_laws
 use Rattle.order.specs.Order.{dictionary, dictionary_le, orderℕ, orderℤ, pair_le, pairs}
 use Rattle.order.specs.Sorted.{Apart, ascending}
 use Rattle.order.proofs.Sorted.{sort-perm}
@@ -30,7 +31,8 @@ use Rattle.planning.specs.Graph.{IsLink, completed, search_sets, total, under}
 use Rattle.planning.proofs.Graph.{by-weight}
 use Rattle.network.specs.Capacities.{links_held}
 use Rattle.network.specs.Yard.{ends_at, graph, stations, sum_at, tree_size, usable}
-use Rattle.network.specs.NetworkFine.{NetworkFine, graph-sound}
+use Rattle.network.specs.NetworkFine.{NetworkFine}
+use Rattle.network.proofs.NetworkFine.{graph-sound}
 use Rattle.network.specs.Network.{Network}
 use Rattle.kruskal.specs.Tree.{bare, linked}
 use Rattle.kruskal.specs.Grown.{Holds, Near, bare-holds, grown-holds}
@@ -113,10 +115,10 @@ module _ (net : Network) (fine : NetworkFine net) where
       new : length us ≡ goal → Shows s goal (some (ascending us)) (record { found = true; sum = u.sum; taken = u.taken })
       new l =
           tree-shown refl
-          (h.total ∙ sym (perm.sum-perm s (sort-perm orderℕ (λ x. x) us)))
+          (h.total ∙ sym (perm_laws.sum-perm s (sort-perm orderℕ (λ x. x) us)))
           (ap (rising 0) h.flags ∙ flags-rising us (apart l) below)
           (ap length h.flags ∙ flags-length us)
-          (perm.perm-length (sort-perm orderℕ (λ x. x) us) ∙ l)
+          (perm_laws.perm-length (sort-perm orderℕ (λ x. x) us) ∙ l)
 
       -- the two comparisons
       compared : (ys : List ℕ) → Shows s goal (some ys) b → length us ≡ goal
@@ -125,13 +127,13 @@ module _ (net : Network) (fine : NetworkFine net) where
       compared ys (tree-shown f q r w g) l =
           let mine = ap (rising 0) h.flags ∙ flags-rising us (apart l) below in
           let sizes : length (rising 0 u.taken) ≡ length (rising 0 b.taken) =
-          ap length mine ∙ perm.perm-length (sort-perm orderℕ (λ x. x) us) ∙ l ∙ sym g ∙ sym (ap length r) in
+          ap length mine ∙ perm_laws.perm-length (sort-perm orderℕ (λ x. x) us) ∙ l ∙ sym g ∙ sym (ap length r) in
           let lists : dictionary_le orderℕ ys (ascending us) ≡ not (first u.taken b.taken) =
           subst (λ (v : List ℕ). dictionary_le orderℕ v (ascending us) ≡ not (first u.taken b.taken)) r
           (subst (λ (v : List ℕ). dictionary_le orderℕ (rising 0 b.taken) v ≡ not (first u.taken b.taken)) mine
           (first-dictionary 0 u.taken b.taken (ap length h.flags ∙ flags-length us ∙ sym w) sizes)) in
-          by-weight (graph net) (graph-sound net fine) ys (ascending us) (g ∙ sym l ∙ sym (perm.perm-length (sort-perm orderℕ (λ x. x) us)))
-          ∙ rw (lists, perm.sum-perm s (sort-perm orderℕ (λ x. x) us), ← h.total, ← q) (sum_first u.sum b.sum (first u.taken b.taken))
+          by-weight (graph net) (graph-sound net fine) ys (ascending us) (g ∙ sym l ∙ sym (perm_laws.perm-length (sort-perm orderℕ (λ x. x) us)))
+          ∙ rw (lists, perm_laws.sum-perm s (sort-perm orderℕ (λ x. x) us), ← h.total, ← q) (sum_first u.sum b.sum (first u.taken b.taken))
 
       go : (o : Option (List ℕ)) → Shows s goal o b → length us ≡ goal
           → Shows s goal (better o (some (ascending us))) (cond (beats u b) (record { found = true; sum = u.sum; taken = u.taken }) b)

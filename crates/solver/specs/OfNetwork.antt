@@ -2,10 +2,11 @@
 use Rattle.std.specs.Prelude.{ℕ, zero, suc, ◌<◌, Bool, List, ◌∷◌, ◌≡◌, refl, ℤ, length, replicate, take}
 use Rattle.std.proofs.Common.{ap, arith}
 use Rattle.order.specs.Lists.{◌∈◌}
-use Rattle.network.specs.Resting.{working-apart, working-few, working-mem}
+use Rattle.network.proofs.Resting.{working-apart, working-few, working-mem}
 use Rattle.network.specs.Yard.{ranks, stations, tree_size}
 use Rattle.network.specs.Network.{Network}
-use Rattle.network.specs.NetworkFine.{NetworkFine, graph-sound}
+use Rattle.network.specs.NetworkFine.{NetworkFine}
+use Rattle.network.proofs.NetworkFine.{graph-sound}
 use Rattle.kruskal_order.specs.Usable.{usable-below, usable-joins, usable_order}
 use Rattle.kruskal.specs.Base.{Joinable}
 use Rattle.exceptions.specs.OfNetwork.{net_patterns}

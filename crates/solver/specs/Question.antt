@@ -10,7 +10,7 @@ use Rattle.spanning.proofs.Listing.{is_listed-iff, listing-length}
 use Rattle.frontier.proofs.Best.{best-some}
 use Rattle.network.specs.Yard.{best, ends as ends_of, stations, tree_size, usable, yard}
 use Rattle.network.specs.Calls.{apart, is_none, together, tree_with}
-use Rattle.network.specs.Meaning.{together-apart}
+use Rattle.network.proofs.Meaning.{together-apart}
 use Rattle.network.specs.PlanList.{costs_of}
 use Rattle.network.specs.Shaped.{Plannable, net_of}
 use Rattle.network.specs.declared.Answer.{Answer}

@@ -9,7 +9,7 @@ use mir.Val.{bool_byte}
 use Rattle.order.specs.Lists.{filter, numbers_from}
 use Rattle.order.proofs.Lists.{filter-append}
 use Rattle.order.proofs.Sorted.{numbers_more}
-use Rattle.network.specs.Resting.{all-counted, working-few}
+use Rattle.network.proofs.Resting.{all-counted, working-few}
 use Rattle.network.specs.Yard.{working, works}
 
 module _ (rest j : ℕ) where

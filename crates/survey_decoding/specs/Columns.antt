@@ -10,9 +10,10 @@ use native.Mathlib.Omega.{arith}
 use Rattle.std.proofs.Math.ListN.{length, length-set}
 use borrow.Rule.Slice.PartMut.{post_of, put_mid}
 use Rattle.network.specs.Bytes.{byte_at}
-use Rattle.network.specs.Costs.{ceiling-length}
+use Rattle.network.proofs.CostsLaws.{ceiling-length}
 use Rattle.network.specs.Survey.{ceiling_in, costs_in, ends_in, link_start}
-use Rattle.network.specs.Tabulate.{tabulate, tabulate-turn}
+use Rattle.network.specs.Tabulate.{tabulate}
+use Rattle.network.proofs.Tabulate.{tabulate-turn}
 use Rattle.network.specs.declared.Layout.{Layout}
 
 -- the link records of a layout have costs by so many ceilings

@@ -7,7 +7,8 @@ use Rattle.network.specs.Capacities.{ceilings_held}
 use Rattle.network.specs.Network.{Network}
 use Rattle.network.specs.Shaped.{net_of}
 use Rattle.network.specs.Survey.{ceilings_in, costs_in, ends_in, network_with, ranks_at, ranks_in, rest_in, stations_in, sums_in, working_in}
-use Rattle.network.specs.Tabulate.{tabulate, tabulate-at, tabulate-length}
+use Rattle.network.specs.Tabulate.{tabulate}
+use Rattle.network.proofs.Tabulate.{tabulate-at, tabulate-length}
 use Rattle.network.specs.Yard.{tree_size}
 use Rattle.network.specs.declared.Layout.{Layout}
 use Rattle.network.specs.declared.Shape.{Shape}

@@ -2,7 +2,8 @@
 use Rattle.std.specs.Prelude.{ℕ, ◌+◌, ◌≤◌, ◌<◌, Bool, true, false, List, ◌∷◌, ◌≡◌, drop, get_or, length}
 use Rattle.std.proofs.Common.{add-one, drop_of_length-le, drop-cons}
 use Rattle.network.specs.Survey.{layout_of, plain, row_where}
-use Rattle.network.specs.Layouts.{Roomy, layout-roomy}
+use Rattle.network.specs.Layouts.{Roomy}
+use Rattle.network.proofs.Layouts.{layout-roomy}
 use Rattle.network.specs.declared.Layout.{Layout}
 
 -- the row that the test finds, once the first i rows are looked at

@@ -13,7 +13,7 @@ use Rattle.frontier.specs.Frontier.{product}
 use Rattle.network.specs.Capacities.{ceilings_held, links_held}
 use Rattle.network.specs.Limits.{max_plans}
 use Rattle.network.specs.Network.{Network}
-use Rattle.network.specs.NetworkFine.{position-power}
+use Rattle.network.proofs.NetworkFine.{position-power}
 use Rattle.network.specs.Refusals.{too_many_positions}
 use Rattle.network.specs.Shaped.{net_of}
 use Rattle.network.specs.Tabulate.{tabulate}

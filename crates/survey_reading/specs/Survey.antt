@@ -5,11 +5,13 @@ use Rattle.std.proofs.Math.Path.{ap}
 use Rattle.std.proofs.Math.ListN.{take}
 use Rattle.network.specs.Accepted.{RecordsFine}
 use Rattle.network.specs.Capacities.{ceilings_held, links_held}
-use Rattle.network.specs.Checked.{refuse-fine, refuse_if, ◌or_else◌}
-use Rattle.network.specs.Costs.{costs-length}
+use Rattle.network.specs.Checked.{refuse_if, ◌or_else◌}
+use Rattle.network.proofs.CheckedLaws.{refuse-fine}
+use Rattle.network.proofs.CostsLaws.{costs-length}
 use Rattle.network.specs.Limits.{max_plans}
 use Rattle.network.specs.Network.{Network}
-use Rattle.network.specs.NetworkFine.{NetworkFine, ends-below, ends-length, network-fine, some-working}
+use Rattle.network.specs.NetworkFine.{NetworkFine}
+use Rattle.network.proofs.NetworkFine.{ends-below, ends-length, network-fine, some-working}
 use Rattle.network.specs.Refusals.{checked_with, records_checked, too_many_positions}
 use Rattle.network.specs.Shaped.{Plannable}
 use Rattle.network.specs.Survey.{ceilings_in, costs_in, ends_in, link_count, network_with, stations_in}

@@ -15,8 +15,10 @@ use Rattle.order.proofs.Lists.{get_or_default, get_or_map}
 use Rattle.order.specs.Test.{by-test}
 use Rattle.order.proofs.Sorted.{number_at, numbers-length}
 use Rattle.network.specs.Limits.{max_links}
-use Rattle.network.specs.Column.{column, column-at, column-length}
-use Rattle.network.specs.Checked.{first_refusal, first_found, first_more, ◌or_else◌}
+use Rattle.network.specs.Column.{column}
+use Rattle.network.proofs.Column.{column-at, column-length}
+use Rattle.network.specs.Checked.{first_refusal, ◌or_else◌}
+use Rattle.network.proofs.CheckedLaws.{first_found, first_more}
 use Rattle.network.specs.Writing.{Link, figures_from, lacks_cost, link_figures_checked, link_from, links_figures_checked, no_link, no_station, sum_from}
 use Rattle.network.specs.declared.Checked.{Checked}
 use Rattle.network.specs.declared.Checked.TheVariants.{Fine, Refused}

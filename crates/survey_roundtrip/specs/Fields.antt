@@ -17,10 +17,11 @@ use Rattle.network.specs.Limits.{max_links}
 use Rattle.network.specs.Survey.{ceilings_in, cost_bits, cost_bits_in, count_in, end_in, has_count, layout_of, link_start, narrow_slots, ranks_at, ranks_in}
 use Rattle.network.specs.Survey.{stations_in}
 use Rattle.network.specs.Tabulate.{tabulate}
-use Rattle.network.specs.Layouts.{layout-kept}
+use Rattle.network.proofs.Layouts.{layout-kept}
 use Rattle.network.specs.Refusals.{bad_count}
 use Rattle.network.specs.PlanList.{join}
-use Rattle.network.specs.Moved.{Moved, moved-mark, moved_on, moved-u16, moved-u32}
+use Rattle.network.specs.Moved.{Moved}
+use Rattle.network.proofs.Moved.{moved-mark, moved_on, moved-u16, moved-u32}
 use Rattle.network.specs.Writing.{Figures, Link, link_bytes, links_figures_checked, no_link, survey_in, yard_bytes}
 use Rattle.network.specs.declared.Checked.TheVariants.{Fine}
 use Rattle.network.specs.declared.Layout.{Layout}

@@ -18,9 +18,11 @@ use Rattle.order.proofs.Test.{right}
 use Rattle.network.specs.Bytes.{byte_at, little_endian, mark_at, signed}
 use Rattle.network.specs.Survey.{count_in, has_count, layout_of, link_count, link_start}
 use Rattle.network.specs.PlanList.{join}
-use Rattle.network.specs.Moved.{Moved, moved-mark, moved_on, moved-u16, moved-u32}
+use Rattle.network.specs.Moved.{Moved}
+use Rattle.network.proofs.Moved.{moved-mark, moved_on, moved-u16, moved-u32}
 use Rattle.network.specs.Refusals.{bad_count}
-use Rattle.network.specs.Accepted.{RecordsFine, accepted-records, inside}
+use Rattle.network.specs.Accepted.{RecordsFine}
+use Rattle.network.proofs.Accepted.{accepted-records, inside}
 use Rattle.network.specs.Writing.{Figures, figures_in, layout_for, link_bytes, link_in, survey_in, survey_of, unknown_kind, yard_bytes}
 use Rattle.network.specs.WritingPromise.{OfBytes, Says}
 use Rattle.network.specs.declared.Layout.{Layout}

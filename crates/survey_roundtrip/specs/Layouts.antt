@@ -6,7 +6,7 @@ use Rattle.order.specs.Every.{◌▸◌, done}
 use Rattle.order.proofs.Every.{every}
 use Rattle.order.specs.Test.{clash}
 use Rattle.network.specs.Survey.{has_count, layout_of, link_size, narrow_slots, plain, rest_in, row_where, triple, with_count, with_rest, yard_size}
-use Rattle.network.specs.Layouts.{layout-has, row_has}
+use Rattle.network.proofs.Layouts.{layout-has, row_has}
 use Rattle.network.specs.Writing.{is_of_kind, kind_of, layout_for, unknown_kind, writable}
 use Rattle.network.specs.WritingPromise.{Known}
 use Rattle.network.specs.declared.Layout.{Layout}

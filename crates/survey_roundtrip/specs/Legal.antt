@@ -3,7 +3,7 @@ use Rattle.std.specs.Prelude.{List, ◌≡◌, ℕ, ◌+◌, ◌*◌, ◌<◌, g
 use Rattle.std.proofs.Common.{sym, ap, ◌∙◌, arith}
 use Rattle.network.specs.Survey.{layout_of, link_start}
 use Rattle.network.specs.Refusals.{checked_of}
-use Rattle.network.specs.Accepted.{accepted-records}
+use Rattle.network.proofs.Accepted.{accepted-records}
 use Rattle.network.specs.Writing.{figures_checked, figures_in, figures_of, no_link}
 use Rattle.network.specs.WritingPromise.{OfBytes}
 use Rattle.network.specs.declared.Checked.TheVariants.{Fine}

@@ -10,11 +10,14 @@ use Rattle.std.proofs.Math.ListN.{get_or, length-map, take}
 use Rattle.order.specs.Lists.{numbers_from}
 use Rattle.order.proofs.Lists.{get_or_map}
 use Rattle.order.proofs.Sorted.{number_at, numbers-length}
-use Rattle.network.specs.Tabulate.{tabulate, tabulate-at, tabulate-same}
+use Rattle.network.specs.Tabulate.{tabulate}
+use Rattle.network.proofs.Tabulate.{tabulate-at, tabulate-same}
 use Rattle.network.specs.Survey.{ceiling_in, ceilings_in, cost_in, costs_in, end_in, ends_in, layout_of, link_count, link_start, narrow_slots, network_of}
 use Rattle.network.specs.Survey.{network_with, raised, ranks_in, sums_in}
-use Rattle.network.specs.Accepted.{RecordsFine, accepted-records}
-use Rattle.network.specs.Alike.{Alike, alike}
+use Rattle.network.specs.Accepted.{RecordsFine}
+use Rattle.network.proofs.Accepted.{accepted-records}
+use Rattle.network.specs.Alike.{Alike}
+use Rattle.network.proofs.Alike.{alike}
 use Rattle.network.specs.Writing.{Figures, Link, figures_in, link_in, no_link}
 use Rattle.network.specs.WritingPromise.{Known, Says}
 use Rattle.network.specs.declared.Layout.{Layout}

@@ -15,13 +15,15 @@ use Rattle.order.specs.Lists.{numbers_from}
 use Rattle.network.specs.Limits.{max_links, max_stations}
 use Rattle.network.specs.Bytes.{bits_of, signed}
 use Rattle.network.specs.Survey.{cost_bits, link_count, link_start, narrow_slots}
-use Rattle.network.specs.Accepted.{or-false, records-fine}
-use Rattle.network.specs.Checked.{fine-both, first_refusal, refuse-fine, refuse_if, ◌or_else◌}
-use Rattle.network.specs.Layouts.{Roomy, layout-roomy}
-use Rattle.network.specs.NetworkFine.{narrow-few}
+use Rattle.network.proofs.Accepted.{or-false, records-fine}
+use Rattle.network.specs.Checked.{first_refusal, refuse_if, ◌or_else◌}
+use Rattle.network.proofs.CheckedLaws.{fine-both, refuse-fine}
+use Rattle.network.specs.Layouts.{Roomy}
+use Rattle.network.proofs.Layouts.{layout-roomy}
+use Rattle.network.proofs.NetworkFine.{narrow-few}
 use Rattle.network.specs.Refusals.{bad_ceilings, bad_count, bad_length, bad_ranks, bad_rest, checked_of, checked_with, link_checked, link_checked_at, links_checked}
 use Rattle.network.specs.Refusals.{outside, records_checked, yard_checked}
-use Rattle.network.specs.Resting.{all-counted}
+use Rattle.network.proofs.Resting.{all-counted}
 use Rattle.network.specs.Writing.{Figures, Link, figures_checked, figures_in, figures_of, link_figures_checked, link_in, links_figures_checked, no_link}
 use Rattle.network.specs.Writing.{survey_in, yard_figures_checked}
 use Rattle.network.specs.declared.Checked.{Checked}

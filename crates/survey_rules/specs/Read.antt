@@ -3,7 +3,7 @@ use Rattle.std.specs.Prelude.{ℕ, ◌+◌, ◌≤◌, ◌<◌, true, false, Lis
 use Rattle.std.proofs.Common.{◌∙◌, sym}
 use Rattle.network.specs.Refusals.{absent_costs}
 use Rattle.network.specs.Survey.{cost_bits, cost_bits_in}
-use Rattle.network.specs.Tabulate.{tabulate-at, tabulate-length}
+use Rattle.network.proofs.Tabulate.{tabulate-at, tabulate-length}
 use Rattle.survey_rules.specs.Absent.{absent-found, absent_none, absent-turn}
 
 module _ (slots : ℕ) (s : List ℕ) (at : ℕ) where

@@ -12,7 +12,8 @@ use Rattle.order.proofs.Lists.{get_or_map}
 use Rattle.order.specs.Order.{orderℤ}
 use Rattle.kmax.specs.KMax.{kmax}
 use Rattle.network.specs.Capacities.{tree_held}
-use Rattle.network.specs.Column.{column, column-at, column-length, column-more, column-none}
+use Rattle.network.specs.Column.{column}
+use Rattle.network.proofs.Column.{column-at, column-length, column-more, column-none}
 use Rattle.network.specs.Yard.{cost_at}
 use Rattle.trees_costs.specs.Added.{Below}
 use Rattle.trees_costs.specs.Kth.{figures_in}

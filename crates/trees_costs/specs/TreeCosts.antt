@@ -20,12 +20,13 @@ use Rattle.spanning.specs.Rising.{is_rising_in}
 use Rattle.spanning.proofs.Rising.{is_rising_in-iff, rising-range}
 use Rattle.spanning.specs.Listing.{is_listed}
 use Rattle.network.specs.Capacities.{ceilings_held, links_held, raise, sum_held, tree_held}
-use Rattle.network.specs.Column.{column, column-at, column-length, column-more, column-none, column-past}
+use Rattle.network.specs.Column.{column}
+use Rattle.network.proofs.Column.{column-at, column-length, column-more, column-none, column-past}
 use Rattle.network.specs.Network.{Network}
 use Rattle.network.specs.PlanList.{costs_of}
 use Rattle.network.specs.Shaped.{Plannable, net_of}
-use Rattle.network.specs.Tabulate.{tabulate-at, tabulate-length}
-use Rattle.network.specs.Resting.{working-few}
+use Rattle.network.proofs.Tabulate.{tabulate-at, tabulate-length}
+use Rattle.network.proofs.Resting.{working-few}
 use Rattle.network.specs.Yard.{ceiling_costs, ceiling_part, ends, graph, is_tree, stations, sum_at, tree_size, tree_sum, usable}
 use Rattle.network.specs.declared.Costs.{Costs}
 use Rattle.network.specs.declared.Shape.{Shape}

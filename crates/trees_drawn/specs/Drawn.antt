@@ -23,7 +23,7 @@ use Rattle.spanning.proofs.Best.{edges-within}
 use Rattle.spanning.specs.Listing.{is_listed}
 use Rattle.forest.specs.Groups.{Led, apart, apart-labels, apart-led, joined-labels}
 use Rattle.network.specs.Capacities.{stations_held}
-use Rattle.network.specs.Resting.{joins-within, working-apart}
+use Rattle.network.proofs.Resting.{joins-within, working-apart}
 use Rattle.network.specs.Shaped.{Plannable}
 use Rattle.network.specs.Yard.{ends_at, usable_at, working}
 use Rattle.network.specs.declared.Shape.{Shape}

@@ -14,13 +14,14 @@ use Rattle.frontier.proofs.Plans.{collect-front, collect-member}
 use Rattle.frontier.proofs.Walk.{positions-length}
 use Rattle.planning.proofs.Grid.{walk-lists}
 use Rattle.network.specs.Capacities.{ceilings_held}
-use Rattle.network.specs.Resting.{working-few}
+use Rattle.network.proofs.Resting.{working-few}
 use Rattle.network.specs.Survey.{narrow_slots}
-use Rattle.network.specs.Tabulate.{tabulate-length}
+use Rattle.network.proofs.Tabulate.{tabulate-length}
 use Rattle.network.specs.Yard.{best, ceiling_costs, graph, tree_size, yard}
 use Rattle.network.specs.Walk.{plans, position_count, positions, solved_count, values}
 use Rattle.network.specs.PlanList.{costs_of, head_size, plan_size, plan_slots}
-use Rattle.network.specs.NetworkFine.{NetworkFine, graph-sound, slots-few}
+use Rattle.network.specs.NetworkFine.{NetworkFine}
+use Rattle.network.proofs.NetworkFine.{graph-sound, slots-few}
 use Rattle.network.specs.Network.{Network}
 use Rattle.planlist_frontier.specs.Stored.{Holds, Padded, absent, costs-absent, costs-padded, holds-inserted, holds-level, holds-none, holds-rise}
 use Rattle.marking.specs.Unmarked.{next_unmarked, unmarked-keeps}

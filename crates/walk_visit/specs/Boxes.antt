@@ -18,7 +18,8 @@ use Rattle.frontier.proofs.Dominance.{le_all-head, le_all-tail}
 use Rattle.frontier.specs.Frontier.{Picks, picks-cons, picks-nil, product}
 use Rattle.frontier.specs.Places.{AllFalling, InRange, all_cons, all_nil, in-cons, in-nil, number, pick}
 use Rattle.frontier.proofs.Places.{number_lt}
-use Rattle.network.specs.Tabulate.{tabulate, tabulate-first, tabulate-none, tabulate-same}
+use Rattle.network.specs.Tabulate.{tabulate}
+use Rattle.network.proofs.Tabulate.{tabulate-first, tabulate-none, tabulate-same}
 use Rattle.marking.specs.Place.{place-from, place_in, places_of}
 use Rattle.marking.specs.Paint.{Run, run}
 use Rattle.marking.specs.Box.{sides}

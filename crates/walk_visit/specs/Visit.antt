@@ -21,9 +21,10 @@ use Rattle.network.specs.Yard.{best, ceiling_costs, graph, usable_at, yard}
 use Rattle.network.specs.Walk.{position_count, positions, values}
 use Rattle.network.specs.PlanList.{costs_of}
 use Rattle.network.specs.Calls.{apart}
-use Rattle.network.specs.Meaning.{together-apart}
+use Rattle.network.proofs.Meaning.{together-apart}
 use Rattle.network.specs.declared.Costs.{Costs}
-use Rattle.network.specs.NetworkFine.{NetworkFine, graph-sound}
+use Rattle.network.specs.NetworkFine.{NetworkFine}
+use Rattle.network.proofs.NetworkFine.{graph-sound}
 use Rattle.network.specs.Network.{Network}
 use Rattle.network.specs.Shaped.{Plannable, net_of}
 use Rattle.network.specs.declared.Answer.{Answer}

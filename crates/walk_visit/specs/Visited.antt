@@ -6,7 +6,7 @@ use Rattle.std.proofs.Math.Path.{refl, ap, ap₂, subst⁻¹}
 use Rattle.std.proofs.Common.{sym, ◌∙◌, subst, arith, length-take-le}
 use Rattle.network.specs.Calls.{apart, together, tree_with}
 use Rattle.network.specs.Capacities.{ceilings_held}
-use Rattle.network.specs.Meaning.{together-apart}
+use Rattle.network.proofs.Meaning.{together-apart}
 use Rattle.network.specs.PlanList.{costs_of, head_size, plan_bytes, plan_size, plan_slots, record_of}
 use Rattle.network.specs.Walk.{positions}
 use Rattle.network.specs.Yard.{tree_size, yard}

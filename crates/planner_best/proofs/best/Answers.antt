@@ -6,8 +6,8 @@ use borrow.Author.Rules.{rules}
 use lib.ListN.{length}
 use lib.Seq.{length-take-le}
 use Rattle.network.specs.Capacities.{ceilings_held}
-use Rattle.network.specs.AnswerPromise.{best-promised}
-use Rattle.network.specs.Cut.{cut-asked}
+use Rattle.network.proofs.AnswerPromise.{best-promised}
+use Rattle.network.proofs.Cut.{cut-asked}
 use Rattle.network.specs.Refusals.{checked_of}
 use Rattle.network.specs.Survey.{network_of}
 use Rattle.network.specs.declared.Checked.TheVariants.{Fine}

@@ -5,8 +5,8 @@ use mathlib.Core.List.{List}
 use Prim.Native.Nat.{ℕ}
 use native.Mathlib.Omega.{arith}
 use Rattle.network.specs.Calls.{apart}
-use Rattle.network.specs.AnswerPromise.{judge-promised}
-use Rattle.network.specs.Cut.{cut-judged}
+use Rattle.network.proofs.AnswerPromise.{judge-promised}
+use Rattle.network.proofs.Cut.{cut-judged}
 use Rattle.network.specs.Refusals.{checked_of}
 use Rattle.network.specs.Survey.{network_of}
 use Rattle.network.specs.declared.Checked.TheVariants.{Fine}

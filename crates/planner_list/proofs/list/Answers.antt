@@ -2,7 +2,7 @@
 use mathlib.Core.Path.{◌≡◌, subst, sym, ◌∙◌}
 use native.Mathlib.Omega.{arith}
 use borrow.Author.Rules.{rules}
-use Rattle.network.specs.Cut.{cut-listed}
+use Rattle.network.proofs.Cut.{cut-listed}
 use Rattle.network.specs.Network.{Network}
 use Rattle.network.specs.Refusals.{checked_of}
 use Rattle.network.specs.Survey.{network_of}

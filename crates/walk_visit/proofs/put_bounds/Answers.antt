@@ -10,7 +10,8 @@ use mir.Facts.{to_z-of_z}
 use lib.IntN.{ℤ, pos}
 use lib.ListN.{get_or, length, length-set}
 use lib.Seq.{take_all}
-use Rattle.network.specs.Tabulate.{tabulate, tabulate-none, tabulate-turn}
+use Rattle.network.specs.Tabulate.{tabulate}
+use Rattle.network.proofs.Tabulate.{tabulate-none, tabulate-turn}
 use Rattle.marking.specs.Parts.{parts-apart}
 use Rattle.walk_visit.specs.Found.{bound_at, bounds_at}
 use Rattle.walk_visit.proofs.put_bounds.Goals as goal

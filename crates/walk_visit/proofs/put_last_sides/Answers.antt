@@ -2,7 +2,8 @@ use mathlib.Core.Path.{◌≡◌, refl, sym, ap, ◌∙◌}
 use native.Mathlib.Omega.{arith}
 use lib.ListN.{length, length-set}
 use lib.Seq.{take_all}
-use Rattle.network.specs.Tabulate.{tabulate, tabulate-none, tabulate-turn}
+use Rattle.network.specs.Tabulate.{tabulate}
+use Rattle.network.proofs.Tabulate.{tabulate-none, tabulate-turn}
 use Rattle.walk_visit.specs.Found.{last_side, last_sides}
 use Rattle.walk_visit.proofs.put_last_sides.Goals as goal
 

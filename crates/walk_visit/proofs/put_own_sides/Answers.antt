@@ -8,7 +8,8 @@ use mir.Facts.{to_z-of_z}
 use lib.IntN.{ℤ, pos}
 use lib.ListN.{drop, get_or, length, length-drop, length-set, length-take, take}
 use lib.Seq.{take_all}
-use Rattle.network.specs.Tabulate.{tabulate, tabulate-none, tabulate-turn}
+use Rattle.network.specs.Tabulate.{tabulate}
+use Rattle.network.proofs.Tabulate.{tabulate-none, tabulate-turn}
 use Rattle.marking.specs.Place.{place-le, place_in}
 use Rattle.marking.specs.Parts.{part-rest, parts-apart}
 use Rattle.walk_visit.specs.Found.{own_side, own_sides}

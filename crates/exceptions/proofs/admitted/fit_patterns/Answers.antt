@@ -1,7 +1,8 @@
 use mathlib.Core.Path.{◌≡◌, refl}
 use native.Mathlib.Omega.{arith}
 use borrow.Author.Rules.{rules}
-use Rattle.network.specs.Column.{column, column-more}
+use Rattle.network.specs.Column.{column}
+use Rattle.network.proofs.Column.{column-more}
 use Rattle.network.specs.Capacities.{patterns_held}
 use Rattle.exceptions.specs.Fit.{fit_of}
 use Rattle.exceptions.proofs.admitted.fit_patterns.Goals as goal

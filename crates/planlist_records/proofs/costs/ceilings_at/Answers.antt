@@ -7,7 +7,8 @@ use mir.Val.{of_z, to_z}
 use mir.ValLaws.{to_z-of_z}
 use Rattle.network.specs.Capacities.{ceilings_held}
 use Rattle.network.specs.PlanList.{plan_ceiling}
-use Rattle.network.specs.Tabulate.{tabulate, tabulate-none, tabulate-turn}
+use Rattle.network.specs.Tabulate.{tabulate}
+use Rattle.network.proofs.Tabulate.{tabulate-none, tabulate-turn}
 use Rattle.planlist_records.specs.Held.{costs-ceilings}
 use borrow.Author.Rules.{rules}
 use Rattle.planlist_records.proofs.costs.ceilings_at.Goals as goal

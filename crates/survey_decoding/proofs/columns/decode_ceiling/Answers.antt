@@ -7,7 +7,8 @@ use lib.Seq.{take_all}
 use mir.Syntax.{w16}
 use mir.ValLaws.{to_z-of_z}
 use Rattle.network.specs.Survey.{ceiling_in}
-use Rattle.network.specs.Tabulate.{tabulate, tabulate-turn}
+use Rattle.network.specs.Tabulate.{tabulate}
+use Rattle.network.proofs.Tabulate.{tabulate-turn}
 use Rattle.survey_decoding.proofs.columns.decode_ceiling.Goals as goal
 
 pub loop-e-init : goal.loop-e-init

@@ -2,7 +2,7 @@
 use Prim.Native.Nat.{◌≤◌}
 use native.Mathlib.Omega.{arith}
 use lib.ListN.{length}
-use Rattle.network.specs.Resting.{all-counted, working-few}
+use Rattle.network.proofs.Resting.{all-counted, working-few}
 use Rattle.network.specs.Survey.{stations_in}
 use Rattle.network.specs.Yard.{working as stations}
 use Rattle.survey_decoding.specs.Decoded.{decoded}

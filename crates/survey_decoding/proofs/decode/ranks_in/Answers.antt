@@ -3,7 +3,8 @@ use native.Mathlib.Omega.{arith}
 use lib.ListN.{length-set, take}
 use lib.Seq.{take_all}
 use Rattle.network.specs.Capacities.{ceilings_held}
-use Rattle.network.specs.Tabulate.{tabulate, tabulate-none, tabulate-turn}
+use Rattle.network.specs.Tabulate.{tabulate}
+use Rattle.network.proofs.Tabulate.{tabulate-none, tabulate-turn}
 use Rattle.survey_decoding.specs.Decoded.{rank_in, ranks-front}
 use Rattle.survey_decoding.proofs.decode.ranks_in.Goals as goal
 

@@ -8,7 +8,8 @@ use mir.Val.{of_z, to_z}
 use mir.ValLaws.{to_z-of_z}
 use Rattle.network.specs.Bytes.{i32_at}
 use Rattle.network.specs.Survey.{sums_in}
-use Rattle.network.specs.Tabulate.{tabulate, tabulate-turn}
+use Rattle.network.specs.Tabulate.{tabulate}
+use Rattle.network.proofs.Tabulate.{tabulate-turn}
 use Rattle.survey_decoding.proofs.sums.decode_sums.Goals as goal
 use Rattle.survey_decoding.proofs.sums.decode_sums.Goals.{After-read_i32}
 

@@ -8,7 +8,7 @@ use mir.Val.{hbits, of_z, to_z}
 use mir.ValLaws.{to_z-of_z, to_z_pos}
 use Rattle.network.specs.Capacities.{raise}
 use Rattle.network.specs.Survey as spec
-use Rattle.network.specs.Sums.{raised-small, raised-sum}
+use Rattle.network.proofs.Sums.{raised-small, raised-sum}
 use Rattle.survey_decoding.proofs.sums.raised.Goals as goal
 use Rattle.survey_decoding.proofs.sums.raised.Goals.{Start}
 

@@ -1,6 +1,6 @@
 use mathlib.Core.Path.{refl, sym, ◌∙◌}
 use Rattle.network.specs.Survey.{layout_of}
-use Rattle.network.specs.Layouts.{layout-short}
+use Rattle.network.proofs.Layouts.{layout-short}
 use Rattle.survey_layout.specs.Rows.{found-roomy, from_row, row-found, row-missed, row-none}
 use Rattle.survey_layout.proofs.layout.layout_of.Goals as goal
 

@@ -1,7 +1,7 @@
 -- `survey_layout::layout::link_start` meets its contract. The record lies inside the survey, so its place fits.
 use mathlib.Core.Path.{refl}
 use native.Mathlib.Omega.{arith}
-use Rattle.network.specs.Accepted.{inside}
+use Rattle.network.proofs.Accepted.{inside}
 use Rattle.survey_layout.proofs.layout.link_start.Goals as goal
 
 pub overflow_mul-result : goal.overflow_mul-result

@@ -3,7 +3,8 @@ use native.Mathlib.Nat.{mul-le-mul}
 use Rattle.survey_reading.specs.Survey.{costs-fit, costs-size, countable, decodable, ends-fit, ends-size, read-counted, read-refused}
 use mathlib.Core.Path.{sym, ◌∙◌}
 use native.Mathlib.Omega.{arith}
-use Rattle.network.specs.Accepted.{RecordsFine, records-fine}
+use Rattle.network.specs.Accepted.{RecordsFine}
+use Rattle.network.proofs.Accepted.{records-fine}
 use Rattle.survey_reading.proofs.reader.read_with.Goals as goal
 use Rattle.survey_reading.proofs.reader.read_with.Goals.{In-Fine}
 

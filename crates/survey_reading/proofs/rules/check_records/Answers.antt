@@ -3,7 +3,7 @@ use mathlib.Core.Path.{◌≡◌, sym, ◌∙◌}
 use mathlib.Core.Bool.{false}
 use native.Mathlib.Omega.{arith}
 use lib.ListN.{length}
-use Rattle.network.specs.Accepted.{whole-records, whole}
+use Rattle.network.proofs.Accepted.{whole-records, whole}
 use Rattle.network.specs.Checked.{refuse_if, ◌or_else◌}
 use Rattle.network.specs.Refusals.{bad_length, records_checked}
 use Rattle.survey_reading.proofs.rules.check_records.Goals as goal

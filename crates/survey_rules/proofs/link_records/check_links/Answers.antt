@@ -1,7 +1,8 @@
 use borrow.Author.Rules.{rules}
 use mathlib.Core.Path.{refl, sym, ap, ◌∙◌}
 use native.Mathlib.Omega.{arith}
-use Rattle.network.specs.Checked.{first_refusal, first_more, first_found}
+use Rattle.network.specs.Checked.{first_refusal}
+use Rattle.network.proofs.CheckedLaws.{first_more, first_found}
 use Rattle.survey_rules.proofs.link_records.check_links.Goals as goal
 
 pub loop-i-init : goal.loop-i-init

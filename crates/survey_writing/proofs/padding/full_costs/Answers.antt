@@ -3,7 +3,8 @@ use mathlib.Core.Path.{refl, sym, ap, ◌∙◌}
 use mir.Syntax.{w16}
 use mir.ValLaws.{to_z-of_z}
 use native.Mathlib.Omega.{arith}
-use Rattle.network.specs.Column.{column, column-more}
+use Rattle.network.specs.Column.{column}
+use Rattle.network.proofs.Column.{column-more}
 use Rattle.survey_roundtrip.specs.Columns.{costs_to}
 use Rattle.survey_writing.proofs.padding.full_costs.Goals as goal
 

@@ -1,7 +1,8 @@
 use borrow.Author.Rules.{rules}
 use mathlib.Core.Path.{refl, sym, ap, ◌∙◌}
 use native.Mathlib.Omega.{arith}
-use Rattle.network.specs.Column.{column, column-more}
+use Rattle.network.specs.Column.{column}
+use Rattle.network.proofs.Column.{column-more}
 use Rattle.survey_roundtrip.specs.Columns.{ends_to}
 use Rattle.survey_writing.proofs.padding.full_ends.Goals as goal
 

@@ -13,7 +13,7 @@ use Rattle.network.specs.Calls.{tree_with}
 use Rattle.network.specs.Capacities.{ceilings_held, plans_held, tree_held}
 use Rattle.network.specs.Network.{Network}
 use Rattle.network.specs.PlanList.{head_size, plan_size}
-use Rattle.network.specs.Resting.{working-few}
+use Rattle.network.proofs.Resting.{working-few}
 use Rattle.network.specs.Shaped.{net_of}
 use Rattle.network.specs.Walk.{position_count, positions}
 use Rattle.network.specs.Yard.{best, tree_size, yard}

@@ -5,11 +5,12 @@ use Rattle.std.proofs.Math.IntN.{sub_ℕ, +ℤ-neg_ℤ_cancel}
 use Rattle.order.proofs.Lowered.{sub-above}
 use Rattle.network.specs.Limits.{max_sum}
 use Rattle.network.specs.Capacities.{raise, sum_held}
-use Rattle.network.specs.Tabulate.{tabulate-at, tabulate-length}
+use Rattle.network.proofs.Tabulate.{tabulate-at, tabulate-length}
 use Rattle.network.specs.Survey.{layout_of, link_count, link_start, network_of, network_with, raised, sum_in, sums_in}
 use Rattle.network.specs.Refusals.{bad_sum, checked_of}
 use Rattle.network.specs.Yard.{sum_cost}
-use Rattle.network.specs.Accepted.{RecordsFine, accepted-records, or-false}
+use Rattle.network.specs.Accepted.{RecordsFine}
+use Rattle.network.proofs.Accepted.{accepted-records, or-false}
 use Rattle.network.specs.declared.Checked.TheVariants.{Fine}
 use Rattle.network.specs.declared.Layout.{Layout}
 

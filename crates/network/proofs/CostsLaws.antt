@@ -10,7 +10,7 @@ use Rattle.std.proofs.Math.ListN.{length, length-append, length-drop}
 use Rattle.std.proofs.lemmas.List.{drop-append-le}
 use Rattle.std.proofs.Math.Seq.{take_all, take-append-le}
 use Rattle.network.specs.Survey.{ceiling_in, ceilings_in, cost_in, costs_in, layout_of, link_count, link_start, network_of, network_with}
-use Rattle.network.specs.Tabulate.{tabulate-at, tabulate-length}
+use Rattle.network.proofs.Tabulate.{tabulate-at, tabulate-length}
 use Rattle.network.specs.Yard.{ceiling_cost, ceiling_part, cost_at}
 use Rattle.network.specs.declared.Layout.{Layout}
 

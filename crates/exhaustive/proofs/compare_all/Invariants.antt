@@ -1,5 +1,4 @@
-
-use Rattle.std.proofs.Common.{◌-◌, ◌≤◌, rules}
+use Rattle.std.proofs.Common.{◌-◌, ◌≤◌}
 use Rattle.exhaustive.proofs.compare_all.Given as goal
 
 abbrev pub invariant-loop-rest : goal.invariant-loop-rest

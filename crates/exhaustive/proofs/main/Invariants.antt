@@ -1,5 +1,4 @@
-
-use Rattle.std.proofs.Common.{◌-◌, ◌≤◌, rules}
+use Rattle.std.proofs.Common.{◌-◌, ◌≤◌}
 use Rattle.exhaustive.proofs.main.Given as goal
 
 abbrev pub invariant-loop-i : goal.invariant-loop-i

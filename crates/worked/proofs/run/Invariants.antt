@@ -1,5 +1,4 @@
-
-use Rattle.std.proofs.Common.{◌-◌, ◌≤◌, rules}
+use Rattle.std.proofs.Common.{◌-◌, ◌≤◌}
 use Rattle.worked.proofs.run.Given as goal
 
 abbrev pub invariant-loop-at : goal.invariant-loop-at

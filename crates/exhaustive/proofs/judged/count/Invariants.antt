@@ -1,5 +1,4 @@
-
-use Rattle.std.proofs.Common.{◌-◌, ◌≤◌, rules}
+use Rattle.std.proofs.Common.{◌-◌, ◌≤◌}
 use Rattle.exhaustive.proofs.judged.count.Given as goal
 
 abbrev pub invariant-loop-set : goal.invariant-loop-set

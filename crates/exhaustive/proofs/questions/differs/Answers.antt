@@ -1,5 +1,4 @@
-
-use Rattle.std.proofs.Common.{sym, arith, length-take-le, rules}
+use Rattle.std.proofs.Common.{sym, arith, length-take-le}
 use Rattle.exhaustive.proofs.questions.differs.Goals as goal
 
 pub slice_bounds-ask-end : goal.slice_bounds-ask-end

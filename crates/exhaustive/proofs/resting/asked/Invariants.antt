@@ -1,5 +1,4 @@
-
-use Rattle.std.proofs.Common.{◌-◌, ◌≤◌, rules}
+use Rattle.std.proofs.Common.{◌-◌, ◌≤◌}
 use Rattle.exhaustive.proofs.resting.asked.Given as goal
 
 abbrev pub invariant-loop-b1 : goal.invariant-loop-b1

@@ -1,6 +1,4 @@
-
 use Prim.Native.Nat.{◌≤◌, ◌-◌}
-use borrow.Author.Rules.{rules}
 use Rattle.ranqustei.proofs.print.ceilings.Given as goal
 
 abbrev pub invariant-loop-i : goal.invariant-loop-i

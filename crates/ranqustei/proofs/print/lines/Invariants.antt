@@ -1,6 +1,4 @@
-
 use Prim.Native.Nat.{◌≤◌, ◌-◌}
-use borrow.Author.Rules.{rules}
 use Rattle.ranqustei.proofs.print.lines.Given as goal
 
 abbrev pub invariant-loop-r : goal.invariant-loop-r

@@ -1,9 +1,8 @@
-
-use Rattle.std.proofs.Common.{◌-◌, ◌≤◌, rules}
+use Rattle.std.proofs.Common.{◌-◌, ◌≤◌}
 use Rattle.worked.proofs.report.ceilings.Given as goal
 
 abbrev pub invariant-loop-i : goal.invariant-loop-i
-invariant-loop-i l = i ≤ l.i
+invariant-loop-i l = l.i ≤ l.i-end
 
 abbrev pub decreases-loop-i : goal.decreases-loop-i
-decreases-loop-i l = l.i - i
+decreases-loop-i l = l.i-end - l.i

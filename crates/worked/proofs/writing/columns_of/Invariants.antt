@@ -1,5 +1,4 @@
-
-use Rattle.std.proofs.Common.{◌-◌, ◌≤◌, rules}
+use Rattle.std.proofs.Common.{◌-◌, ◌≤◌}
 use Rattle.worked.proofs.writing.columns_of.Given as goal
 
 abbrev pub invariant-loop-e : goal.invariant-loop-e

@@ -1,4 +1,3 @@
-
 use Rattle.std.proofs.Common.{◌≡◌, length, arith, rules}
 use Rattle.worked.proofs.yard.Yard.number.Goals as goal
 

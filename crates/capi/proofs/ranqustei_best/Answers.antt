@@ -9,7 +9,10 @@ use Rattle.capi.proofs.ranqustei_best.Goals as goal
 pub returns : goal.returns
 unfolding flat_reply
 returns c =
-    let e = rw (to_z-of_z c.ranges.b1, to_z-of_z c.ranges.b2, to_z-of_z c.ranges.b3) at c.best.ensures in (
-      c.flat.ensures ∙ ap flat_reply e.0,
-      (e.1.0, (rw c.flat.ensures (flat-best _ _ _ _ (says c.best.result) e.1.1.0), rw c.flat.ensures e.1.1.1)),
-    )
+    let e = rw (to_z-of_z c.ranges.b1, to_z-of_z c.ranges.b2, to_z-of_z c.ranges.b3) at c.best.ensures in
+    record {
+      reply = c.flat.ensures ∙ ap flat_reply e.reply;
+      leaves = e.leaves;
+      promised = rw c.flat.ensures (flat-best _ _ _ _ (says c.best.result) e.promised);
+      noticed = rw c.flat.ensures e.noticed;
+    }

@@ -8,7 +8,9 @@ use Rattle.capi.proofs.ranqustei_judge.Goals as goal
 pub returns : goal.returns
 unfolding flat_reply
 returns c =
-    let judged = c.judge.ensures in (
-      c.flat.ensures ∙ ap flat_reply judged.0,
-      (rw c.flat.ensures (flat-judge _ _ (says c.judge.result) judged.1.0), rw c.flat.ensures judged.1.1),
-    )
+    let judged = c.judge.ensures in
+    record {
+      reply = c.flat.ensures ∙ ap flat_reply judged.reply;
+      promised = rw c.flat.ensures (flat-judge _ _ (says c.judge.result) judged.promised);
+      noticed = rw c.flat.ensures judged.noticed;
+    }

@@ -2,7 +2,7 @@
 use Rattle.std.specs.Prelude.{ℕ, suc, ◌-◌, ◌≤◌, ◌<◌, ◌≡◌, refl, false, List, ltb, ℤ, pos, negsuc, ◌+ℤ◌, ◌-ℤ◌, get_or, length}
 use Rattle.std.proofs.Common.{sym, ap, ◌∙◌, arith, ltb-false}
 use Rattle.std.proofs.Math.IntN.{sub_ℕ, +ℤ-neg_ℤ_cancel}
-use Rattle.order.proofs.Lowered.{sub-above}
+use Rattle.order.specs.Lowered.{sub-above}
 use Rattle.network.specs.Limits.{max_sum}
 use Rattle.network.specs.Capacities.{raise, sum_held}
 use Rattle.network.proofs.Tabulate.{tabulate-at, tabulate-length}

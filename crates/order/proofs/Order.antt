@@ -1,5 +1,5 @@
 -- Total orders that are decided by a test: of ℕ, of ℤ, turned round, of pairs, and of lists as in a dictionary.
-use Rattle.std.specs.Prelude.{true, List, ◌∷◌, ◌≡◌, refl}
+use Rattle.std.specs.Prelude.{true, false, List, ◌∷◌, ◌≡◌, refl}
 use Rattle.order.specs.Test.{by-test, clash, left}
 use Rattle.order.proofs.Test.{both, fails, refute, right}
 use Rattle.order.specs.Order.{Less, TotalOrder, dictionary, dictionary_le, equal, pair_le, tie-less, tie-of}
@@ -41,6 +41,16 @@ module _ {C : Type 0} (O : TotalOrder C) where
 
   pub dictionary-same : (x y : C) (v w : List C) → x ≡ y → dictionary_le O v w ≡ true → dictionary_le O (x ∷ v) (y ∷ w) ≡ true
   dictionary-same x y v w e h = (tie-of O) x y (dictionary_le O v w) (rw e (le_refl y)) h
+
+  -- the laws of the dictionary order
+  pub dictionary-trans : (u v w : List C) → dictionary_le O u v ≡ true → dictionary_le O v w ≡ true → dictionary_le O u w ≡ true
+  dictionary-trans = (dictionary O).le_trans
+
+  pub dictionary-total : (v w : List C) → dictionary_le O v w ≡ false → dictionary_le O w v ≡ true
+  dictionary-total = (dictionary O).le_total
+
+  pub dictionary-antisym : (v w : List C) → dictionary_le O v w ≡ true → dictionary_le O w v ≡ true → v ≡ w
+  dictionary-antisym = (dictionary O).le_antisym
 
   -- a list stands strictly before another by the first entries, or where these are the same by the rest
   pub less-first : (x y : C) (v w : List C) → Less O x y → Less (dictionary O) (x ∷ v) (y ∷ w)

@@ -12,7 +12,8 @@ use Rattle.order.specs.Test.{by-test, clash}
 use Rattle.order.proofs.Test.{refute}
 use Rattle.order.specs.Lists.{◌∈◌}
 use Rattle.order.proofs.Lists.{filter-all, none_any}
-use Rattle.order.specs.Order.{Less, TotalOrder, dictionary-trans, le_z-trans, orderℤ}
+use Rattle.order.specs.Order.{Less, TotalOrder, le_z-trans, orderℤ}
+use Rattle.order.proofs.Order.{dictionary-trans}
 use Rattle.order.proofs.Order.{le_refl}
 use Rattle.order.proofs.Perm.{pairwise-imp}
 use Rattle.order.specs.Sorted.{Rising}

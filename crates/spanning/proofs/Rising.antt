@@ -10,7 +10,8 @@ use Rattle.std.proofs.lemmas.Bool.{lt-leb}
 use Rattle.order.specs.Test.{by-test, clash, left}
 use Rattle.order.proofs.Test.{both, right}
 use Rattle.order.specs.Lists.{◌∈◌, numbers_from}
-use Rattle.order.specs.Order.{dictionary-antisym, dictionary_le, leb-antisym, orderℕ}
+use Rattle.order.proofs.Order.{dictionary-antisym}
+use Rattle.order.specs.Order.{dictionary_le, leb-antisym, orderℕ}
 use Rattle.order.proofs.Order.{dictionary-less, less-first, less-rest}
 use Rattle.order.specs.Sorted.{Rising}
 use Rattle.spanning.specs.Rising.{Before, RisingIn, is_rising_in}

@@ -12,7 +12,7 @@ use Rattle.order.proofs.Test.{right}
 use Rattle.order.specs.Lists.{all}
 use Rattle.order.proofs.Lists.{get_or-mem}
 use Rattle.order.specs.Order.{orderℤ}
-use Rattle.order.proofs.Lowered.{sum-lowered}
+use Rattle.order.specs.Lowered.{sum-lowered}
 use Rattle.kmax.specs.KMax.{kmax}
 use Rattle.planning.specs.Graph.{Graph, costs_from}
 use Rattle.spanning.specs.Tree as tree

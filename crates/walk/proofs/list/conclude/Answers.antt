@@ -1,7 +1,6 @@
 -- `walk::list::conclude` meets its contract.
 use mathlib.Core.Bool.{true, false}
 use mathlib.Core.Path.{◌≡◌}
-use borrow.Author.Rules.{rules}
 use Rattle.network.specs.Calls.{status}
 use Rattle.network.specs.Checked.{refuse_if}
 use Rattle.walk.specs.Concluded.{concluded}

@@ -5,13 +5,12 @@ use native.Mathlib.Nat.{mul-le-mul_right}
 use native.Mathlib.Omega.{arith}
 use mir.Syntax.{w64}
 use mir.Val.{Fits}
-use borrow.Author.Rules.{rules}
 use Rattle.network.specs.PlanList.{head_size, plan_size, plan_slots}
 use Rattle.walk.proofs.list.need.Goals as goal
 use Rattle.walk.proofs.list.need.Goals.{After-plan_size}
 
 -- the size of a record
-sized : (c : After-plan_size) → let a = c.before.before.args in c.plan-size.result ≡ plan_size (plan_slots a.p) a.t
+sized : (c : After-plan_size) → let a = c.args in c.plan_size.result ≡ plan_size (plan_slots a.p) a.t
 sized c = let a = c.args in c.plan_size.ensures ∙ ap (λ (slots : ℕ). plan_size slots a.t) c.plan_slots.ensures.0
 
 need-fits : (c : After-plan_size)

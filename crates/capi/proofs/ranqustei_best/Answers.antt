@@ -1,6 +1,5 @@
 -- `capi::ranqustei_best` meets its contract: the answer says what the definition of the ceilings question does.
 use mathlib.Core.Path.{ap, ◌∙◌}
-use borrow.Author.Rules.{rules}
 use mir.Facts.{to_z-of_z}
 use Rattle.network.specs.Calls.{says}
 use Rattle.capi_replies.specs.Replies.{flat-best, flat_reply}

@@ -1,5 +1,4 @@
 -- `capi::ranqustei_index_lookup` meets its contract.
-use borrow.Author.Rules.{rules}
 use mir.Facts.{to_z-of_z}
 use Rattle.capi.proofs.ranqustei_index_lookup.Goals as goal
 

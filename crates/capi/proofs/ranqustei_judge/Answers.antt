@@ -1,6 +1,5 @@
 -- `capi::ranqustei_judge` meets its contract: the answer says what the judge's definition does.
 use mathlib.Core.Path.{ap, ◌∙◌}
-use borrow.Author.Rules.{rules}
 use Rattle.network.specs.Calls.{says}
 use Rattle.capi_replies.specs.Replies.{flat-judge, flat_reply}
 use Rattle.capi.proofs.ranqustei_judge.Goals as goal

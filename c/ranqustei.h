@@ -1,10 +1,10 @@
 /*
  * Ranqustei: relay plans for a hive yard.
  *
- * To build with it. `rt staticlib capi` makes the archive target/staticlib/libcapi.a. It is for x86-64 Linux and for no other machine, and needs
+ * To build with it. `rt lib` in crates/capi makes the archive crates/capi/out/libcapi.a. It is for x86-64 Linux and for no other machine, and needs
  * memcpy and memset of the C library and nothing else. From the root of the repository:
  *
- *     cc -std=c99 -Ic program.c target/staticlib/libcapi.a -o program
+ *     cc -std=c99 -Ic program.c crates/capi/out/libcapi.a -o program
  *
  * What every call keeps to. A call takes its bytes as a pointer and a length, and likewise a column of numbers, whose length counts its entries.
  * Whatever the bytes and numbers are, the call ends, stays inside what it was lent, allocates nothing, keeps nothing for a later call, and gives the

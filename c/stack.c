@@ -3,7 +3,7 @@
  * small survey takes. The call runs in a thread whose stack was filled with a pattern; counted are the bytes from the caller's stack pointer down to
  * the lowest byte that lost the pattern. Writing declines a survey whose yard record is only read.
  *
- *     cc -std=c11 -O2 -pthread c/stack.c target/staticlib/libcapi.a -o target/c-stack
+ *     cc -std=c11 -O2 -pthread c/stack.c crates/capi/out/libcapi.a -o target/c-stack
  *     target/c-stack examples/large.survey examples/large-triple.survey
  */
 #define _POSIX_C_SOURCE 200809L

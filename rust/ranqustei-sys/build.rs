@@ -10,7 +10,7 @@ fn main() {
     println!("cargo::rerun-if-changed={}", archive.display());
     if !archive.is_file() {
         println!(
-            "cargo::error={} is missing: `rt staticlib capi` at the root of the repository makes it, \
+            "cargo::error={} is missing: `rt lib` in crates/capi makes it, \
              or RANQUSTEI_ARCHIVE_DIR names its folder",
             archive.display()
         );
@@ -25,6 +25,6 @@ fn archive_folder() -> PathBuf {
     match env::var_os("RANQUSTEI_ARCHIVE_DIR") {
         Some(folder) => PathBuf::from(folder),
         None => PathBuf::from(env::var_os("CARGO_MANIFEST_DIR").unwrap_or_default())
-            .join("../../target/staticlib"),
+            .join("../../crates/capi/out"),
     }
 }

@@ -8,7 +8,7 @@ fn main() {
     if found != VERSION {
         println!(
             "cargo::error=the archive libcapi.a has version {found}, and this crate calls version {VERSION}: \
-             `rt staticlib capi` at the root of the repository makes it anew"
+             `rt lib` in crates/capi makes it anew"
         );
     }
 }

@@ -12,7 +12,7 @@ use Rattle.frontier.specs.Best.{Optimal}
 module _ {C S : Type 0} (P : Problem C S) where
   open P use {order, solutions, objective, ceilings}
 
-  pub best-some : (b : List C) (s : S) → best P b ≡ some s → (Optimal P) b s
+  pub best-some : (b : List C) (s : S) → best P b ≡ some s → Optimal P b s
   best-some b s e = least-some order objective (fits P b) solutions s e
 
   pub best_none : (b : List C) → best P b ≡ none → {s : S} → s ∈ solutions → fits P b s ≡ false

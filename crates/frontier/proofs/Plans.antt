@@ -31,15 +31,15 @@ module _ {C S : Type 0} (P : Problem C S) where
 
   -- one more solution: it is refused, or taken into the plans that it does not dominate
   data Taken (s : S) (l : List S) : List S → Type 0 where
-    refused : any ((below P) s) l ≡ true → Taken s l l
-    taken : any ((below P) s) l ≡ false → Taken s l (insert (vector_order P) (vector P) s (filter (stays s) l))
+    refused : any (below P s) l ≡ true → Taken s l l
+    taken : any (below P s) l ≡ false → Taken s l (insert (vector_order P) (vector P) s (filter (stays s) l))
 
   -- a solution that a plan equals or dominates leaves the plans as they are
-  insert-refused : (s : S) (l : List S) → any ((below P) s) l ≡ true → insert_plan P s l ≡ l
+  insert-refused : (s : S) (l : List S) → any (below P s) l ≡ true → insert_plan P s l ≡ l
   insert-refused s l k = rw k
 
   take : (s : S) (l : List S) → Taken s l (insert_plan P s l)
-  take s l = elim (decide (any ((below P) s) l)) [ inl k ↦ rw (insert-refused s l k) (refused k) | inr k ↦ rw k (taken k) ]
+  take s l = elim (decide (any (below P s) l)) [ inl k ↦ rw (insert-refused s l k) (refused k) | inr k ↦ rw k (taken k) ]
 
   take-member : {s : S} {l r : List S} → Taken s l r → (a : S) → a ∈ r → (a ≡ s) ⊎ (a ∈ l)
   take-member (refused k) a m = inr m
@@ -49,19 +49,19 @@ module _ {C S : Type 0} (P : Problem C S) where
       go (inl e) = inl e
       go (inr n) = inr (filter-mem (stays s) l n).0
 
-  take-new : {s : S} {l r : List S} → Taken s l r → (t : S) × (t ∈ r) × ((below P) s t ≡ true)
-  take-new {s} {l} (refused k) = any-mem ((below P) s) l k
+  take-new : {s : S} {l r : List S} → Taken s l r → (t : S) × (t ∈ r) × (below P s t ≡ true)
+  take-new {s} {l} (refused k) = any-mem (below P s) l k
   take-new {s} {l} (taken k) = (s, insert-here (vector_order P) (vector P) s (filter (stays s) l), le_all-refl order (vector P s))
 
-  take-old : {s : S} {l r : List S} → Taken s l r → {a : S} → a ∈ l → (t : S) × (t ∈ r) × ((below P) a t ≡ true)
+  take-old : {s : S} {l r : List S} → Taken s l r → {a : S} → a ∈ l → (t : S) × (t ∈ r) × (below P a t ≡ true)
   take-old {s} {l} (refused k) {a} m = (a, m, le_all-refl order (vector P a))
   take-old {s} {l} (taken k) {a} m = go (decide (beats P s a))
     where
-      go : Decided (beats P s a) → (t : S) × (t ∈ insert (vector_order P) (vector P) s (filter (stays s) l)) × ((below P) a t ≡ true)
+      go : Decided (beats P s a) → (t : S) × (t ∈ insert (vector_order P) (vector P) s (filter (stays s) l)) × (below P a t ≡ true)
       go (inl d) = (s, insert-here (vector_order P) (vector P) s (filter (stays s) l), dominates→le order (vector P s) (vector P a) d)
       go (inr d) = (a, insert-there (vector_order P) (vector P) s (mem-filter (stays s) m (rw d)), le_all-refl order (vector P a))
 
-  take-front : {s : S} {l r : List S} → Taken s l r → (Front P) l → (Front P) r
+  take-front : {s : S} {l r : List S} → Taken s l r → Front P l → Front P r
   take-front {s} {l} (refused k) f = f
   take-front {s} {l} (taken k) f =
       record {
@@ -74,8 +74,8 @@ module _ {C S : Type 0} (P : Problem C S) where
       rest = filter (stays s) l
 
       -- no plan that stays is the same or dominates
-      above : (y : S) → y ∈ rest → (below P) s y ≡ false
-      above y m = any_none ((below P) s) l k (filter-mem (stays s) l m).0
+      above : (y : S) → y ∈ rest → below P s y ≡ false
+      above y m = any_none (below P s) l k (filter-mem (stays s) l m).0
 
       new : (y : S) → y ∈ rest → ¬ (vector P y ≡ vector P s)
       new y m e = clash (subst⁻¹ (λ (u : List C). le_all order u (vector P s) ≡ true) e (le_all-refl order (vector P s))) (above y m)
@@ -84,11 +84,11 @@ module _ {C S : Type 0} (P : Problem C S) where
       apart a b (inl e) (inl h) = subst⁻¹ (λ (x : S). beats P a x ≡ false) (h ∙ sym e) (dominates-irrefl order (vector P a))
       apart a b (inl e) (inr n) = subst⁻¹ (λ (x : S). beats P x b ≡ false) e (not-true (beats P s b) (filter-mem (stays s) l n).1)
       apart a b (inr m) (inl h) =
-          subst⁻¹ (λ (x : S). beats P a x ≡ false) h (refute (beats P a s) ((below P) s a) (λ d. dominates→le order (vector P a) (vector P s) d) (above a m))
+          subst⁻¹ (λ (x : S). beats P a x ≡ false) h (refute (beats P a s) (below P s a) (λ d. dominates→le order (vector P a) (vector P s) d) (above a m))
       apart a b (inr m) (inr n) = f.antichain a b (filter-mem (stays s) l m).0 (filter-mem (stays s) l n).0
 
   -- all solutions of a list, one after another
-  pub collect-front : (l ps : List S) → (Front P) ps → (Front P) (collect P ps l)
+  pub collect-front : (l ps : List S) → Front P ps → Front P (collect P ps l)
   collect-front [] ps f = f
   collect-front (s ∷ l) ps f = collect-front l (insert_plan P s ps) (take-front (take s ps) f)
 
@@ -104,22 +104,22 @@ module _ {C S : Type 0} (P : Problem C S) where
       go (inl n) = old (take-member (take s ps) a n)
       go (inr n) = inr (there n)
 
-  collect-old : (l ps : List S) {a : S} → a ∈ ps → (t : S) × (t ∈ collect P ps l) × ((below P) a t ≡ true)
+  collect-old : (l ps : List S) {a : S} → a ∈ ps → (t : S) × (t ∈ collect P ps l) × (below P a t ≡ true)
   collect-old [] ps {a} m = (a, m, le_all-refl order (vector P a))
   collect-old (s ∷ l) ps {a} m =
       let w = take-old (take s ps) m in
       let v = collect-old l (insert_plan P s ps) w.1 in
       (v.0, v.1, le_all-trans order (vector P v.0) (vector P w.0) (vector P a) v.2 w.2)
 
-  pub collect-below : (l ps : List S) {a : S} → a ∈ l → (t : S) × (t ∈ collect P ps l) × ((below P) a t ≡ true)
+  pub collect-below : (l ps : List S) {a : S} → a ∈ l → (t : S) × (t ∈ collect P ps l) × (below P a t ≡ true)
   collect-below [] ps {a = a} x' = elim x' [ ]
   collect-below (s ∷ l) ps {a} (here e) =
       let w = take-new (take s ps) in
       let v = collect-old l (insert_plan P s ps) w.1 in
-      (v.0, v.1, subst⁻¹ (λ (x : S). (below P) x v.0 ≡ true) e (le_all-trans order (vector P v.0) (vector P w.0) (vector P s) v.2 w.2))
+      (v.0, v.1, subst⁻¹ (λ (x : S). below P x v.0 ≡ true) e (le_all-trans order (vector P v.0) (vector P w.0) (vector P s) v.2 w.2))
   collect-below (s ∷ l) ps {a} (there m) = collect-below l (insert_plan P s ps) m
 
-  plans-front : (Front P) (plans P)
+  plans-front : Front P (plans P)
   plans-front = collect-front (found P) [] (record { rising = tt; antichain = λ a b m n. absurd (Memᴰ.not-nil m) })
 
   plans-found : {a : S} → a ∈ plans P → a ∈ found P

@@ -85,7 +85,7 @@ module _ {C S : Type 0} (P : Problem C S) where
   walk-covers (c ∷ bs) es {b} (here q) = let w = visit-covers es c in (w.0, walk-keeps bs (visit P es c) w.1, rw q w.2)
   walk-covers (c ∷ bs) es {b} (there m) = walk-covers bs (visit P es c) m
 
-  pub solved-covers : {b : List C} → b ∈ positions values → (Covered P) (solved P) b
+  pub solved-covers : {b : List C} → b ∈ positions values → Covered P (solved P) b
   solved-covers {b} m =
       let w = walk-covers (positions values) [] m in
       record { entry = w.0; member = w.1; covering = w.2; is-best = go w.0 w.2 (walk-member (positions values) [] w.1) }

@@ -57,11 +57,11 @@ module _ {C A : Type 0} (O : TotalOrder C) (f : A → C) where
   none-least p [] h = refl
   none-least p (x ∷ l) h = rw (h x (here refl)) (none-least p l (λ a m. h a (there m)))
 
-  pub least-some : (p : A → Bool) (l : List A) (s : A) → least O f p l ≡ some s → (IsLeast O f) p l s
+  pub least-some : (p : A → Bool) (l : List A) (s : A) → least O f p l ≡ some s → IsLeast O f p l s
   least-some p [] s h = absurd (none-ne-some s h)
   least-some p (x ∷ l) s h = go (step p x l (some s) h) (λ (y : A) (e : least O f p l ≡ some y). least-some p l y e)
     where
-      x-is : some x ≡ some s → p x ≡ true → ((t : A) → t ∈ l → p t ≡ true → le (f x) (f t) ≡ true) → (IsLeast O f) p (x ∷ l) s
+      x-is : some x ≡ some s → p x ≡ true → ((t : A) → t ∈ l → p t ≡ true → le (f x) (f t) ≡ true) → IsLeast O f p (x ∷ l) s
       x-is q k low =
           let e : s ≡ x = sym (some-injective x s q) in
           record { member = here e; passes = rw e k; lowest = λ t m c. rw e (all t m c) }
@@ -70,14 +70,14 @@ module _ {C A : Type 0} (O : TotalOrder C) (f : A → C) where
           all t (here q) c = rw q (le_refl O (f x))
           all t (there m) c = low t m c
 
-      s-is : (IsLeast O f) p l s → ((p x ≡ true) → le (f s) (f x) ≡ true) → (IsLeast O f) p (x ∷ l) s
+      s-is : IsLeast O f p l s → ((p x ≡ true) → le (f s) (f x) ≡ true) → IsLeast O f p (x ∷ l) s
       s-is i low = record { member = there i.member; passes = i.passes; lowest = all }
         where
           all : (t : A) → t ∈ x ∷ l → p t ≡ true → le (f s) (f t) ≡ true
           all t (here q) c = rw q (low (rw q at c))
           all t (there m) c = i.lowest t m c
 
-      go : Step p x l (some s) → ((y : A) → least O f p l ≡ some y → (IsLeast O f) p l y) → (IsLeast O f) p (x ∷ l) s
+      go : Step p x l (some s) → ((y : A) → least O f p l ≡ some y → IsLeast O f p l y) → IsLeast O f p (x ∷ l) s
       go (skips k e) ih = s-is (ih s e) (λ c. clash c k)
       go (alone k e q) ih = x-is q k (λ t m c. clash c (least-none p l e m))
       go (wins y k e w q) ih = x-is q k (λ t m c. le_trans (f x) (f y) (f t) w ((ih y e).lowest t m c))
@@ -139,7 +139,7 @@ module _ {C A : Type 0} (O : TotalOrder C) (f : A → C) where
       go (loses y k e w r) ih = behind (refute (q x) (le (f x) (f s)) (λ m. (sub x m).1) (rw (some-injective y s r) at w)) (ih (e ∙ r))
 
   -- the way back: a member that passes, lowest, and the first of those that pass and cost no more
-  pub least-intro : (p : A → Bool) (l : List A) (s : A) → (IsLeast O f) p l s → first (λ t. p t && le (f t) (f s)) l ≡ some s → least O f p l ≡ some s
+  pub least-intro : (p : A → Bool) (l : List A) (s : A) → IsLeast O f p l s → first (λ t. p t && le (f t) (f s)) l ≡ some s → least O f p l ≡ some s
   least-intro p l s i h = w.1 ∙ sym found ∙ h
     where
       w : (t : A) × (least O f p l ≡ some t)
@@ -148,7 +148,7 @@ module _ {C A : Type 0} (O : TotalOrder C) (f : A → C) where
       t : A
       t = w.0
 
-      j : (IsLeast O f) p l t
+      j : IsLeast O f p l t
       j = least-some p l t w.1
 
       near : le (f t) (f s) ≡ true

@@ -54,4 +54,4 @@ sub_order a b c =
 module _ {A : Type 0} (k : ℕ) (raised : A → ℕ) where
   -- THE LAW: sums of equally many costs compare as the raised sums do
   pub lowered-weighs : (us ts : List A) → length us ≡ length ts → le_z (sumℤ (lowered k raised) us) (sumℤ (lowered k raised) ts) ≡ leb (sum raised us) (sum raised ts)
-  lowered-weighs us ts e = rw ((sum-lowered k raised) us, (sum-lowered k raised) ts, e) (sub_order (sum raised us) (sum raised ts) (length ts * k))
+  lowered-weighs us ts e = rw (sum-lowered k raised us, sum-lowered k raised ts, e) (sub_order (sum raised us) (sum raised ts) (length ts * k))

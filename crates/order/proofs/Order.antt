@@ -37,10 +37,10 @@ module _ {C : Type 0} (O : TotalOrder C) where
 
   -- the dictionary order, by its first entries
   pub dictionary-less : (x y : C) (v w : List C) → Less O x y → dictionary_le O (x ∷ v) (y ∷ w) ≡ true
-  dictionary-less x y v w h = (tie-less O) x y (dictionary_le O v w) h
+  dictionary-less x y v w h = tie-less O x y (dictionary_le O v w) h
 
   pub dictionary-same : (x y : C) (v w : List C) → x ≡ y → dictionary_le O v w ≡ true → dictionary_le O (x ∷ v) (y ∷ w) ≡ true
-  dictionary-same x y v w e h = (tie-of O) x y (dictionary_le O v w) (rw e (le_refl y)) h
+  dictionary-same x y v w e h = tie-of O x y (dictionary_le O v w) (rw e (le_refl y)) h
 
   -- the laws of the dictionary order
   pub dictionary-trans : (u v w : List C) → dictionary_le O u v ≡ true → dictionary_le O v w ≡ true → dictionary_le O u w ≡ true

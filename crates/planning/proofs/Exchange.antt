@@ -90,7 +90,7 @@ module _ (G : Graph) (S : Sound G) (bs : List ℤ) where
     old-or-new : (x : ℕ) → x ∈ ascending us → (x ∈ X) ⊎ (x ∈ new)
     old-or-new x i = Memᴰ.append_cases X (sort-mem orderℕ (λ x. x) us i)
 
-    exchanged : (Exchanged G S bs) (λ c. not (q c)) ts (ascending us)
+    exchanged : Exchanged G S bs (λ c. not (q c)) ts (ascending us)
     exchanged =
         record {
           does = record {
@@ -105,9 +105,9 @@ module _ (G : Graph) (S : Sound G) (bs : List ℤ) where
         }
 
   -- THE THEOREM
-  pub exchange : (p : ℕ → Bool) → OnePattern orderℤ (under G bs) p → (ts : List ℕ) → ts ∈ trees G → (us : List ℕ) × (Exchanged G S bs) p ts us
+  pub exchange : (p : ℕ → Bool) → OnePattern orderℤ (under G bs) p → (ts : List ℕ) → ts ∈ trees G → (us : List ℕ) × Exchanged G S bs p ts us
   exchange p one ts k =
-      subst (λ (r : ℕ → Bool). OnePattern orderℤ (under G bs) r → (us : List ℕ) × (Exchanged G S bs) r ts us) (fun_ext (λ c. not-not (p c)))
+      subst (λ (r : ℕ → Bool). OnePattern orderℤ (under G bs) r → (us : List ℕ) × Exchanged G S bs r ts us) (fun_ext (λ c. not-not (p c)))
       (λ o. (ascending (us (λ c. not (p c)) o ts k), exchanged (λ c. not (p c)) o ts k)) one
     where
       not-not : (b : Bool) → not (not b) ≡ b

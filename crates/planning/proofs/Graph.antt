@@ -12,5 +12,5 @@ module _ (G : Graph) where
 
   -- THE TIE RULE for signed sums: of equally many links, the smaller sum and then dictionary order is the smaller weight and then dictionary order
   pub by-weight : Sound G → (us ts : List ℕ) → length us ≡ length ts
-      → sum_order.le ((sum_key G) us) ((sum_key G) ts) ≡ tree_order.le (tree_key weight us) (tree_key weight ts)
+      → sum_order.le (sum_key G us) (sum_key G ts) ≡ tree_order.le (tree_key weight us) (tree_key weight ts)
   by-weight S us ts e = rw (S.weighs us ts e, S.weighs ts us (sym e))

@@ -25,7 +25,7 @@ use Rattle.planning.specs.Patterns.{AllExchanged, KeptLink, has, keeps}
 module _ (G : Graph) (bs : List ℤ) where
   open G use {weight}
 
-  one-pattern : (q : ℕ) → OnePattern orderℤ (under G bs) ((has G bs) q)
+  one-pattern : (q : ℕ) → OnePattern orderℤ (under G bs) (has G bs q)
   one-pattern q c m x y e f = pattern-alike orderℤ (under G bs) c m x y (eqb-true _ q e ∙ sym (eqb-true _ q f))
 
 module _ (G : Graph) (S : Sound G) (bs : List ℤ) where

@@ -58,7 +58,7 @@ module _ (G : Graph) where
 
   -- ---- a shorter list of candidates
 
-  pub completed-base : (cs X : List ℕ) → completed G ((base G) cs) X ≡ completed G cs X
+  pub completed-base : (cs X : List ℕ) → completed G (base G cs) X ≡ completed G cs X
   unfolding completed
   completed-base cs X =
       ap (λ (more : List ℕ). cond (is_forest identity (map ends X) && eqb (length (X ++ more)) (tree_size G)) (some (ascending (X ++ more))) none)
@@ -68,7 +68,7 @@ module _ (G : Graph) where
 
   -- Whatever sets of exceptional links are tried, if they are enough, then the search finds the best tree: the one of least sum that fits, and of
   -- these the first in dictionary order
-  pub search-sets : Sound G → (bs : List ℤ) → length bs ≡ length ks → (Xs : List (List ℕ)) → (EnoughSets G) bs Xs
+  pub search-sets : Sound G → (bs : List ℤ) → length bs ≡ length ks → (Xs : List (List ℕ)) → EnoughSets G bs Xs
       → search_sets G bs (by_cost weight (normals G bs)) Xs ≡ best (problem G) bs
   search-sets S bs l Xs E =
       search-leftmost orderℤ (pos 0) (under G bs) orderℤ (total G) (dictionary orderℕ) (λ ts. ts) (links G) (trees G)
@@ -77,7 +77,7 @@ module _ (G : Graph) where
       (λ ts k. fits_under 0 ks bs l ts)
 
   -- so does the search with the base for the normal links,
-  pub search-base : (bs : List ℤ) (cs : List ℕ) (Xs : List (List ℕ)) → search_sets G bs ((base G) cs) Xs ≡ search_sets G bs cs Xs
+  pub search-base : (bs : List ℤ) (cs : List ℕ) (Xs : List (List ℕ)) → search_sets G bs (base G cs) Xs ≡ search_sets G bs cs Xs
   search-base bs cs Xs =
       ap (λ (complete : List ℕ → Option (List ℕ)). search_in orderℤ (under G bs) sum_order (sum_key G) complete Xs)
       (fun_ext (completed-base cs))

@@ -34,7 +34,7 @@ sum-no-heavier w (x ∷ xs) (y ∷ ys) h = let one = h.0 in let others = sum-no-
 
 -- edges go by their numbers: `ends` says which vertices an edge joins
 module _ (ends : ℕ → Edge) where
-  pub kruskal-greedy : (L : Labelling) (cs : List ℕ) → (Greedy ends) L cs ((kruskal ends) L cs)
+  pub kruskal-greedy : (L : Labelling) (cs : List ℕ) → Greedy ends L cs (kruskal ends L cs)
   unfolding kruskal
   kruskal-greedy L [] = done
   kruskal-greedy L (c ∷ cs) =
@@ -42,20 +42,20 @@ module _ (ends : ℕ → Edge) where
       (λ p. rw p (keep (crosses→Crosses L (ends c) p) (kruskal-greedy (merge L (ends c)) cs)))
       (λ p. rw p (skip (crosses-false L (ends c) p) (kruskal-greedy L cs)))
 
-  pub greedy-kruskal : {L : Labelling} {cs ks : List ℕ} → (Greedy ends) L cs ks → ks ≡ (kruskal ends) L cs
+  pub greedy-kruskal : {L : Labelling} {cs ks : List ℕ} → Greedy ends L cs ks → ks ≡ kruskal ends L cs
   unfolding kruskal
   greedy-kruskal done = refl
   greedy-kruskal (keep {L = L} {c = c} k g) = rw (Crosses→crosses L (ends c) k) (ap {B = List ℕ} (λ l. c ∷ l) (greedy-kruskal g))
   greedy-kruskal (skip {L = L} {c = c} s g) = rw (same-crosses L (ends c) s) (greedy-kruskal g)
 
   -- it depends on what L joins alone, and goes on from where it stopped
-  greedy-≈ : {L M : Labelling} {cs ks : List ℕ} → L ≈ M → (Greedy ends) L cs ks → (Greedy ends) M cs ks
+  greedy-≈ : {L M : Labelling} {cs ks : List ℕ} → L ≈ M → Greedy ends L cs ks → Greedy ends M cs ks
   greedy-≈ h done = done
   greedy-≈ h (keep {c = c} k g) = keep (Crosses-≈ (ends c) h k) (greedy-≈ (merge-≈ (ends c) h) g)
   greedy-≈ h (skip {c = c} s g) = skip (h.0 (ends c).a (ends c).b s) (greedy-≈ h g)
 
   -- what is rejected from a finer labelling is rejected from a coarser one: what a first run keeps will do for every later one
-  pub kruskal-again : {M L : Labelling} (cs : List ℕ) → M ⊑ L → (kruskal ends) L ((kruskal ends) M cs) ≡ (kruskal ends) L cs
+  pub kruskal-again : {M L : Labelling} (cs : List ℕ) → M ⊑ L → kruskal ends L (kruskal ends M cs) ≡ kruskal ends L cs
   unfolding kruskal
   kruskal-again [] h = refl
   kruskal-again {M} {L} (c ∷ cs) h =
@@ -66,7 +66,7 @@ module _ (ends : ℕ → Edge) where
       (λ e. let f : crosses L (ends c) ≡ false = same-crosses L (ends c) (h (ends c).a (ends c).b (crosses-false M (ends c) e)) in
       rw (e, f) (kruskal-again {M = M} {L = L} cs h))
 
-  pub greedy-⊆ : {L : Labelling} {cs ks : List ℕ} → (Greedy ends) L cs ks → ks ⊆ cs
+  pub greedy-⊆ : {L : Labelling} {cs ks : List ℕ} → Greedy ends L cs ks → ks ⊆ cs
   greedy-⊆ done x m = m
   greedy-⊆ (keep {c = c} {cs = cs} {ks = ks} k g) x m = go (greedy-⊆ g x) (Memᴰ.cases_cons m)
     where
@@ -75,24 +75,24 @@ module _ (ends : ℕ → Edge) where
       go below (inr h) = there (below h)
   greedy-⊆ (skip s g) x m = there (greedy-⊆ g x m)
 
-  pub greedy-forest : {L : Labelling} {cs ks : List ℕ} → (Greedy ends) L cs ks → Forest L (map ends ks)
+  pub greedy-forest : {L : Labelling} {cs ks : List ℕ} → Greedy ends L cs ks → Forest L (map ends ks)
   greedy-forest done = tt
   greedy-forest (keep c g) = (c, greedy-forest g)
   greedy-forest (skip s g) = greedy-forest g
 
   -- what is kept joins all that the candidates join
-  pub greedy-joins : {L : Labelling} {cs ks : List ℕ} → (Greedy ends) L cs ks → merge_all L (map ends cs) ⊑ merge_all L (map ends ks)
+  pub greedy-joins : {L : Labelling} {cs ks : List ℕ} → Greedy ends L cs ks → merge_all L (map ends cs) ⊑ merge_all L (map ends ks)
   greedy-joins done i j s = s
   greedy-joins (keep c g) i j s = greedy-joins g i j s
   greedy-joins (skip {L = L} {c = c} {cs = cs} h g) i j s =
       greedy-joins g i j (merge_all-⊑ (map ends cs) (map ends cs) (merge-least L (ends c) (same-equivalence L) (λ x y p. p) h) (λ e m. m) i j s)
 
   -- it is a tree, if the candidates join all vertices; and so if some tree has all its edges among them
-  pub greedy-complete : {vs : List ℕ} {L : Labelling} {cs ks : List ℕ} → (Greedy ends) L cs ks → OneComponent vs (merge_all L (map ends cs))
+  pub greedy-complete : {vs : List ℕ} {L : Labelling} {cs ks : List ℕ} → Greedy ends L cs ks → OneComponent vs (merge_all L (map ends cs))
       → TreeFrom vs L (map ends ks)
   greedy-complete g one = record { forest = greedy-forest g; spans = OneComponent-⊑ (greedy-joins g) one }
 
-  pub greedy-tree : {vs : List ℕ} {L : Labelling} {cs ks : List ℕ} → (Greedy ends) L cs ks → (ts : List ℕ) → ts ⊆ cs → TreeFrom vs L (map ends ts)
+  pub greedy-tree : {vs : List ℕ} {L : Labelling} {cs ks : List ℕ} → Greedy ends L cs ks → (ts : List ℕ) → ts ⊆ cs → TreeFrom vs L (map ends ts)
       → TreeFrom vs L (map ends ks)
   greedy-tree {cs = cs} g ts sub t =
       greedy-complete g (OneComponent-⊑ (merge_all-⊑ (map ends ts) (map ends cs) (λ i j s. s) (map-⊆ ends ts cs sub)) t.spans)
@@ -110,7 +110,7 @@ module _ (ends : ℕ → Edge) where
 
   module _ (vs : List ℕ) (w : ℕ → ℕ) where
     -- one step: a tree from L, of which every edge is c or one of cs, and a c that crosses L
-    step : {L : Labelling} {c : ℕ} {cs : List ℕ} → Crosses L (ends c) → (EndsWithin ends) vs (c ∷ cs) → (ts : List ℕ) → ts ⊆ c ∷ cs → TreeFrom vs L (map ends ts)
+    step : {L : Labelling} {c : ℕ} {cs : List ℕ} → Crosses L (ends c) → EndsWithin ends vs (c ∷ cs) → (ts : List ℕ) → ts ⊆ c ∷ cs → TreeFrom vs L (map ends ts)
         → (x : Exchange ends vs L (ends c) ts) × (rest x ⊆ cs) × (x.out ∈ c ∷ cs)
     step {L} {c} {cs} k within ts sub t = (x, without (merge-joins L (ends c)) (rest x) (λ y m. back y (there m)) x.tree, back x.out (here refl))
       where
@@ -121,7 +121,7 @@ module _ (ends : ℕ → Edge) where
         back y m = sub y (perm-⊆ (perm-sym (exchange-perm x)) y m)
 
     -- the edges of the tree can be set beside those kept, such that no kept edge is the heavier of the two
-    pub greedy-no-heavier : {L : Labelling} {cs ks : List ℕ} → (Greedy ends) L cs ks → Sorted orderℕ w cs → (EndsWithin ends) vs cs
+    pub greedy-no-heavier : {L : Labelling} {cs ks : List ℕ} → Greedy ends L cs ks → Sorted orderℕ w cs → EndsWithin ends vs cs
         → (ts : List ℕ) → ts ⊆ cs → TreeFrom vs L (map ends ts) → (us : List ℕ) × Perm ts us × NoHeavier w ks us
     greedy-no-heavier done sorted within [] sub t = ([], perm-nil, tt)
     greedy-no-heavier done sorted within (t ∷ ts) sub r = elim (sub t (here refl)) [ ]
@@ -137,7 +137,7 @@ module _ (ends : ℕ → Edge) where
         greedy-no-heavier g sorted.1 (λ d m. within d (there m)) ts (without s ts sub t) t
 
     -- so the weight is least
-    pub greedy-least : {L : Labelling} {cs ks : List ℕ} → (Greedy ends) L cs ks → Sorted orderℕ w cs → (EndsWithin ends) vs cs
+    pub greedy-least : {L : Labelling} {cs ks : List ℕ} → Greedy ends L cs ks → Sorted orderℕ w cs → EndsWithin ends vs cs
         → (ts : List ℕ) → ts ⊆ cs → TreeFrom vs L (map ends ts) → sum w ks ≤ sum w ts
     greedy-least {ks = ks} g sorted within ts sub t =
         let m = greedy-no-heavier g sorted within ts sub t in

@@ -42,28 +42,28 @@ crosses-≈ {L} {M} e h =
 
 module _ (ends : ℕ → Edge) where
   -- the first row, and the later ones
-  row_here : (test : Labelling → Bool) (L : Labelling) (b : ℕ) (bs : List ℕ) → test (merge L (ends b)) ≡ true → (first_row ends) test L (b ∷ bs) ≡ 0
+  row_here : (test : Labelling → Bool) (L : Labelling) (b : ℕ) (bs : List ℕ) → test (merge L (ends b)) ≡ true → first_row ends test L (b ∷ bs) ≡ 0
   unfolding first_row first_place row_at
   row_here test L b bs e = rw e
 
-  row_next : (L : Labelling) (b : ℕ) (bs : List ℕ) (k : ℕ) → (row_at ends) L (b ∷ bs) (suc k) ≡ (row_at ends) (merge L (ends b)) bs k
+  row_next : (L : Labelling) (b : ℕ) (bs : List ℕ) (k : ℕ) → row_at ends L (b ∷ bs) (suc k) ≡ row_at ends (merge L (ends b)) bs k
   unfolding row_at
   row_next L b bs k = rw (add-one (suc k), add-one k)
 
   row-later : (test : Labelling → Bool) (L : Labelling) (b : ℕ) (bs : List ℕ) → test (merge L (ends b)) ≡ false
-      → (first_row ends) test L (b ∷ bs) ≡ suc ((first_row ends) test (merge L (ends b)) bs)
+      → first_row ends test L (b ∷ bs) ≡ suc (first_row ends test (merge L (ends b)) bs)
   unfolding first_row first_place row_at
   row-later test L b bs e =
-      rw e (first_next (λ k. test ((row_at ends) L (b ∷ bs) k)) 0 (length bs)
-      ∙ ap suc (first-same (λ k. test ((row_at ends) L (b ∷ bs) (suc k))) (λ k. test ((row_at ends) (merge L (ends b)) bs k)) 0 (length bs)
+      rw e (first_next (λ k. test (row_at ends L (b ∷ bs) k)) 0 (length bs)
+      ∙ ap suc (first-same (λ k. test (row_at ends L (b ∷ bs) (suc k))) (λ k. test (row_at ends (merge L (ends b)) bs k)) 0 (length bs)
       (λ k g h. ap test (row_next L b bs k))))
 
   -- tests that agree on all rows
-  row_same : (s t : Labelling → Bool) (L : Labelling) (base : List ℕ) → ((M : Labelling) → L ⊑ M → s M ≡ t M) → (first_row ends) s L base ≡ (first_row ends) t L base
+  row_same : (s t : Labelling → Bool) (L : Labelling) (base : List ℕ) → ((M : Labelling) → L ⊑ M → s M ≡ t M) → first_row ends s L base ≡ first_row ends t L base
   unfolding first_row row_at
   row_same s t L base h =
-      first-same (λ k. s ((row_at ends) L base k)) (λ k. t ((row_at ends) L base k)) 0 (length base)
-      (λ k a b. h ((row_at ends) L base k) (merge_all-keeps L (map ends (take (k + 1) base))))
+      first-same (λ k. s (row_at ends L base k)) (λ k. t (row_at ends L base k)) 0 (length base)
+      (λ k a b. h (row_at ends L base k) (merge_all-keeps L (map ends (take (k + 1) base))))
 
   -- a forest is kept whole
   pub kruskal-all : (L : Labelling) (l : List ℕ) → Forest L (map ends l) → kruskal ends L l ≡ l
@@ -96,7 +96,7 @@ module _ (ends : ℕ → Edge) where
 
   -- ONE EDGE: the base without the edge at lost_one is kept
   pub kept-one : (L : Labelling) (base : List ℕ) (e : Edge) (M : Labelling) → Forest L (map ends base) → Crosses L e → M ≈ merge L e
-      → kruskal ends M base ≡ at_places (other ((lost_one ends) L base e)) 0 base
+      → kruskal ends M base ≡ at_places (other (lost_one ends L base e)) 0 base
   unfolding lost_one kruskal at_places
   kept-one L [] e M f c h = refl
   kept-one L (b ∷ bs) e M f c h =
@@ -108,7 +108,7 @@ module _ (ends : ℕ → Edge) where
       let up : Crosses M (ends b) = Crosses-≈ (ends b) (≈-sym h) (crosses-second L (ends b) e f.0 k) in
       kruskal-taken M b bs up
       ∙ ap (◌∷◌ b) (kept-one N bs e (merge M (ends b)) f.1 k (≈-trans (merge-≈ (ends b) h) (merge-swap L e (ends b))))
-      ∙ sym (ap (λ (i : ℕ). at_places (other i) 0 (b ∷ bs)) (row-later test L b bs (ap not t)) ∙ without-later ((lost_one ends) N bs e) b bs))
+      ∙ sym (ap (λ (i : ℕ). at_places (other i) 0 (b ∷ bs)) (row-later test L b bs (ap not t)) ∙ without-later (lost_one ends N bs e) b bs))
       (λ t.
       let s = crosses-false N e t in
       kruskal-left M b bs (h.1 (ends b).a (ends b).b (trade L e (ends b) c s))
@@ -125,7 +125,7 @@ module _ (ends : ℕ → Edge) where
       (Crosses-≈ f (≈-trans (≈-sym (merge-same L e b c s)) (≈-sym (merge-idle (merge L b) e s))) d)
 
   -- where e is idle, f loses what it loses alone
-  idle-two : (L : Labelling) (base : List ℕ) (e f : Edge) → Same L e.a e.b → (lost_two ends) L base e f ≡ (lost_one ends) L base f
+  idle-two : (L : Labelling) (base : List ℕ) (e f : Edge) → Same L e.a e.b → lost_two ends L base e f ≡ lost_one ends L base f
   unfolding lost_one lost_two
   idle-two L base e f s =
       row_same (λ M. not (crosses (merge M e) f)) (λ M. not (crosses M f)) L base
@@ -134,13 +134,13 @@ module _ (ends : ℕ → Edge) where
   -- the two places, by the base's first edge
   data First (L : Labelling) (b : ℕ) (bs : List ℕ) (e f : Edge) : ℕ → ℕ → Type 0 where
     neither : Crosses (merge L (ends b)) e → Crosses (merge (merge L (ends b)) e) f
-        → First L b bs e f (suc ((lost_one ends) (merge L (ends b)) bs e)) (suc ((lost_two ends) (merge L (ends b)) bs e f))
-    by_first : Same (merge L (ends b)) e.a e.b → First L b bs e f 0 (suc ((lost_one ends) (merge L (ends b)) bs f))
+        → First L b bs e f (suc (lost_one ends (merge L (ends b)) bs e)) (suc (lost_two ends (merge L (ends b)) bs e f))
+    by_first : Same (merge L (ends b)) e.a e.b → First L b bs e f 0 (suc (lost_one ends (merge L (ends b)) bs f))
     by-second : Crosses (merge L (ends b)) e → Same (merge (merge L (ends b)) e) f.a f.b
-        → First L b bs e f (suc ((lost_one ends) (merge L (ends b)) bs e)) 0
+        → First L b bs e f (suc (lost_one ends (merge L (ends b)) bs e)) 0
 
   first_of : (L : Labelling) (b : ℕ) (bs : List ℕ) (e f : Edge) → Crosses L e → Crosses (merge L e) f
-      → First L b bs e f ((lost_one ends) L (b ∷ bs) e) ((lost_two ends) L (b ∷ bs) e f)
+      → First L b bs e f (lost_one ends L (b ∷ bs) e) (lost_two ends L (b ∷ bs) e f)
   unfolding lost_one lost_two
   first_of L b bs e f c d =
       let N : Labelling = merge L (ends b) in
@@ -152,17 +152,17 @@ module _ (ends : ℕ → Edge) where
       (λ u. rw (row-later one L b bs (ap not t), row_here two L b bs (ap not u)) (by-second (crosses→Crosses N e t) (crosses-false (merge N e) f u))))
       (λ t.
       let s = crosses-false N e t in
-      let q : (lost_two ends) N bs e f ≡ (lost_one ends) N bs f = idle-two N bs e f s in
+      let q : lost_two ends N bs e f ≡ lost_one ends N bs f = idle-two N bs e f s in
       rw (row_here one L b bs (ap not t), row-later two L b bs (ap not (first-apart L (ends b) e f c d s)), q) (by_first s))
 
   -- no edge of the base is lost to both
   pub lost-apart : (L : Labelling) (base : List ℕ) (e f : Edge) → Crosses L e → Crosses (merge L e) f
-      → (lost_one ends) L base e ≡ (lost_two ends) L base e f → length base ≤ (lost_one ends) L base e
+      → lost_one ends L base e ≡ lost_two ends L base e f → length base ≤ (lost_one ends) L base e
   lost-apart L [] e f c d q = omega arith
   lost-apart L (b ∷ bs) e f c d q = go (first_of L b bs e f c d) q (λ k m. lost-apart (merge L (ends b)) bs e f k m)
     where
       go : {i j : ℕ} → First L b bs e f i j → i ≡ j
-          → (Crosses (merge L (ends b)) e → Crosses (merge (merge L (ends b)) e) f → (lost_one ends) (merge L (ends b)) bs e ≡ (lost_two ends) (merge L (ends b)) bs e f
+          → (Crosses (merge L (ends b)) e → Crosses (merge (merge L (ends b)) e) f → lost_one ends (merge L (ends b)) bs e ≡ lost_two ends (merge L (ends b)) bs e f
           → length bs ≤ (lost_one ends) (merge L (ends b)) bs e)
           → suc (length bs) ≤ i
       go (neither k m) q later = let r = later k m (suc_inj q) in omega arith
@@ -171,7 +171,7 @@ module _ (ends : ℕ → Edge) where
 
   -- TWO EDGES: the base without the edges at lost_one and lost_two is kept
   pub kept-two : (L : Labelling) (base : List ℕ) (e f : Edge) (M : Labelling) → Forest L (map ends base) → Crosses L e → Crosses (merge L e) f
-      → M ≈ merge (merge L e) f → kruskal ends M base ≡ at_places (other_two ((lost_one ends) L base e) ((lost_two ends) L base e f)) 0 base
+      → M ≈ merge (merge L e) f → kruskal ends M base ≡ at_places (other_two (lost_one ends L base e) (lost_two ends L base e f)) 0 base
   unfolding kruskal at_places
   kept-two L [] e f M F c d h = refl
   kept-two L (b ∷ bs) e f M F c d h =
@@ -182,7 +182,7 @@ module _ (ends : ℕ → Edge) where
 
       go : {i j : ℕ} → First L b bs e f i j
           → (Crosses N e → Crosses (merge N e) f → merge M (ends b) ≈ merge (merge N e) f
-          → kruskal ends (merge M (ends b)) bs ≡ at_places (other_two ((lost_one ends) N bs e) ((lost_two ends) N bs e f)) 0 bs)
+          → kruskal ends (merge M (ends b)) bs ≡ at_places (other_two (lost_one ends N bs e) (lost_two ends N bs e f)) 0 bs)
           → kruskal ends M (b ∷ bs) ≡ at_places (other_two i j) 0 (b ∷ bs)
       go (neither k m) later =
           let swap : merge (merge L e) (ends b) ≈ merge N e = merge-swap L e (ends b) in
@@ -191,16 +191,16 @@ module _ (ends : ℕ → Edge) where
           let joined : merge M (ends b) ≈ merge (merge N e) f =
           ≈-trans (merge-≈ (ends b) h) (≈-trans (merge-swap (merge L e) f (ends b)) (merge-≈ f swap)) in
           kruskal-taken M b bs (Crosses-≈ (ends b) (≈-sym h) over) ∙ ap (◌∷◌ b) (later k m joined)
-          ∙ sym (two-later ((lost_one ends) N bs e) ((lost_two ends) N bs e f) b bs)
+          ∙ sym (two-later (lost_one ends N bs e) (lost_two ends N bs e f) b bs)
       go (by_first s) later =
           let same : merge L (ends b) ≈ merge L e = merge-same L e (ends b) c s in
           kruskal-left M b bs (h.1 (ends b).a (ends b).b (merge_keeps (merge L e) f (ends b).a (ends b).b (trade L e (ends b) c s)))
           ∙ kept-one N bs f M F.1 (Crosses-≈ f (≈-sym same) d) (≈-trans h (merge-≈ f (≈-sym same)))
-          ∙ sym (two-first ((lost_one ends) N bs f) b bs)
+          ∙ sym (two-first (lost_one ends N bs f) b bs)
       go (by-second k s) later =
           let swap : merge (merge L e) (ends b) ≈ merge N e = merge-swap L e (ends b) in
           let t : Same (merge (merge L e) (ends b)) f.a f.b = swap.1 f.a f.b s in
           let same : merge (merge L e) (ends b) ≈ merge (merge L e) f = merge-same (merge L e) f (ends b) d t in
           kruskal-left M b bs (h.1 (ends b).a (ends b).b (trade (merge L e) f (ends b) d t))
           ∙ kept-one N bs e M F.1 k (≈-trans h (≈-trans (≈-sym same) swap))
-          ∙ sym (two-second ((lost_one ends) N bs e) b bs)
+          ∙ sym (two-second (lost_one ends N bs e) b bs)

@@ -1,7 +1,6 @@
 -- Ceilings on the k-max costs of a set of edges. A tree fits where, for each ceiling, fewer than k of its edges exceed it:
 -- so only its exceptional edges decide, and they are few. For any number of ceilings and any k.
 use Rattle.std.specs.Prelude.{Bool, List, [], ◌∷◌, map, ℕ, suc, ◌+◌, ◌-◌, ◌≤◌, ◌<◌, ltb}
-use mathlib.Core.List.Memᴰ
 use Rattle.order.specs.Lists.{◌∈◌, all, any}
 use Rattle.order.specs.Order.{TotalOrder}
 use Rattle.kmax.specs.KMax.{above, count_above, kmax}

@@ -1,7 +1,6 @@
 -- The pattern of an edge as a number: digit i is 1 where the edge exceeds ceiling i. Edges with one number exceed the same ceilings, and the digits
 -- say which sets of edges are admissible. For any number of ceilings and any ranks.
 use Rattle.std.specs.Prelude.{Bool, true, cond, ◌&&◌, not, ℕ, ◌+◌, ◌*◌, ◌/◌, ◌%◌, ltb}
-use mathlib.Core.List.Memᴰ
 use mathlib.Core.List.{List, [], ◌∷◌, map}
 use Rattle.std.proofs.Math.Dec.{eqb}
 use Rattle.order.specs.Order.{TotalOrder}

@@ -1,7 +1,6 @@
 -- Edges that exceed the same ceilings: a tree stays one that fits where some such edges are replaced by as many others. An exceptional edge of a tree
 -- that fits is admissible by itself. For any number of ceilings and any k.
 use Rattle.std.specs.Prelude.{Bool, true, ◌&&◌, List, [], ◌∷◌, ◌≡◌, ℕ}
-use mathlib.Core.List.Memᴰ
 use Rattle.order.specs.Lists.{◌∈◌}
 use Rattle.order.specs.Order.{TotalOrder}
 use Rattle.kmax.specs.Ceilings.{Ceiling, admissible, exceeds, exceptional}

@@ -23,7 +23,7 @@ use Rattle.network.proofs.Tabulate.{tabulate-at, tabulate-length}
 use Rattle.network.specs.Survey.{ceilings_in, end_in, ends_in, layout_of, link_count, link_start, narrow_slots, network_of, network_with, ranks_at, ranks_in}
 use Rattle.network.specs.Survey.{rest_in, stations_in, wide_slots, working_in}
 use Rattle.network.specs.Refusals.{any_bad_rank, bad_present, bad_rank, bad_ranks, bad_rest, checked_of, too_many_positions}
-use Rattle.network.specs.Yard.{ends, ends_at, graph, ranks, stations, sum_at, tree_size}
+use Rattle.network.specs.Yard.{ends, ends_at, graph, ranks, sum_at, tree_size}
 use Rattle.network.proofs.Resting.{joins-within, working-apart, working-few}
 use Rattle.network.specs.Walk.{position_count}
 use Rattle.network.specs.PlanList.{buffer_need, max_need, plan_size, plan_slots}

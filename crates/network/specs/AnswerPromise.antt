@@ -2,7 +2,6 @@
 -- a plan exactly for a tree. The contract of the ceilings question has `BestPromised`, that of the judge `JudgePromised`.
 use Rattle.std.specs.Prelude.{false, ◌↔◌, ◌⊎◌, ℕ, ◌≤◌, ℤ, length}
 use mathlib.Core.List.{List}
-use Rattle.std.proofs.Math.Option.{none}
 use Rattle.std.proofs.Math.Path.{◌≡◌}
 use Rattle.std.proofs.Math.ListN.{take}
 use Rattle.network.specs.Yard.{Tree, bounds, fits, tree_size}

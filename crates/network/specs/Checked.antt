@@ -11,7 +11,6 @@ refuse_if false number place = Fine
 
 -- the first refusal of the two
 infixl 20 ◌or_else◌
-
 unfoldable pub ◌or_else◌ : Checked → Checked → Checked
 Fine or_else b = b
 Refused r or_else b = Refused r

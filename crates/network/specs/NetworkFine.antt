@@ -6,7 +6,7 @@ use Rattle.kmax.specs.Ceilings.{slack_of}
 use Rattle.network.specs.Limits.{max_ceilings, max_links, max_plans, max_stations}
 use Rattle.network.specs.Capacities.{ceilings_held, exceptions_held, links_held, plans_held, stations_held, sum_held}
 use Rattle.network.specs.Network.{Network}
-use Rattle.network.specs.Yard.{ends, ranks, stations, tree_size}
+use Rattle.network.specs.Yard.{ranks, stations, tree_size}
 use Rattle.network.specs.Walk.{position_count}
 
 -- ---- limits of the walk and of the list, for any number of ceilings

@@ -1,7 +1,6 @@
 -- What the user relies on: that the list of an accepted survey is complete (demand 3), and that a plan fetched from it is the plan listed there.
 -- The list call's contract has `Promised`, those of fetching `NumberKept` and `LinksKept`.
 use Rattle.std.specs.Prelude.{cond, true, false, List, [], ◌++◌, ◌↔◌, ◌≡◌, ℕ, ◌≤◌, ◌<◌, ltb, ℤ, get_or, length}
-use mathlib.Core.List.Memᴰ
 use Rattle.order.specs.Lists.{◌∈◌}
 use Rattle.order.specs.Order.{dictionary, dictionary_le, orderℕ, orderℤ}
 use Rattle.order.specs.Sorted.{Rising}

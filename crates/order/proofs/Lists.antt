@@ -3,7 +3,7 @@ use Rattle.std.specs.Prelude.{Bool, true, false, ◌&&◌, not, ◌||◌, ◌≡
 use mathlib.Core.List.Memᴰ
 use mathlib.Core.List.Memᴰ.{head as here}
 use mathlib.Core.List.Memᴰ.{tail as there}
-use mathlib.Core.List.{List, [], ◌∷◌, map, ◌++◌, Memᴰ}
+use mathlib.Core.List.{List, [], ◌∷◌, map, ◌++◌}
 use mathlib.Core.List.{Sublistᴰ}
 use Rattle.std.proofs.Common.{⊎_elim, sym, ap, ap₂, ◌∙◌, subst, arith}
 use Rattle.std.proofs.Math.Option.{Option, none, some, some-injective, none-ne-some}

@@ -1,7 +1,6 @@
 -- The numbers below n by rising keys: n numbers below n whose keys rise strictly are the numbers below n, sorted. For n different numbers below n are all
 -- of them.
 use Rattle.std.specs.Prelude.{◌≡◌, ℕ, ◌<◌}
-use mathlib.Core.List.Memᴰ
 
 -- ---- the numbers below n
 

@@ -2,7 +2,6 @@
 -- one pattern are all among those that Kruskal's method keeps of them. A search may leave the others out. For any one pattern and any number of
 -- ceilings; the other links stay, so that patterns can be taken in turn.
 use Rattle.std.specs.Prelude.{Bool, true, false, List, ◌≡◌, ℕ, ℤ, pos}
-use mathlib.Core.List.Memᴰ
 use Rattle.order.specs.Lists.{◌∈◌, filter}
 use Rattle.order.specs.Order.{orderℤ}
 use Rattle.spanning.specs.Best.{by_cost}

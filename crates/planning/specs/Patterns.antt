@@ -2,7 +2,6 @@
 -- and each of whose links is among those that Kruskal's method keeps of the links of its pattern. So a search may try sets of such links alone.
 -- For any number of ceilings and any ranks.
 use Rattle.std.specs.Prelude.{Bool, true, ◌≡◌, ℕ, eqb, ℤ}
-use mathlib.Core.List.Memᴰ
 use mathlib.Core.List.{List}
 use Rattle.order.specs.Lists.{◌∈◌, filter}
 use Rattle.order.specs.Order.{orderℤ}

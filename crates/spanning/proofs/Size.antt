@@ -1,5 +1,5 @@
 -- The tests of Tree reflect the statements, and a spanning tree of some vertices has one edge fewer: as many as a star of these vertices.
-use Rattle.std.specs.Prelude.{true, List, [], ◌∷◌, map, ◌↔◌, ◌≡◌, refl, ℕ, ◌-◌, ◌<◌, eqb, length}
+use Rattle.std.specs.Prelude.{true, List, [], ◌∷◌, ◌↔◌, ◌≡◌, refl, ℕ, ◌-◌, ◌<◌, eqb, length}
 use mathlib.Core.List.Memᴰ
 use mathlib.Core.List.Memᴰ.{head as here}
 use mathlib.Core.List.Memᴰ.{tail as there}

@@ -1,11 +1,10 @@
-use Prim.Native.Nat.{◌≤◌, ◌-◌}
+use Prim.Native.Nat.{◌≤◌}
 use mathlib.Core.Path.{◌≡◌}
 use native.Mathlib.Omega.{arith}
 use borrow.Author.Rules.{rules}
 use lib.ListN.{length}
 use Rattle.network.specs.Capacities.{stations_held}
-use Rattle.spanning.specs.LabelList.{replaced}
-use Rattle.forest.specs.MapFirst.{map_first, map_first-end, map_first-turn}
+use Rattle.forest.specs.MapFirst.{map_first-end, map_first-turn}
 use Rattle.forest.proofs.relabel.Goals as goal
 
 pub loop-i-preserved : goal.loop-i-preserved

@@ -1,12 +1,9 @@
 -- After i turns the first i leaders are relabelled.
 use Prim.Native.Nat.{◌≤◌, ◌-◌}
 use mathlib.Core.Path.{◌≡◌}
-use native.Mathlib.Omega.{arith}
-use borrow.Author.Rules.{rules}
-use lib.ListN.{length}
 use Rattle.network.specs.Capacities.{stations_held}
 use Rattle.spanning.specs.LabelList.{replaced}
-use Rattle.forest.specs.MapFirst.{map_first, map_first-end, map_first-turn}
+use Rattle.forest.specs.MapFirst.{map_first}
 use Rattle.forest.proofs.relabel.Given as goal
 
 abbrev pub invariant-loop-i : goal.invariant-loop-i

@@ -1,6 +1,5 @@
 -- `ranks::above_one` meets its contract. An absent ceiling's rank has nothing above 1, and any other all but 1.
 use native.Mathlib.Omega.{arith}
-use borrow.Author.Rules.{rules}
 use Rattle.ranks.proofs.above_one.Goals as goal
 
 pub returns-then-k-eq0 : goal.returns-then-k-eq0

@@ -1,10 +1,8 @@
-use Prim.Native.Nat.{◌-◌, ◌*◌, ◌≤◌}
-use mathlib.Core.Path.{◌≡◌, refl}
+use Prim.Native.Nat.{◌≤◌}
+use mathlib.Core.Path.{refl}
 use native.Mathlib.Omega.{arith}
-use borrow.Author.Rules.{rules}
 use lib.ListN.{length}
-use Rattle.kmax.specs.Ceilings.{slack_of}
-use Rattle.ranks.specs.Slack.{slack-end, slack-start, slack-turn, slack_from}
+use Rattle.ranks.specs.Slack.{slack-end, slack-start, slack-turn}
 use Rattle.ranks.proofs.slack_of.Goals as goal
 
 pub loop-i-init : goal.loop-i-init

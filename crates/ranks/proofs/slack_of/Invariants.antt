@@ -1,11 +1,9 @@
 -- What was added up so far and what is left come to the whole.
 use Prim.Native.Nat.{◌-◌, ◌*◌, ◌≤◌}
-use mathlib.Core.Path.{◌≡◌, refl}
-use native.Mathlib.Omega.{arith}
-use borrow.Author.Rules.{rules}
+use mathlib.Core.Path.{◌≡◌}
 use lib.ListN.{length}
 use Rattle.kmax.specs.Ceilings.{slack_of}
-use Rattle.ranks.specs.Slack.{slack-end, slack-start, slack-turn, slack_from}
+use Rattle.ranks.specs.Slack.{slack_from}
 use Rattle.ranks.proofs.slack_of.Given as goal
 
 abbrev pub invariant-loop-i : goal.invariant-loop-i

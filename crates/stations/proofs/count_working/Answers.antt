@@ -1,6 +1,5 @@
-use Prim.Native.Nat.{◌-◌, ◌≤◌}
 use native.Mathlib.Omega.{arith}
-use Rattle.stations.specs.Counting.{Counted, count-more, count_none, counted-all, counted-few, none_rest}
+use Rattle.stations.specs.Counting.{count-more, count_none, counted-all, counted-few, none_rest}
 use Rattle.stations.proofs.count_working.Goals as goal
 
 pub returns-then-rest-eq0 : goal.returns-then-rest-eq0

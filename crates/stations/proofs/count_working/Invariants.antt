@@ -1,7 +1,6 @@
 -- `stations::count_working` meets its contract. After j turns the working ones of the first j stations are counted.
 use Prim.Native.Nat.{◌-◌, ◌≤◌}
-use native.Mathlib.Omega.{arith}
-use Rattle.stations.specs.Counting.{Counted, count-more, count_none, counted-all, counted-few, none_rest}
+use Rattle.stations.specs.Counting.{Counted}
 use Rattle.stations.proofs.count_working.Given as goal
 
 abbrev pub invariant-loop-j : goal.invariant-loop-j

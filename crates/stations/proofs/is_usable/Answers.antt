@@ -1,6 +1,5 @@
 -- `stations::is_usable` meets its contract. Where no station rests every link is usable.
 use mathlib.Core.Path.{sym}
-use borrow.Author.Rules.{rules}
 use Rattle.network.proofs.Resting.{all-usable}
 use Rattle.stations.proofs.is_usable.Goals as goal
 

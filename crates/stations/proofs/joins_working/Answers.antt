@@ -1,5 +1,4 @@
 -- `stations::joins_working` meets its contract.
-use borrow.Author.Rules.{rules}
 use Rattle.network.specs.Yard.{joins_working}
 use Rattle.stations.proofs.joins_working.Goals as goal
 

@@ -1,6 +1,5 @@
 -- Past the end it is 0, as `get_or` gives it.
 use mathlib.Core.Path.{sym}
-use borrow.Author.Rules.{rules}
 use lib.ListN.{get_or-eq_default}
 use Rattle.stations.proofs.station_at.Goals as goal
 

@@ -1,8 +1,8 @@
-use mathlib.Core.Path.{◌≡◌, refl, sym, ◌∙◌}
-use Prim.Native.Nat.{ℕ, ◌-◌, ◌≤◌}
+use mathlib.Core.Path.{refl, sym, ◌∙◌}
+use Prim.Native.Nat.{ℕ, ◌-◌}
 use native.Mathlib.Omega.{arith}
 use lib.ListN.{length, length-set, length-replicate, get_or-replicate}
-use lib.Seq.{paste, paste-zero}
+use lib.Seq.{paste-zero}
 use Rattle.buffers.specs.Overwrite.{overwrite-end}
 use Rattle.buffers.specs.Copies.{paste_all, paste-turn, zeros}
 use Rattle.buffers.proofs.copies.clear_from.Goals as goal

@@ -1,11 +1,9 @@
 -- `buffers::copies::clear_from` meets its contract. The loop copies a list of zeros: its invariant is the copy of the first j of them.
-use mathlib.Core.Path.{◌≡◌, refl, sym, ◌∙◌}
-use Prim.Native.Nat.{ℕ, ◌-◌, ◌≤◌}
-use native.Mathlib.Omega.{arith}
-use lib.ListN.{length, length-set, length-replicate, get_or-replicate}
-use lib.Seq.{paste, paste-zero}
-use Rattle.buffers.specs.Overwrite.{overwrite-end}
-use Rattle.buffers.specs.Copies.{paste_all, paste-turn, zeros}
+use mathlib.Core.Path.{◌≡◌}
+use Prim.Native.Nat.{◌-◌, ◌≤◌}
+use lib.ListN.{length}
+use lib.Seq.{paste}
+use Rattle.buffers.specs.Copies.{zeros}
 use Rattle.buffers.proofs.copies.clear_from.Given as goal
 
 abbrev pub invariant-loop-j : goal.invariant-loop-j

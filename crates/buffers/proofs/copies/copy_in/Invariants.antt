@@ -1,10 +1,8 @@
 -- `buffers::copies::copy_in` meets its contract. The invariant: the first j bytes of src are copied.
-use mathlib.Core.Path.{◌≡◌, refl, ◌∙◌}
+use mathlib.Core.Path.{◌≡◌}
 use Prim.Native.Nat.{◌-◌, ◌≤◌}
-use native.Mathlib.Omega.{arith}
-use lib.ListN.{length, length-set}
-use lib.Seq.{paste, paste-zero}
-use Rattle.buffers.specs.Copies.{paste_all, paste-turn}
+use lib.ListN.{length}
+use lib.Seq.{paste}
 use Rattle.buffers.proofs.copies.copy_in.Given as goal
 
 abbrev pub invariant-loop-j : goal.invariant-loop-j

@@ -1,7 +1,7 @@
 use mathlib.Core.Path.{◌≡◌, refl, sym, ap, ◌∙◌}
-use Prim.Native.Nat.{ℕ, ◌-◌, ◌≤◌}
+use Prim.Native.Nat.{ℕ}
 use native.Mathlib.Omega.{arith}
-use lib.ListN.{length, take, drop, length-set, length-drop}
+use lib.ListN.{take, drop, length-set, length-drop}
 use lib.Seq.{paste, paste-zero}
 use Rattle.buffers.specs.Overwrite.{overwrite, paste-overwrite, overwrite-same}
 use Rattle.buffers.specs.Copies.{paste-turn, down-reads}

@@ -1,12 +1,9 @@
 -- `buffers::moves::move_down` meets its contract. The invariant: the first j bytes are moved. A turn reads a byte that is not written yet.
 -- Bytes that stand at their place already are not moved.
-use mathlib.Core.Path.{◌≡◌, refl, sym, ap, ◌∙◌}
-use Prim.Native.Nat.{ℕ, ◌-◌, ◌≤◌}
-use native.Mathlib.Omega.{arith}
-use lib.ListN.{length, take, drop, length-set, length-drop}
-use lib.Seq.{paste, paste-zero}
-use Rattle.buffers.specs.Overwrite.{overwrite, paste-overwrite, overwrite-same}
-use Rattle.buffers.specs.Copies.{paste-turn, down-reads}
+use mathlib.Core.Path.{◌≡◌}
+use Prim.Native.Nat.{◌-◌, ◌≤◌}
+use lib.ListN.{length, drop}
+use lib.Seq.{paste}
 use Rattle.buffers.proofs.moves.move_down.Given as goal
 
 abbrev pub invariant-loop-j : goal.invariant-loop-j

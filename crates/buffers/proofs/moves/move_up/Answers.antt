@@ -1,8 +1,7 @@
-use mathlib.Core.Path.{◌≡◌, refl, ◌∙◌}
-use Prim.Native.Nat.{◌≤◌}
+use mathlib.Core.Path.{refl, ◌∙◌}
 use native.Mathlib.Omega.{arith}
-use lib.ListN.{length, length-set}
-use Rattle.buffers.specs.Copies.{moved, up_turn, up_none, up-all}
+use lib.ListN.{length-set}
+use Rattle.buffers.specs.Copies.{up_turn, up_none, up-all}
 use Rattle.buffers.proofs.moves.move_up.Goals as goal
 
 pub loop-j-init : goal.loop-j-init

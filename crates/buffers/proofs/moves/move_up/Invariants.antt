@@ -1,9 +1,8 @@
 -- `buffers::moves::move_up` meets its contract. The invariant: all but the first j bytes are moved. A turn reads a byte that is not written yet.
-use mathlib.Core.Path.{◌≡◌, refl, ◌∙◌}
+use mathlib.Core.Path.{◌≡◌}
 use Prim.Native.Nat.{◌≤◌}
-use native.Mathlib.Omega.{arith}
-use lib.ListN.{length, length-set}
-use Rattle.buffers.specs.Copies.{moved, up_turn, up_none, up-all}
+use lib.ListN.{length}
+use Rattle.buffers.specs.Copies.{moved}
 use Rattle.buffers.proofs.moves.move_up.Given as goal
 
 abbrev pub invariant-loop-j : goal.invariant-loop-j

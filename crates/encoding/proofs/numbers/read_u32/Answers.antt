@@ -1,5 +1,4 @@
 -- `encoding::numbers::read_u32` meets its contract. The two halves, each by its weight.
-use borrow.Author.Rules.{rules}
 use Rattle.encoding.proofs.numbers.read_u32.Goals as goal
 
 pub returns : goal.returns

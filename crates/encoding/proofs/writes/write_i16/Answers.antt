@@ -1,5 +1,4 @@
 -- `encoding::writes::write_i16` meets its contract. The bits of the number are written.
-use borrow.Author.Rules.{rules}
 use mathlib.Core.Path.{ap, ◌∙◌}
 use Prim.Native.Nat.{ℕ}
 use Rattle.buffers.specs.Overwrite.{overwrite}

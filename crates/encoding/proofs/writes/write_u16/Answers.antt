@@ -3,7 +3,6 @@ use Rattle.buffers.specs.Stores.{put_two}
 use Prim.Native.Nat.{◌%◌, ◌/◌}
 use native.Mathlib.Omega.{arith}
 use lib.ListN.{length-set}
-use borrow.Author.Rules.{rules}
 use Rattle.encoding.proofs.writes.write_u16.Goals as goal
 
 pub bounds-out-at-2 : goal.bounds-out-at-2

@@ -1,7 +1,6 @@
 -- `encoding::writes::write_u8` meets its contract. One store.
 use native.Mathlib.Omega.{arith}
 use Rattle.buffers.specs.Stores.{put_one}
-use borrow.Author.Rules.{rules}
 use Rattle.encoding.proofs.writes.write_u8.Goals as goal
 
 pub returns : goal.returns

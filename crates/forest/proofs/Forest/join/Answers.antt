@@ -1,5 +1,4 @@
 -- Each of the two stations is its own leader, so that `relabel` hands back the leaders once both groups are one.
-use borrow.Author.Rules.{rules}
 use Rattle.forest.specs.Groups.{joined}
 use Rattle.forest.proofs.Forest.join.Goals as goal
 

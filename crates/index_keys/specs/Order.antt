@@ -25,7 +25,7 @@ use Rattle.network.specs.Indexing.{index_key, meets, plan_cost, plan_costs, plan
 use Rattle.order.proofs.Numbers.{tie-last}
 use Rattle.index_keys.specs.Key.{ceiling_bits, key_at, packed, plan_key, raised, raised16, raised32, slots-least, sum_in, y1_in}
 
--- each member is a byte: what a proof knows of each slice of bytes (`shared-slice-known.given`)
+-- each member is a byte: what a proof knows of each slice of bytes
 abbrev pub AllBytes : List ℕ → Type 0
 AllBytes list = (i : ℕ) → Fits w8 (byte_at list i)
 

@@ -1,3 +1,4 @@
+-- Theorems on the definitions of specs/, in the order of those:
 pub mod Column
 pub mod Tabulate
 -- when the planner declines: the first of several refusals, numbers 1 to 8, 15, 18 and 19, then the calls with 9, 10, 11, 14

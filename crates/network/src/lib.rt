@@ -1,4 +1,5 @@
-// The data model that all code shares. What the values mean, and document 01 as definitions, is in specs/.
+// The data model that all code shares. What the values mean, and document 01 as definitions, is in specs/;
+// the theorems on it are in proofs/.
 #![tactic(auto)]
 
 use crate::capacities::CEILINGS_HELD;

@@ -1,5 +1,5 @@
--- THE THEOREM: the search over sets of exceptional links finds the best tree under the ceilings, for any number of stations, links and ceilings.
--- It may go over the links that one run of Kruskal's method keeps of the normal ones.
+-- The search over sets of exceptional links, for THE THEOREM of proofs/: that it finds the best tree under the ceilings, for any number of stations,
+-- links and ceilings. It may go over the links that one run of Kruskal's method keeps of the normal ones.
 use Rattle.std.specs.Prelude.{ℕ, ℤ, pos}
 use mathlib.Core.List.{List}
 use Rattle.order.specs.Order.{orderℤ}

@@ -157,13 +157,13 @@ module _ (ends : ℕ → Edge) where
 
   -- no edge of the base is lost to both
   pub lost-apart : (L : Labelling) (base : List ℕ) (e f : Edge) → Crosses L e → Crosses (merge L e) f
-      → lost_one ends L base e ≡ lost_two ends L base e f → length base ≤ (lost_one ends) L base e
+      → lost_one ends L base e ≡ lost_two ends L base e f → length base ≤ lost_one ends L base e
   lost-apart L [] e f c d q = omega arith
   lost-apart L (b ∷ bs) e f c d q = go (first_of L b bs e f c d) q (λ k m. lost-apart (merge L (ends b)) bs e f k m)
     where
       go : {i j : ℕ} → First L b bs e f i j → i ≡ j
           → (Crosses (merge L (ends b)) e → Crosses (merge (merge L (ends b)) e) f → lost_one ends (merge L (ends b)) bs e ≡ lost_two ends (merge L (ends b)) bs e f
-          → length bs ≤ (lost_one ends) (merge L (ends b)) bs e)
+          → length bs ≤ lost_one ends (merge L (ends b)) bs e)
           → suc (length bs) ≤ i
       go (neither k m) q later = let r = later k m (suc_inj q) in omega arith
       go (by_first s) q later = absurd (omega arith)

@@ -1,7 +1,7 @@
 #!/usr/bin/env python3
 """Spells the names of specs/, proofs/ and clauses as today's Rattle does: words in snake case, `get_or` for the reading of a list with a default.
 
-usage: tools/spelling.py    at the top, once, after /opt/rattle/port/port.py: rewrites crates/*/{src,specs,proofs}, README.md and the pages of docs/
+usage: tools/spelling.py    at the top, once, after the port.py of the kit: rewrites crates/*/{src,specs,proofs}, README.md and the pages of docs/
 
 Types and modules keep their capitals, names of functions in src/ are in snake case already, and numbers such as 0xFF are left alone. The pages follow:
 a name there is respelled where the crates had it.

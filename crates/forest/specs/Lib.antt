@@ -2,3 +2,5 @@
 pub mod MapFirst
 -- the forest value in the theory's terms
 pub mod Groups
+-- the groups after each link of a list, in rows
+pub mod History

@@ -1,11 +1,13 @@
 // The groups of stations already joined, as a value: joining two groups hands back the next value.
 #![tactic(auto)]
 
-ghost use Rattle.std.specs.Prelude.{map, ◌≡◌, ◌<◌};
+ghost use Rattle.std.specs.Prelude.{map, ◌≡◌, ◌*◌, ◌≤◌, ◌<◌, length};
 ghost use Rattle.network.specs.Capacities.{stations_held};
 ghost use Rattle.spanning.specs.LabelList.{label_of, replaced};
 ghost use Rattle.forest.specs.Groups.{apart, joined};
+ghost use Rattle.forest.specs.History.{groups_in};
 
+use buffers::copies::copy_in;
 use network::capacities::STATIONS_HELD;
 
 // A leader for each station: two stations with one leader are in one group.
@@ -62,4 +64,18 @@ impl Forest {
         let leader = relabel(leaders, b, a);
         Forest { leader }
     }
+}
+
+// The groups after the first `count` links whose rows of leaders stand one behind the other.
+pub fn groups_after(history: &[u8], count: usize) -> Forest
+    requires { count * stations_held ≤ length history.now }
+    ensures { result ≡ groups_in history.now count }
+{
+    if count == 0 {
+        return Forest::new();
+    }
+    let end = count * STATIONS_HELD;
+    let mut leader = [0u8; STATIONS_HELD];
+    copy_in(&mut leader, 0, &history[end - STATIONS_HELD..end]);
+    Forest { leader }
 }

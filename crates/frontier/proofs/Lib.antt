@@ -8,6 +8,8 @@ pub mod Walk
 pub mod Found
 pub mod Listed
 pub mod Plans
+-- all solutions taken into the frontier, one after another: the promised list
+pub mod Collected
 -- what code goes by: positions by places
 pub mod Places
 -- positions by their numbers, and in order

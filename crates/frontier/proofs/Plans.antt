@@ -104,7 +104,7 @@ module _ {C S : Type 0} (P : Problem C S) where
       go (inl n) = old (take-member (take s ps) a n)
       go (inr n) = inr (there n)
 
-  collect-old : (l ps : List S) {a : S} → a ∈ ps → (t : S) × (t ∈ collect P ps l) × (below P a t ≡ true)
+  pub collect-old : (l ps : List S) {a : S} → a ∈ ps → (t : S) × (t ∈ collect P ps l) × (below P a t ≡ true)
   collect-old [] ps {a} m = (a, m, le_all-refl order (vector P a))
   collect-old (s ∷ l) ps {a} m =
       let w = take-old (take s ps) m in
@@ -130,7 +130,7 @@ module _ {C S : Type 0} (P : Problem C S) where
       go (inr n) = n
 
   -- two leftmost solutions with one vector are one
-  leftmost-unique : (a b : S) → vector P a ≡ vector P b → Leftmost P a → Leftmost P b → a ≡ b
+  pub leftmost-unique : (a b : S) → vector P a ≡ vector P b → Leftmost P a → Leftmost P b → a ≡ b
   leftmost-unique a b e h k = some-injective a b (sym h ∙ ap (λ (v : List C). first (attains P v) solutions) e ∙ k)
 
   -- the plans are the promised list

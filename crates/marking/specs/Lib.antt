@@ -15,3 +15,5 @@ pub mod Digits
 pub mod Parts
 -- the grid of a network's ceilings
 pub mod Gridded
+-- the network that can be planned, with the grid
+pub mod Ready

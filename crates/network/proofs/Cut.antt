@@ -11,6 +11,7 @@ use Rattle.network.specs.Survey.{count_in, has_count, layout_of, link_count, pla
 use Rattle.network.specs.Checked.{refuse_if, ◌or_else◌}
 use Rattle.network.specs.Refusals.{bad_count, bad_length, checked_of, checked_with, outside, records_checked, yard_checked}
 use Rattle.network.specs.Calls.{Reply, asked, asked_checked, drawn_checked, judged, list_checked, list_status, reply, status}
+use Rattle.network.specs.EveryTree.{count_reply, tree_checked, tree_reply, trees_checked}
 use Rattle.network.proofs.Layouts.{layout-kept, layout-roomy, layout-short}
 use Rattle.network.specs.Accepted.{RecordsFine}
 use Rattle.network.proofs.Accepted.{accepted-records, whole-records}
@@ -120,6 +121,15 @@ cut-judged bytes drawn e = cut-replied bytes (drawn_checked bytes drawn) _ (λ r
 pub cut-asked : (bytes : List ℕ) (given : List ℤ) (size : ℕ) {a : Reply} → a ≡ asked bytes given size → CutNoticed bytes a.number a.place
 unfolding asked asked_checked ◌or_else◌
 cut-asked bytes given size e = cut-replied bytes (asked_checked bytes given size) _ (λ r k. rw k) e
+
+-- the number of trees and tree r are,
+pub cut-counted : (bytes : List ℕ) {a : Reply} → a ≡ count_reply bytes → CutNoticed bytes a.number a.place
+unfolding count_reply trees_checked ◌or_else◌
+cut-counted bytes e = cut-replied bytes (trees_checked bytes) _ (λ r k. rw k) e
+
+pub cut-handed : (bytes : List ℕ) (n size : ℕ) {a : Reply} → a ≡ tree_reply bytes n size → CutNoticed bytes a.number a.place
+unfolding tree_reply tree_checked trees_checked ◌or_else◌
+cut-handed bytes n size e = cut-replied bytes (tree_checked bytes n size) _ (λ r k. rw k) e
 
 -- and the list call notices it too
 pub cut-listed : (bytes : List ℕ) (allowance size : ℕ) {a : Status} → a ≡ list_status bytes allowance size → CutNoticed bytes a.number a.place

@@ -24,5 +24,7 @@ pub mod Cut
 pub mod AnswerPromise
 pub mod Promise
 pub mod IndexPromise
+-- what callers rely on in all trees
+pub mod EveryTreePromise
 -- the stations at rest, byte by byte
 pub mod RestBits

@@ -25,6 +25,8 @@ pub mod Indexing
 pub mod Writing
 -- all small surveys in order: 20, 17
 pub mod SmallSurveys
+-- every tree of a yard of at most 12 links: 21, 9, 13
+pub mod EveryTree
 -- printing
 pub mod Printing
 -- the yards worked through, P1 to P49
@@ -50,3 +52,5 @@ pub mod Promise
 pub mod IndexPromise
 pub mod WritingPromise
 pub mod SmallPromise
+-- what callers rely on in all trees
+pub mod EveryTreePromise

@@ -9,6 +9,10 @@ max_stations = 24
 abbrev pub max_links : ℕ
 max_links = 40
 
+-- links of a survey whose trees are written out: at most 12
+abbrev pub max_enumerated : ℕ
+max_enumerated = 12
+
 -- p, the number of ceiling costs: 0 to 3; which of them a survey may have, its layout says
 abbrev pub max_ceilings : ℕ
 max_ceilings = 3

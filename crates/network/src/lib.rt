@@ -81,6 +81,13 @@ pub enum Found {
     Refused(Refusal),
 }
 
+// The reply to the number of trees: how many there are, or the refusal.
+#[derive(Clone, Copy)]
+pub enum Counted {
+    Trees(u16),
+    Refused(Refusal),
+}
+
 // What a check finds: nothing, or the first refusal.
 #[derive(Clone, Copy)]
 pub enum Checked {

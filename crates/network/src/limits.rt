@@ -8,6 +8,9 @@ pub const MAX_STATIONS: usize = 24;
 // Links of a survey.
 pub const MAX_LINKS: usize = 40;
 
+// Links of a survey whose trees are written out.
+pub const MAX_ENUMERATED: usize = 12;
+
 // Ceiling costs of a link.
 pub const MAX_CEILINGS: usize = 3;
 

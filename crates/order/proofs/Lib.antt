@@ -13,6 +13,8 @@ pub mod Lowered
 pub mod Order
 -- sorted and strictly rising lists, and insertion sort
 pub mod Sorted
+-- members with different keys are no more than the keys
+pub mod Pigeonhole
 -- the leftmost least member
 pub mod Least
 -- merging sorted lists

@@ -135,6 +135,13 @@ module _ {A : Type 0} (p : A → Bool) where
   filter-all [] h = refl
   filter-all (x ∷ xs) h = rw (h x (here refl)) (ap (◌∷◌ x) (filter-all xs (λ y m. h y (there m))))
 
+-- two tests that agree on the members
+pub filter-ext : {A : Type 0} (p q : A → Bool) (xs : List A) → ((x : A) → x ∈ xs → p x ≡ q x) → filter p xs ≡ filter q xs
+filter-ext p q [] h = refl
+filter-ext p q (x ∷ xs) h =
+    let rest = filter-ext p q xs (λ y m. h y (there m)) in
+    by-test (q x) (λ e. rw (h x (here refl), e, rest)) (λ e. rw (h x (here refl), e, rest))
+
 -- ---- all, any
 
 module _ {A : Type 0} where

@@ -23,6 +23,8 @@ pub mod Choose
 pub mod Best
 -- all spanning trees by edges that may be used, in dictionary order, with examples
 pub mod Listing
+-- the same trees by going through the edges in order, each first taken and then left
+pub mod Branches
 -- entries of a list by their places
 pub mod Places
 -- what a forest loses to one and to two edges

@@ -3,10 +3,12 @@
 -- The examples count those of the complete graphs of three and four vertices.
 use Rattle.std.specs.Prelude.{Bool, false, ◌&&◌, not, List, [], ◌∷◌, map, ◌↔◌, ◌≡◌, refl, ℕ, ◌-◌, ◌<◌, length, get_or}
 use Rattle.std.proofs.Math.Bool.{true}
+use Rattle.std.proofs.Common.{◌∙◌}
 use Rattle.std.proofs.Math.Dec.{eqb}
+use Rattle.std.proofs.lemmas.List.{length-map}
 use borrow.Author.Tests.{eqb-true, eq-eqb}
-use Rattle.order.specs.Test.{left}
-use Rattle.order.proofs.Test.{both, right}
+use Rattle.order.specs.Test.{by-test, left}
+use Rattle.order.proofs.Test.{both, right, test_iff}
 use Rattle.order.specs.Lists.{◌∈◌, all}
 use Rattle.order.proofs.Lists.{all-mem, filter-mem, mem-all, mem-filter}
 use Rattle.order.proofs.Perm.{pairwise-filter, perm-map, perm-sym}
@@ -16,14 +18,15 @@ use Rattle.order.proofs.Sorted.{sort-mem, sort-perm}
 use Rattle.spanning.specs.Labelling.{Edge, crosses, merge}
 use Rattle.spanning.specs.Tree.{SpanningTree, Within, identity, is_forest, is_one_component, is_tree, is_tree_from}
 use Rattle.spanning.proofs.Tree.{tree-perm}
-use Rattle.spanning.proofs.Size.{is_tree-iff}
+use Rattle.spanning.proofs.Size.{is_forest-iff, is_tree-iff}
+use Rattle.spanning.proofs.Count.{forest-spans}
 use Rattle.spanning.specs.Kruskal.{kruskal}
 use Rattle.spanning.specs.Rising.{Before, RisingIn, is_rising_in}
 use Rattle.spanning.proofs.Rising.{is_rising_in-iff, rising-range}
 use Rattle.spanning.specs.Choose.{choose, choose_from}
 use Rattle.spanning.proofs.Choose.{choose-iff, choose-sorted}
 use Rattle.spanning.specs.Best.{Usable, by_cost, whole}
-use Rattle.spanning.proofs.Best.{ascending-rising, edges-length, forest-apart}
+use Rattle.spanning.proofs.Best.{ascending-rising, edges-length, edges-within, forest-apart}
 use Rattle.spanning.specs.Listing.{is_listed, spanning_trees}
 
 module _ (ends : ℕ → Edge) (vs : List ℕ) (m : ℕ) (usable : ℕ → Bool) where
@@ -66,6 +69,21 @@ module _ (ends : ℕ → Edge) (vs : List ℕ) (m : ℕ) (usable : ℕ → Bool)
           let f = filter-mem fine (choose (length vs - 1) m) k in
           let c = (choose-iff (length vs - 1) m ts).0 f.0 in
           both (eq-eqb (length ts) (length vs - 1) c.1) (both ((is_rising_in-iff 0 m ts).1 c.0) f.1)
+
+  -- as many rising edges that may be used as a tree has are a tree where they have no ring
+  pub listed-forest : 0 < length vs → Apart (λ x. x) vs → ((c : ℕ) → c < m → usable c ≡ true → Within vs (ends c)) → (ts : List ℕ) → is_rising_in 0 m ts ≡ true
+      → length ts ≡ length vs - 1 → fine ts ≡ all usable ts && is_forest identity (map ends ts)
+  listed-forest some apart within ts rises size =
+      by-test (all usable ts)
+      (λ u. rw u (test_iff (is_tree vs (map ends ts)) (is_forest identity (map ends ts)) (
+        λ t. (is_forest-iff identity (map ends ts)).1 ((is_tree-iff vs (map ends ts)).0 t).forest,
+        λ f.
+            let ringless = (is_forest-iff identity (map ends ts)).0 f in
+            let inside = edges-within ends vs m usable some apart within ts
+            (λ t k. ((rising-range 0 m ts ((is_rising_in-iff 0 m ts).0 rises) t k).1, all-mem usable ts u t k)) in
+            (is_tree-iff vs (map ends ts)).1 (forest-spans vs some apart (map ends ts) inside ringless (length-map ts ends ∙ size)),
+      )))
+      (λ u. rw u)
 
   -- with one edge fewer than there are vertices
   pub listing-length : (ts : List ℕ) → ts ∈ spanning_trees ends vs m usable → length ts ≡ length vs - 1

@@ -1,65 +1,54 @@
-// The best tree under bounds, and whether a reply and a tree buffer are those of a tree. Bounds of all ceilings together are a number with a
-// hexadecimal digit for each, as codes are: the bounds 2 c and 2 c + 1 both allow the codes up to c.
-use crate::listing::{ANY, NONE, best_of, code, digit, link_at, set_of, sum_of};
-use crate::small::{CEILINGS, byte};
+// The best tree under bounds, and whether a tree buffer is that of a tree.
+use crate::listing::Tree;
+use crate::small::{CEILINGS, Yard};
 
 // What buffers hold before a call.
 pub const DIRT: u8 = 0xA5;
 
-// For each code its cost, and the cost of the next less 1; above the last none.
-const BOUNDS: [i16; 16] = [
+// How many bounds there are.
+pub const BOUNDS: usize = 16;
+
+// For each cost the cost, and the next one less 1; above the last none.
+const VALUES: [i16; BOUNDS] = [
     -32768, -257, -256, -2, -1, -1, 0, 0, 1, 254, 255, 255, 256, 32766, 32767, 32767,
 ];
 
+// A bound for each ceiling.
+pub type Bounds = [i16; CEILINGS];
+
 // The highest bounds.
-pub const NO_BOUNDS: u64 = 0xFFF;
+pub const NO_BOUNDS: Bounds = [i16::MAX; CEILINGS];
 
-pub fn bound(i: u8) -> i16 {
-    BOUNDS[(i % 16) as usize]
+// The bounds at these places, counted round.
+pub fn bounds_at(places: [usize; CEILINGS]) -> Bounds {
+    places.map(|place| VALUES[place % BOUNDS])
 }
 
-// The bounds as numbers for all ceilings.
-pub fn numbers(bounds: u64) -> [i16; CEILINGS] {
-    let mut given = [0i16; CEILINGS];
-    for i in 0..CEILINGS {
-        given[i] = bound(digit(bounds, (i % 3) as u8));
+impl Tree {
+    // Whether the ceiling costs are at most bounds, as many as there are.
+    pub fn is_within(&self, bounds: &[i16]) -> bool {
+        self.y.iter().zip(bounds).all(|(y, bound)| y <= bound)
     }
-    given
 }
 
-// The codes that bounds allow with p ceilings, any where they are absent.
-fn allowed(p: u8, bounds: u64) -> u64 {
-    bounds >> 1 & ANY | ANY >> (4 * (p % 4))
-}
-
-// The best tree of a yard of a kind under bounds, or none.
-pub fn wanted(kind: u64, trees: &[u64], bounds: u64) -> u64 {
-    best_of(trees, allowed(byte(kind, 1), bounds))
-}
-
-// Whether a tree has this sum, in two's complement, and these ceiling costs.
-pub fn has_costs(tree: u64, sum: u32, y: &[i16]) -> bool {
-    let mut same = (sum == sum_of(tree)) & (tree < NONE);
-    for i in 0..y.len() {
-        same = same & (y[i] == bound(code(tree, (i % 3) as u8) % 8 * 2));
+impl Yard<'_> {
+    // The best tree of the yard under bounds, of which those of absent ceilings do not count: the first of the least sum.
+    pub fn best<'t>(&self, trees: &'t [Tree], bounds: &Bounds) -> Option<&'t Tree> {
+        let present = bounds.get(..self.ranks.len())?;
+        trees
+            .iter()
+            .filter(|tree| tree.is_within(present))
+            .min_by_key(|tree| tree.sum)
     }
-    same
 }
 
-// The links of a set, and 0 past them.
-pub fn drawn(set: u8) -> [u8; 7] {
-    let mut links = [0u8; 7];
-    for j in 0..7usize {
-        links[j] = link_at(set, j, 0);
-    }
-    links
+// Whether a buffer is as it was.
+pub fn is_dirt(given: &[u8]) -> bool {
+    given.iter().all(|byte| *byte == DIRT)
 }
 
-// Whether a buffer holds a tree's links, and is as it was past them.
-pub fn has_links(tree: u64, given: &[u8]) -> bool {
-    let mut same = true;
-    for i in 0..given.len() {
-        same = same & (given[i] == link_at(set_of(tree), i, DIRT));
-    }
-    same
+// Whether a buffer holds the links of a tree, if there is one, and is as it was past them.
+pub fn holds_links(given: &[u8], tree: Option<&Tree>) -> bool {
+    let links = tree.map_or(&[][..], |tree| tree.links.as_slice());
+    given.strip_prefix(links).is_some_and(is_dirt)
 }

@@ -1,11 +1,17 @@
 // All trees of small yards, and what documents 01 and 02 make of them, coded apart: nothing of the planner is used.
 #![tactic(auto)]
 
-// Small yards, and their surveys.
+// The kinds of small yards.
+pub mod kinds;
+
+// Small yards, drawn.
 pub mod small;
 
 // Stations at rest.
 pub mod resting;
+
+// The surveys of yards, and the figures that they are written from.
+pub mod surveys;
 
 // All trees of a yard with their costs.
 pub mod listing;
@@ -21,6 +27,3 @@ pub mod visits;
 
 // The index of a list, and lookups in it.
 pub mod indexes;
-
-// The figures of a yard, and surveys written from them.
-pub mod figures;

@@ -1,68 +1,122 @@
 // Stations at rest: which links are usable, how many links a tree has, and what declines the yard.
-use crate::small::{Yard, byte, pair, rank};
-use std::num::wrapping_sub_u32;
+use crate::small::{Form, Link, Yard};
 
-// The stations that work, as bits.
-pub fn working(kind: u64, rest: u8) -> u8 {
-    127 >> (7 - byte(kind, 0) % 8) & (255 ^ rest)
+// A set of stations: bit j is 1 where station j is in it.
+#[derive(Clone, Copy, PartialEq, Eq)]
+pub struct Stations(u8);
+
+// Why a yard is declined: no station works or one is at rest that the yard does not have, or a rank is above t.
+#[derive(Clone, Copy, PartialEq, Eq)]
+pub enum Declined {
+    Rest,
+    Ranks,
 }
 
-// Both stations of link e, as bits.
-pub fn both_ends(kind: u64, pairs: u64, e: u8) -> u8 {
-    let ends = pair(kind, pairs, e);
-    1 << (ends % 8) | 1 << (ends / 256 % 8)
-}
-
-// A set with link e, where the yard has it and both of its stations work.
-fn with_usable(yard: Yard, set: u8, e: u8) -> u8 {
-    let both = both_ends(yard.kind, yard.pairs, e);
-    if (e < yard.m) & (both & working(yard.kind, yard.rest) == both) {
-        return set | 64 >> (e % 7);
+impl Stations {
+    // No station.
+    pub fn none() -> Stations {
+        Stations(0)
     }
-    set
-}
 
-// The set of usable links.
-fn usable(yard: Yard) -> u8 {
-    let mut set = 0;
-    for e in 0..7u8 {
-        set = with_usable(yard, set, e);
+    // The set with these bits.
+    pub fn of_bits(bits: u8) -> Stations {
+        Stations(bits)
     }
-    set
-}
 
-// The yard with these stations at rest, as a survey with rest bytes.
-pub fn at_rest(mut yard: Yard, rest: u8) -> Yard {
-    yard.record = 2 + yard.record % 4 / 3;
-    yard.rest = rest;
-    let links = usable(yard);
-    yard.usable = links;
-    yard
-}
-
-// How many links a tree has, where a station works.
-pub fn tree_size(yard: Yard) -> u32 {
-    wrapping_sub_u32(u8::count_ones(working(yard.kind, yard.rest)), 1)
-}
-
-// Whether a rank of a kind is above t.
-fn has_rank_above(kind: u64, t: u32) -> bool {
-    let mut above = false;
-    for i in 0..3u8 {
-        above = above | (t < rank(kind, i) as u32);
+    // Its bits.
+    pub fn bits(self) -> u8 {
+        self.0
     }
-    above
+
+    // The first n stations.
+    pub fn first(n: u8) -> Stations {
+        Stations(1u8.wrapping_shl(u32::from(n)).wrapping_sub(1))
+    }
+
+    // One station.
+    fn one(station: u8) -> Stations {
+        Stations(1u8.wrapping_shl(u32::from(station)))
+    }
+
+    // Whether no station is in it.
+    pub fn is_empty(self) -> bool {
+        self.0 == 0
+    }
+
+    // How many stations are in it.
+    pub fn len(self) -> u32 {
+        self.0.count_ones()
+    }
+
+    // These stations and others.
+    pub fn with(self, others: Stations) -> Stations {
+        Stations(self.0 | others.0)
+    }
+
+    // These stations but for others.
+    pub fn without(self, others: Stations) -> Stations {
+        Stations(self.0 & !others.0)
+    }
+
+    // Whether others are among them.
+    pub fn overlaps(self, others: Stations) -> bool {
+        self.0 & others.0 != 0
+    }
+
+    // The lowest of them alone.
+    pub fn lowest(self) -> Stations {
+        Stations(self.0 & self.0.wrapping_neg())
+    }
 }
 
-// The number that declines the yard, or 0: 18 where no station works, or one is at rest that the yard does not have, and 6 where a rank is above t.
-pub fn declined(yard: Yard) -> u8 {
-    let kind = yard.kind;
-    let t = tree_size(yard);
-    if (working(kind, yard.rest) == 0) | (yard.rest >> (byte(kind, 0) % 8) != 0) {
-        return 18;
+impl Link {
+    // Both stations.
+    pub fn both(&self) -> Stations {
+        let [a, b] = self.ends;
+        Stations::one(a).with(Stations::one(b))
     }
-    if has_rank_above(kind, t) {
-        return 6;
+}
+
+impl<'a> Yard<'a> {
+    // The yard with these stations at rest, as a survey with rest bytes.
+    pub fn at_rest(self, rest: Stations) -> Yard<'a> {
+        let form = match self.form {
+            Form::Wide => Form::Wide,
+            _ => Form::Resting,
+        };
+        Yard { rest, form, ..self }
     }
-    0
+
+    // The stations that work.
+    pub fn working(&self) -> Stations {
+        Stations::first(self.stations).without(self.rest)
+    }
+
+    // Link e, where the yard has it and both of its stations work.
+    pub fn usable(&self, e: u8) -> Option<Link> {
+        let link = self.links.get(usize::from(e)).copied()?;
+        if link.both().without(self.working()).is_empty() {
+            Some(link)
+        } else {
+            None
+        }
+    }
+
+    // How many links a tree has, where a station works.
+    pub fn tree_size(&self) -> usize {
+        (self.working().len() as usize).saturating_sub(1)
+    }
+
+    // Why the yard is declined, if it is.
+    pub fn declined(&self) -> Option<Declined> {
+        let strangers = self.rest.without(Stations::first(self.stations));
+        if self.working().is_empty() || !strangers.is_empty() {
+            return Some(Declined::Rest);
+        }
+        let t = self.tree_size();
+        if self.ranks.iter().any(|rank| t < usize::from(*rank)) {
+            return Some(Declined::Ranks);
+        }
+        None
+    }
 }

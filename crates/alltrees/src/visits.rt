@@ -1,97 +1,114 @@
-// The walk of document 01, for its solved count and for what its list needs. A position is the codes of its values; positions are visited by falling
-// codes, and those whose costs no link has are passed over. What a solved position marks is a box: its own codes, and after them the least that are
-// marked.
-use crate::listing::{at_most, at_or_above, best_of, codes_of, digit, first};
-use crate::plans::{FIELDS, HEAD, open_size};
-use crate::resting::tree_size;
-use crate::small::{Yard, ZERO, byte, column};
-use std::num::wrapping_add_usize;
+// The walk of document 01, for its solved count and for what its list needs. A position picks a value of each ceiling; positions are visited by falling
+// values, first ceiling first. What a solved position marks is a box: its own values, and after them the least that are marked.
+use crate::listing::Tree;
+use crate::plans::HEAD;
+use crate::small::{CEILINGS, LINKS, Yard};
+use std::alloc::{AllocError, Global};
 
-// How many codes of three ceilings there are.
-const POSITIONS: u16 = 512;
+// A value of each ceiling, 0 where it is absent.
+type Position = [i16; CEILINGS];
 
-// More positions than a yard of seven links has.
-const BOXES: usize = 344;
-
-// A box without positions.
-const EMPTY: u64 = 0x777;
-
-// The codes that have a number, of which the octal digits are one for each ceiling.
-fn position(q: u16) -> u64 {
-    let codes = q as u64;
-    codes / 64 % 8 * 256 + codes / 8 % 8 * 16 + codes % 8
+// The positions between two, ceiling by ceiling.
+#[derive(Clone, Copy)]
+struct Marked {
+    least: Position,
+    greatest: Position,
 }
 
-// Whether one of these links has a code; an absent ceiling has the one code of the cost 0.
-fn occurs(costs: u64, links: u8, present: bool, code: u8) -> bool {
-    if present {
-        return at_or_above(costs, links, code % 8) != at_or_above(costs, links, code % 8 + 1);
+impl Marked {
+    // Whether a position is among them.
+    fn contains(&self, position: &Position) -> bool {
+        self.least
+            .iter()
+            .zip(position)
+            .all(|(low, value)| low <= value)
+            && position
+                .iter()
+                .zip(&self.greatest)
+                .all(|(value, high)| value <= high)
     }
-    code == ZERO
 }
 
-// Whether a position is there: its value of each ceiling occurs.
-fn is_there(yard: Yard, codes: u64) -> bool {
-    let p = byte(yard.kind, 1);
-    let mut there = true;
-    for i in 0..3u8 {
-        there = there & occurs(column(yard, i), yard.usable, i < p, digit(codes, i));
+// Each position with each of these values for a ceiling, in their order.
+fn extended(
+    positions: &[Position],
+    ceiling: usize,
+    values: &[i16],
+    alloc: Global,
+) -> Result<Vec<Position>, AllocError> {
+    let mut all = Vec::new(alloc);
+    for position in positions {
+        push_each(&mut all, *position, ceiling, values)?;
     }
-    there
+    Ok(all)
 }
 
-// Whether a position is in one of these boxes.
-fn is_marked(boxes: &[u64], codes: u64) -> bool {
-    let mut marked = false;
-    for i in 0..boxes.len() {
-        let own = boxes[i] / 4096;
-        marked = marked | (at_most(codes, own) & at_most(boxes[i] % 4096, codes));
-    }
-    marked
-}
-
-// The box that a position marks, its own codes among them, or an empty one where it is not solved. Found, a tree marks through its own codes; none
-// found marks through the least.
-fn visit(yard: Yard, trees: &[u64], boxes: &[u64], codes: u64) -> u64 {
-    if is_there(yard, codes) {
-        if is_marked(boxes, codes) {
-            return EMPTY;
+// One position with each of these values for a ceiling.
+fn push_each(
+    all: &mut Vec<Position>,
+    position: Position,
+    ceiling: usize,
+    values: &[i16],
+) -> Result<(), AllocError> {
+    for value in values {
+        let mut next = position;
+        if let Some(place) = next.get_mut(ceiling) {
+            *place = *value;
         }
-        return codes << 12 | codes_of(best_of(trees, codes));
+        all.push(next)?;
     }
-    EMPTY
+    Ok(())
 }
 
-// The solved count.
-pub fn solved(yard: Yard, trees: &[u64]) -> u32 {
-    let mut boxes = [EMPTY; BOXES];
-    let mut count = 0;
-    for i in 0..POSITIONS {
-        let more = visit(
-            yard,
-            trees,
-            first(&boxes, count),
-            position(POSITIONS - 1 - i),
-        );
-        boxes[count % BOXES] = more;
-        count = wrapping_add_usize(count, (more != EMPTY) as usize);
+impl Yard<'_> {
+    // The different costs that usable links have by a ceiling, falling; an absent ceiling has the one cost 0.
+    fn values(&self, ceiling: usize, alloc: Global) -> Result<Vec<i16>, AllocError> {
+        if self.ranks.len() <= ceiling {
+            return Ok(vec![in alloc; 0]?);
+        }
+        let mut values: Vec<i16> = (0..LINKS as u8)
+            .filter_map(|e| self.usable(e)?.costs.get(ceiling).copied())
+            .collect(alloc)?;
+        values.sort_unstable_by(|a, b| b.cmp(a));
+        values.dedup();
+        Ok(values)
     }
-    (count % BOXES) as u32
-}
 
-// How many bytes the list needs for a position: those of a plan record, where the position is there.
-fn share(yard: Yard, codes: u64) -> usize {
-    if is_there(yard, codes) {
-        return FIELDS + open_size(byte(yard.kind, 1), (tree_size(yard) % 24) as u8) as usize;
+    // All positions, in the order of the walk.
+    fn positions(&self, alloc: Global) -> Result<Vec<Position>, AllocError> {
+        let mut positions = vec![in alloc; [0; CEILINGS]]?;
+        for ceiling in 0..CEILINGS {
+            let values = self.values(ceiling, alloc)?;
+            positions = extended(&positions, ceiling, &values, alloc)?;
+        }
+        Ok(positions)
     }
-    0
-}
 
-// How many bytes the list needs: those of its head, and of a plan record for every position.
-pub fn need(yard: Yard) -> usize {
-    let mut bytes = HEAD;
-    for q in 0..POSITIONS {
-        bytes = wrapping_add_usize(bytes, share(yard, position(q)));
+    // How many positions are solved. Found, a tree marks through its own costs; none found marks all below.
+    pub fn solved(&self, trees: &[Tree], alloc: Global) -> Result<u32, AllocError> {
+        let mut solved: Vec<Marked> = Vec::new(alloc);
+        for position in self.positions(alloc)? {
+            if solved.iter().any(|marked| marked.contains(&position)) {
+                continue;
+            }
+            let least = self
+                .best(trees, &position)
+                .map_or([i16::MIN; CEILINGS], |tree| tree.y);
+            solved.push(Marked {
+                least,
+                greatest: position,
+            })?;
+        }
+        Ok(u32::try_from(solved.len()).unwrap_or(u32::MAX))
     }
-    bytes
+
+    // How many bytes the list needs: those of its head, and of a plan record for every position.
+    pub fn need(&self, alloc: Global) -> Result<usize, AllocError> {
+        let positions = self.positions(alloc)?.len();
+        Ok(
+            positions
+                .saturating_mul(self.plan_size())
+                .saturating_add(HEAD),
+        )
+    }
 }

@@ -1,17 +1,13 @@
-// Bytes and zeros written into a slice.
+// Elements and zeros written into a slice, by the library's copy and fill: the functions are here for their promises, which speak of `overwrite`.
 ghost use Rattle.std.specs.Prelude.{◌≡◌, ◌++◌, ◌+◌, ◌-◌, ◌≤◌, length, take, replicate};
 ghost use Rattle.buffers.specs.Overwrite.{overwrite};
 
 // Writes all of src at an index.
-pub fn copy_in(out: &mut [u8], at: usize, src: &[u8])
+pub fn copy_in<T: Copy>(out: &mut [T], at: usize, src: &[T])
     requires { at + length src.now ≤ length out.old }
     ensures { out.new ≡ overwrite out.old at src.now }
 {
-    let mut j = 0;
-    while j < src.len() {
-        out[at + j] = src[j];
-        j += 1;
-    }
+    out[at..at + src.len()].copy_from_slice(src);
 }
 
 // Writes zeros from an index to the end.
@@ -19,10 +15,5 @@ pub fn clear_from(out: &mut [u8], at: usize)
     requires { at ≤ length out.old }
     ensures { out.new ≡ take at out.old ++ replicate (length out.old - at) 0 }
 {
-    let n = out.len() - at;
-    let mut j = 0;
-    while j < n {
-        out[at + j] = 0;
-        j += 1;
-    }
+    out[at..].fill(0);
 }

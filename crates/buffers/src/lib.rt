@@ -1,7 +1,7 @@
-// Bytes put into a lent buffer; specs/ has the theory of what a write leaves.
+// Elements put into a lent buffer; specs/ has the theory of what a write leaves.
 #![tactic(auto)]
 
-// Bytes and zeros written.
+// Elements and zeros written.
 pub mod copies;
 
 // Bytes moved within the buffer.

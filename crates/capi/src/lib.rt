@@ -19,7 +19,7 @@ ghost use Rattle.capi.specs.Version.{version};
 
 use capi_replies::found::{FoundPlan, found_plan};
 use capi_replies::part::{Part, part_of};
-use capi_replies::reply::{Reply, flat};
+use capi_replies::reply::Reply;
 use network::{Status, YardFigures};
 
 // The version of these calls: it changes whenever a struct, a call or the meaning of a reply does.
@@ -40,7 +40,7 @@ pub extern "C" fn ranqustei_judge(survey: &[u8], drawn: &[u8]) -> Reply
     ensures promised { JudgePromised survey.now drawn.now result.number (flat_values result) }
     ensures noticed { CutNoticed survey.now result.number result.place }
 {
-    flat(planner::judge(survey, drawn))
+    Reply::from(planner::judge(survey, drawn))
 }
 
 // The best tree under the numbers b1, b2 and b3.
@@ -51,7 +51,7 @@ pub extern "C" fn ranqustei_best(survey: &[u8], b1: i16, b2: i16, b3: i16, tree:
     ensures promised { BestPromised survey.now (b1 ∷ b2 ∷ b3 ∷ []) tree.old result.number (flat_values result) tree.new }
     ensures noticed { CutNoticed survey.now result.number result.place }
 {
-    flat(planner::best(survey, [b1, b2, b3], tree))
+    Reply::from(planner::best(survey, [b1, b2, b3], tree))
 }
 
 // The list of plans that no other plan beats.
@@ -62,7 +62,7 @@ pub extern "C" fn ranqustei_list(survey: &[u8], allowance: u32, buffer: &mut [u8
     ensures promised { Promised survey.now allowance buffer.old result buffer.new }
     ensures noticed { CutNoticed survey.now result.number result.place }
 {
-    planner::list(survey, allowance, buffer)
+    Status::from(planner::list(survey, allowance, buffer))
 }
 
 // Plan r of a list: the number, and where its link bytes are.
@@ -81,7 +81,7 @@ pub extern "C" fn ranqustei_index(list: &[u8], buffer: &mut [u8]) -> Status
     ensures leaves { buffer.new ≡ index_after list.now buffer.old }
     ensures promised { IndexPromised list.now buffer.old result buffer.new }
 {
-    planner::index(list, buffer)
+    Status::from(planner::index(list, buffer))
 }
 
 // The cheapest plan of a list whose y1 is at most `value`, by its index.
@@ -110,7 +110,7 @@ pub extern "C" fn ranqustei_write_survey(
     ensures promised { WritePromised kind
         (figures_from yard ends.now sums.now costs.now) survey.old result survey.new }
 {
-    planner::write_survey(kind, yard, ends, sums, costs, survey)
+    Status::from(planner::write_survey(kind, yard, ends, sums, costs, survey))
 }
 
 // Small survey q of the 1,728, from 0 in their order.
@@ -120,5 +120,5 @@ pub extern "C" fn ranqustei_small_survey(q: u32, survey: &mut [u8]) -> Status
     ensures leaves { survey.new ≡ small_after q survey.old }
     ensures promised { SmallPromised q survey.old result survey.new }
 {
-    planner::small_survey(q, survey)
+    Status::from(planner::small_survey(q, survey))
 }

@@ -8,9 +8,9 @@ use Rattle.network.specs.Calls.{Reply}
 use Rattle.network.specs.Indexing.{index_after, index_need, lookup_reply, says_found}
 use Rattle.network.specs.IndexPromise.{IsCheapest, LookupPromised, NoneMeets}
 use Rattle.network.specs.Promise.{Archived}
-use Rattle.network.specs.declared.Found.{Found}
-use Rattle.network.specs.declared.Found.TheVariants.{Plan, Refused}
-use Rattle.network.specs.declared.Refusal.{Refusal}
+use Rattle.network.specs.Checked.{Found, number_of}
+use Rattle.std.specs.Prelude.{Ok, Err}
+use Rattle.network.specs.declared.refusals.Refusal.{Refusal}
 use Rattle.planner_index.specs.Kept.{reply-plan, reply-thirteen}
 use Rattle.capi_replies.specs.declared.found.FoundPlan.{FoundPlan}
 
@@ -29,11 +29,11 @@ pub record FoundPromised (list index : List ℕ) (y : ℤ) (r : FoundPlan) : Typ
 
 -- ---- the two cases
 
-pub flat-plan : (f : Found) (r : ℕ) → f ≡ Plan r → record { number = 0; place = 0; plan = r } ≡ flat_found (says_found f)
+pub flat-plan : (f : Found) (r : ℕ) → f ≡ Ok r → record { number = 0; place = 0; plan = r } ≡ flat_found (says_found f)
 unfolding flat_found says_found
 flat-plan f r e = rw e
 
-pub flat-refused : (f : Found) (r : Refusal) → f ≡ Refused r → record { number = r.number; place = r.place; plan = 0 } ≡ flat_found (says_found f)
+pub flat-refused : (f : Found) (r : Refusal) → f ≡ Err r → record { number = number_of r.rule; place = r.place; plan = 0 } ≡ flat_found (says_found f)
 unfolding flat_found says_found
 flat-refused f r e = rw e
 

@@ -8,10 +8,10 @@ use Rattle.network.specs.PlanList.{costs_of}
 use Rattle.network.specs.Survey.{network_of}
 use Rattle.network.specs.Tabulate.{tabulate}
 use Rattle.network.specs.Yard.{tree_size}
-use Rattle.network.specs.declared.Answer.{Answer}
-use Rattle.network.specs.declared.Answer.TheVariants.{Plan, Refused}
-use Rattle.network.specs.declared.PlanCosts.{PlanCosts}
-use Rattle.network.specs.declared.Refusal.{Refusal}
+use Rattle.network.specs.Checked.{Answer, number_of}
+use Rattle.network.specs.declared.Costs.{Costs}
+use Rattle.std.specs.Prelude.{Ok, Err}
+use Rattle.network.specs.declared.refusals.Refusal.{Refusal}
 use Rattle.capi_replies.specs.declared.reply.Reply.{Reply}
 
 -- value i of a reply: the plan's sum, y1, y2 or y3; 0 where the reply is a refusal
@@ -56,12 +56,12 @@ flat-judge s drawn a h =
 
 -- ---- the two cases of an answer
 
-pub flat-plan : (a : Answer) (v : PlanCosts) → a ≡ Plan v
-    → record { number = 0; place = 0; sum = v.sum; y1 = v.y1; y2 = v.y2; y3 = v.y3 } ≡ flat_reply (says a)
+pub flat-plan : (a : Answer) (v : Costs) → a ≡ Ok v
+    → record { number = 0; place = 0; sum = v.sum; y1 = get_or v.y 0 (pos 0); y2 = get_or v.y 1 (pos 0); y3 = get_or v.y 2 (pos 0) } ≡ flat_reply (says a)
 unfolding flat_reply says
 flat-plan a v e = rw e
 
-pub flat-refused : (a : Answer) (r : Refusal) → a ≡ Refused r
-    → record { number = r.number; place = r.place; sum = pos 0; y1 = pos 0; y2 = pos 0; y3 = pos 0 } ≡ flat_reply (says a)
+pub flat-refused : (a : Answer) (r : Refusal) → a ≡ Err r
+    → record { number = number_of r.rule; place = r.place; sum = pos 0; y1 = pos 0; y2 = pos 0; y3 = pos 0 } ≡ flat_reply (says a)
 unfolding flat_reply says
 flat-refused a r e = rw e

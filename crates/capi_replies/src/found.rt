@@ -3,7 +3,7 @@ ghost use Rattle.std.specs.Prelude.{◌≡◌};
 ghost use Rattle.network.specs.Indexing.{lookup_reply, says_found};
 ghost use Rattle.capi_replies.specs.Flat.{FoundPromised, flat_found};
 
-use network::Found;
+use network::Refusal;
 use planner_index::index_lookup;
 
 // A plan's number with number 0 and place 0, or a refusal with plan 0.
@@ -15,21 +15,22 @@ pub struct FoundPlan {
     pub plan: u16,
 }
 
-// What a lookup found as plain numbers.
-fn flat(found: Found) -> FoundPlan
-    ensures { result ≡ flat_found (says_found found) }
-{
-    match found {
-        Found::Plan(plan) => FoundPlan {
-            number: 0,
-            place: 0,
-            plan,
-        },
-        Found::Refused(refusal) => FoundPlan {
-            number: refusal.number,
-            place: refusal.place,
-            plan: 0,
-        },
+impl From<Result<u16, Refusal>> for FoundPlan {
+    ghost from_gives = { λ found reply. reply ≡ flat_found (says_found found) };
+
+    fn from(found: Result<u16, Refusal>) -> FoundPlan {
+        match found {
+            Ok(plan) => FoundPlan {
+                number: 0,
+                place: 0,
+                plan,
+            },
+            Err(refusal) => FoundPlan {
+                number: refusal.rule.number(),
+                place: refusal.place,
+                plan: 0,
+            },
+        }
     }
 }
 
@@ -38,5 +39,5 @@ pub fn found_plan(list: &[u8], index: &[u8], value: i16) -> FoundPlan
     ensures reply { result ≡ flat_found (lookup_reply list.now index.now value) }
     ensures promised { FoundPromised list.now index.now value result }
 {
-    flat(index_lookup(list, index, value))
+    FoundPlan::from(index_lookup(list, index, value))
 }

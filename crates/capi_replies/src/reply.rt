@@ -3,7 +3,7 @@ ghost use Rattle.std.specs.Prelude.{◌≡◌};
 ghost use Rattle.network.specs.Calls.{says};
 ghost use Rattle.capi_replies.specs.Replies.{flat_reply};
 
-use network::Answer;
+use network::{Costs, Refusal};
 
 // The costs of a plan with number 0 and place 0, or a refusal with costs 0.
 #[repr(C)]
@@ -17,26 +17,27 @@ pub struct Reply {
     pub y3: i16,
 }
 
-// An answer as plain numbers.
-pub fn flat(answer: Answer) -> Reply
-    ensures { result ≡ flat_reply (says answer) }
-{
-    match answer {
-        Answer::Plan(costs) => Reply {
-            number: 0,
-            place: 0,
-            sum: costs.sum,
-            y1: costs.y1,
-            y2: costs.y2,
-            y3: costs.y3,
-        },
-        Answer::Refused(refusal) => Reply {
-            number: refusal.number,
-            place: refusal.place,
-            sum: 0,
-            y1: 0,
-            y2: 0,
-            y3: 0,
-        },
+impl From<Result<Costs, Refusal>> for Reply {
+    ghost from_gives = { λ answer reply. reply ≡ flat_reply (says answer) };
+
+    fn from(answer: Result<Costs, Refusal>) -> Reply {
+        match answer {
+            Ok(costs) => Reply {
+                number: 0,
+                place: 0,
+                sum: costs.sum,
+                y1: costs.y[0],
+                y2: costs.y[1],
+                y3: costs.y[2],
+            },
+            Err(refusal) => Reply {
+                number: refusal.rule.number(),
+                place: refusal.place,
+                sum: 0,
+                y1: 0,
+                y2: 0,
+                y3: 0,
+            },
+        }
     }
 }

@@ -1,73 +1,40 @@
-// Text and numbers for the programs: written to standard output, and read from a line. What is written is not part of any contract.
+// What the programs share: the input that they take, and what they print of a call's reply.
 #![tactic(auto)]
 
-// A line of the input, read byte by byte.
-pub mod line;
+use network::Refusal;
+use std::alloc::Global;
+use std::io::{ErrorKind, Read};
+use std::{fmt, io};
 
-use encoding::writes::bits32;
-
-const OUTPUT: i32 = 1;
-
-// The bytes as they are.
-pub fn text(bytes: &[u8]) {
-    let _written = io::write_all(OUTPUT, bytes);
-}
-
-// A number in decimal.
-pub fn number(n: u64) {
-    let _written = io::print_decimal(OUTPUT, n);
-}
-
-// What the bits of a number that is not negative mean, and the magnitude of one that is.
-fn natural(u: u32) -> u64 {
-    u as u64
-}
-
-fn magnitude(u: u32) -> u64 {
-    4294967296 - u as u64
-}
-
-// A signed number in decimal.
-pub fn signed32(y: i32) {
-    let u = bits32(y);
-    if u < 2147483648 {
-        number(natural(u));
-    } else {
-        text(b"-");
-        number(magnitude(u));
+// The bytes of an input, at most so many. A read that fails ends the input; only a lack of memory is an error.
+pub fn read_input<R: Read + Drop>(input: R, most: usize, alloc: Global) -> io::Result<Vec<u8>> {
+    let mut bytes = Vec::new(alloc);
+    match input.take(most as u64).read_to_end(&mut bytes) {
+        Err(error) if error.kind() == ErrorKind::OutOfMemory => Err(error),
+        _ => Ok(bytes),
     }
 }
 
-pub fn signed16(y: i16) {
-    signed32(y as i32);
-}
+// A word and the numbers after it, with a space before each.
+#[derive(Clone, Copy)]
+pub struct Row<'a>(pub &'a str, pub &'a [u8]);
 
-// A word and a number.
-pub fn item(word: &[u8], n: u8) {
-    text(word);
-    number(n as u64);
-}
-
-// A word, and numbers after it.
-pub fn row(word: &[u8], numbers: &[u8]) {
-    text(word);
-    for i in 0..numbers.len() {
-        item(b" ", numbers[i]);
-    }
-}
-
-// `refused N at P`
-pub fn refusal(n: u8, place: u8) {
-    item(b"refused ", n);
-    item(b" at ", place);
-}
-
-// The bytes from one index to another, or none where they are not all there.
-pub fn part<'a>(bytes: &'a [u8], from: usize, to: usize) -> &'a [u8] {
-    if to <= bytes.len() {
-        if from <= to {
-            return &bytes[from..to];
+impl fmt::Display for Row<'_> {
+    fn fmt<W: fmt::Write>(&self, f: &mut fmt::Formatter<W>) -> fmt::Result {
+        write!(f, " {}", self.0)?;
+        for number in self.1 {
+            write!(f, " {number}")?;
         }
+        Ok(())
     }
-    &bytes[..0]
+}
+
+// A refusal, as `refused N at P`. A wrapper: how a refusal is printed is a matter of the programs, and the type is the planner's.
+#[derive(Clone, Copy)]
+pub struct Refused(pub Refusal);
+
+impl fmt::Display for Refused {
+    fn fmt<W: fmt::Write>(&self, f: &mut fmt::Formatter<W>) -> fmt::Result {
+        write!(f, "refused {} at {}", self.0.rule.number(), self.0.place)
+    }
 }

@@ -4,8 +4,6 @@ pub mod Compared
 pub mod RoundTrip
 -- the ends of the ranges of 16 and 32 bits
 pub mod Range
--- laws of two's complement
-pub mod TwosComplement
 -- the same of signed numbers
 pub mod SignedRoundTrip
 -- bytes that hold records of one size

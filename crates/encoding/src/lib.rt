@@ -7,8 +7,5 @@ pub mod numbers;
 // Signed numbers in two's complement, read.
 pub mod signed;
 
-// Numbers written, and the bits of signed ones.
+// Numbers written.
 pub mod writes;
-
-// Signed numbers compared.
-pub mod compare;

@@ -1,22 +1,14 @@
-// Unsigned numbers of several bytes, low byte first, and marks, read from slices of bytes.
-ghost use Rattle.std.specs.Prelude.{◌≡◌, ◌+◌, ◌≤◌, ◌<◌, length};
+// Unsigned numbers of several bytes, low byte first, and marks, read from slices of bytes. There is a function for each type, since std's
+// `from_le_bytes` and `to_le_bytes` belong to no trait: a trait over them would have as many bodies.
+ghost use Rattle.std.specs.Prelude.{◌≡◌, ◌+◌, ◌≤◌, length};
 ghost use Rattle.network.specs.Bytes as spec;
-
-// A byte as a wider number.
-fn byte(b: u8) -> u16
-    ensures { (result ≡ b) × (result < 256) }
-{
-    b as u16
-}
 
 // The unsigned number of two bytes.
 pub fn read_u16(s: &[u8], at: usize) -> u16
     requires { at + 2 ≤ length s.now }
     ensures { result ≡ spec.u16_at s.now at }
 {
-    let low = byte(s[at]);
-    let high = byte(s[at + 1]);
-    low + high * 256
+    u16::from_le_bytes([s[at], s[at + 1]])
 }
 
 // The unsigned number of three bytes.
@@ -24,9 +16,7 @@ pub fn read_u24(s: &[u8], at: usize) -> u32
     requires { at + 3 ≤ length s.now }
     ensures { result ≡ spec.u24_at s.now at }
 {
-    let low = read_u16(s, at) as u32;
-    let high = byte(s[at + 2]) as u32;
-    low + high * 65536
+    u32::from_le_bytes([s[at], s[at + 1], s[at + 2], 0])
 }
 
 // The unsigned number of four bytes.
@@ -34,9 +24,7 @@ pub fn read_u32(s: &[u8], at: usize) -> u32
     requires { at + 4 ≤ length s.now }
     ensures { result ≡ spec.u32_at s.now at }
 {
-    let low = read_u16(s, at) as u32;
-    let high = read_u16(s, at + 2) as u32;
-    low + high * 65536
+    u32::from_le_bytes([s[at], s[at + 1], s[at + 2], s[at + 3]])
 }
 
 // Whether a mark stands at an index, exactly.
@@ -44,5 +32,5 @@ pub fn mark_at(s: &[u8], at: usize, mark: [u8; 2]) -> bool
     requires { at + 2 ≤ length s.now }
     ensures { result ≡ spec.mark_at s.now at mark }
 {
-    (s[at] == mark[0]) & (s[at + 1] == mark[1])
+    [s[at], s[at + 1]] == mark
 }

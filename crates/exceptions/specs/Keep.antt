@@ -29,7 +29,7 @@ use Rattle.network.specs.Capacities.{patterns_held, stations_held}
 use Rattle.kmax.specs.Ceilings.{slack_of}
 use Rattle.kmax.specs.Digits.{admits, marked}
 use Rattle.kmax.proofs.Digits.{admits-few}
-use Rattle.forest.specs.Groups.{Led, apart, apart-led, joined, joined-led}
+use Rattle.forest.specs.Groups.{Led, apart, apart-led, joined, joined-led, nobody}
 use Rattle.forest.specs.declared.Forest.{Forest}
 use Rattle.network.specs.Yard.{ends_at}
 use Rattle.kruskal.specs.Base.{kept}
@@ -39,10 +39,6 @@ use Rattle.exceptions.specs.Fit.{fit_at, fit_of}
 -- a link that joins two groups joins two stations
 crosses-apart : (L : Labelling) (e : Edge) → crosses L e ≡ true → crosses identity e ≡ true
 crosses-apart L e c = Crosses→crosses identity e (λ s. crosses→Crosses L e c (ap L s))
-
--- what stands for the groups of a pattern out of range
-abbrev pub nobody : Forest
-nobody = record { leader = [] }
 
 -- nothing joined, for each pattern
 unfoldable pub separate : List Forest

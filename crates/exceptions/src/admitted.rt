@@ -4,6 +4,7 @@ ghost use Rattle.kmax.specs.Digits.{admits};
 ghost use Rattle.exceptions.specs.Fit.{fit_of};
 
 use network::capacities::PATTERNS_HELD;
+use std::array;
 
 // Links of two patterns together.
 pub fn admits_pair(ks: &[u8], pattern: u8, other: u8) -> bool
@@ -11,12 +12,12 @@ pub fn admits_pair(ks: &[u8], pattern: u8, other: u8) -> bool
 {
     let mut a = pattern;
     let mut b = other;
-    for i in 0..ks.len() {
-        if ks[i] <= a % 2 + b % 2 {
+    for &rank in ks {
+        if rank <= a % 2 + b % 2 {
             return false;
         }
-        a = a / 2;
-        b = b / 2;
+        a /= 2;
+        b /= 2;
     }
     true
 }
@@ -32,9 +33,5 @@ fn admits_alone(ks: &[u8], pattern: u8) -> bool
 pub fn fit_patterns(ks: &[u8]) -> [bool; PATTERNS_HELD]
     ensures { result ≡ fit_of ks.now }
 {
-    let mut fit = [false; PATTERNS_HELD];
-    for pattern in 0..PATTERNS_HELD {
-        fit[pattern] = (pattern != 0) & admits_alone(ks, pattern as u8);
-    }
-    fit
+    array::from_fn(|pattern| (pattern != 0) & admits_alone(ks, pattern as u8))
 }

@@ -1,6 +1,7 @@
 // The exceptions that Kruskal's method keeps, run over the links of each pattern apart, in one pass.
+// No heap: the first of a lent slice, as many as the number returned.
 ghost use Rattle.std.specs.Prelude.{◌*◌, ◌≡◌, length};
-ghost use Rattle.kruskal.specs.Grown.{Near};
+ghost use Rattle.forest.specs.History.{Near};
 ghost use Rattle.exceptions.specs.Patterns.{Patterned};
 ghost use Rattle.kruskal_order.specs.Collect.{Holding};
 ghost use Rattle.exceptions.specs.Select.{Selectable};
@@ -11,6 +12,7 @@ use forest::Forest;
 use network::capacities::PATTERNS_HELD;
 
 // Writes the links of an order that may be exceptions and join two groups of the links kept of their pattern, and returns their number.
+// A link that is kept changes what the next ones join: that is no test of each link alone, as `put_passing` takes.
 pub fn put_exceptions(
     ends: &[u8],
     order: &[u8],
@@ -26,8 +28,7 @@ pub fn put_exceptions(
     let alone = Forest::new();
     let mut forests = [alone; PATTERNS_HELD];
     let mut n: usize = 0;
-    for k in 0..order.len() {
-        let e = order[k];
+    for &e in order {
         let i = e as usize;
         let pattern = patterns[i] as usize;
         if fit[pattern] {

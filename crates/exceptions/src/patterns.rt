@@ -1,4 +1,5 @@
 // Above which ceilings' bounds the costs of a link lie, as digits of a number: the first ceiling's is the lowest.
+// A number, since it indexes the groups that keep.rt holds for each set.
 ghost use Rattle.std.specs.Prelude.{◌≡◌, ◌<◌, ◌*◌, ◌≤◌, length, replicate};
 ghost use Rattle.order.specs.Order.{orderℤ};
 ghost use Rattle.kmax.specs.KMax.{above as above_bound};
@@ -10,7 +11,7 @@ ghost use Rattle.exceptions.specs.Patterns.{Room, patterns_of, with_digit};
 fn above(cost: i16, bound: i16) -> u8
     ensures { (result ≡ flag (above_bound orderℤ bound cost)) × (result < 2) }
 {
-    if cost <= bound { 0 } else { 1 }
+    (bound < cost) as u8
 }
 
 // The patterns with a digit more in front, that of a ceiling with its column of costs.
@@ -18,8 +19,8 @@ fn add_digit(patterns: &mut [u8], column: &[i16], bound: i16)
     requires { (length column.now ≡ length patterns.old) × Room patterns.old }
     ensures { patterns.new ≡ with_digit column.now bound patterns.old }
 {
-    for e in 0..patterns.len() {
-        patterns[e] = above(column[e], bound) + 2 * patterns[e];
+    for (e, &cost) in column.iter().enumerate() {
+        patterns[e] = above(cost, bound) + 2 * patterns[e];
     }
 }
 
@@ -30,12 +31,8 @@ pub fn put_patterns(costs: &[i16], bounds: &[i16], patterns: &mut [u8])
     ensures { patterns.new ≡ patterns_of (length patterns.old) costs.now bounds.now }
 {
     let m = patterns.len();
-    let mut i = bounds.len();
-    let mut from = costs.len();
-    while 0 < i {
-        i -= 1;
-        let to = from;
-        from -= m;
-        add_digit(patterns, &costs[from..to], bounds[i]);
+    // By number: what holds after each ceiling did not carry over a proof by enumerate and rev.
+    for i in (0..bounds.len()).rev() {
+        add_digit(patterns, &costs[i * m..(i + 1) * m], bounds[i]);
     }
 }

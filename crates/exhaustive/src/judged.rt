@@ -1,51 +1,40 @@
 // The judge, asked about sets of links, held against the trees among them.
-use crate::questions::agrees;
-use alltrees::answers::drawn;
-use alltrees::listing::{size, tree};
-use alltrees::resting::tree_size;
-use alltrees::small::{Yard, byte};
-use console::part;
+use crate::case::Case;
+use crate::questions::are_of;
+use crate::reply::agrees;
+use alltrees::listing::{LinkSet, Tree};
+use network::Rule;
 use planner::judge;
-use std::num::{wrapping_add_u64, wrapping_sub_u8};
+use std::alloc::AllocError;
 
-// The number where the links drawn are no tree.
-const NO_TREE: u8 = 11;
-
-// 1 where the judge differs on a set of links; a number is wanted where it is no tree.
-pub fn differs(survey: &[u8], set: u8, tree: u64, number: u8) -> u64 {
-    let links = drawn(set);
-    let answer = judge(survey, part(&links, 0, size(set) as usize));
-    !agrees(answer, tree, number) as u64
+// How many sets were judged, and how often the judge differed.
+#[derive(Clone, Copy, Default)]
+pub struct Judged {
+    pub sets: usize,
+    pub differences: usize,
 }
 
-// Whether a set has as many links as a tree of the yard, or as one of all stations.
-fn is_judged(yard: Yard, set: u8) -> bool {
-    let links = size(set);
-    (links == tree_size(yard)) | (links == wrapping_sub_u8(byte(yard.kind, 0), 1) as u32)
+// Whether the judge, with these links drawn, gives the costs of the tree that is wanted, or the refusal.
+pub fn is_judged(survey: &[u8], drawn: &[u8], wanted: Result<&Tree, Rule>) -> bool {
+    agrees(judge(survey, drawn), wanted, are_of)
 }
 
-// How many sets are judged.
-pub fn count(yard: Yard) -> u64 {
-    let mut n = 0;
-    for set in 0..128u8 {
-        n = wrapping_add_u64(n, is_judged(yard, set) as u64);
+// The sets that have as many links as a tree of the yard, or as one of all stations, judged.
+pub fn judge_sets(case: &Case<'_>) -> Result<Judged, AllocError> {
+    let all = usize::from(case.yard.stations).saturating_sub(1);
+    let sizes = [case.yard.tree_size(), all];
+    let mut judged = Judged::default();
+    for bits in 0..128u8 {
+        let set = LinkSet::of_bits(bits);
+        if !sizes.contains(&set.len()) {
+            continue;
+        }
+        let drawn = set.links(case.alloc)?;
+        let mut trees = case.trees.iter();
+        let tree = trees.find(|tree| tree.links.as_slice() == drawn.as_slice());
+        let is_same = is_judged(case.survey, &drawn, tree.ok_or(Rule::NoTree));
+        judged.sets = judged.sets.saturating_add(1);
+        judged.differences = judged.differences.saturating_add(usize::from(!is_same));
     }
-    n
-}
-
-// 1 where the judge differs on a set that is judged.
-fn differs_on(survey: &[u8], yard: Yard, set: u8) -> u64 {
-    if is_judged(yard, set) {
-        return differs(survey, set, tree(yard, set), NO_TREE);
-    }
-    0
-}
-
-// How often the judge differs.
-pub fn differences(survey: &[u8], yard: Yard) -> u64 {
-    let mut n = 0;
-    for set in 0..128u8 {
-        n = wrapping_add_u64(n, differs_on(survey, yard, set));
-    }
-    n
+    Ok(judged)
 }

@@ -2,75 +2,78 @@
 // file `stdout`.
 #![tactic(auto)]
 
+mod case;
 mod judged;
 mod lists;
 mod lookups;
 mod questions;
+mod reply;
 mod resting;
 mod surveys;
 mod tally;
 
-use alltrees::listing::{first, trees_of};
+use alltrees::kinds::COUNT;
+use alltrees::listing::trees_of;
 use alltrees::plans::plans_of;
-use alltrees::resting::at_rest;
-use alltrees::small::{KINDS, Yard, length, make, next, survey_of};
-use alltrees::visits::need;
-use console::part;
-use std::num::wrapping_add_usize;
+use alltrees::resting::Stations;
+use alltrees::small::{Drawn, Yard, next};
+use case::Case;
+use std::alloc::{AllocError, Global};
+use std::io;
 use tally::Tally;
 
 // Every kind of yard twenty times.
-const YARDS: usize = 20 * KINDS;
+const YARDS: usize = 20 * COUNT;
 
 // Bytes of a list buffer past what it needs.
 const PAST: usize = 20;
 
 // A yard's trees, and the comparisons.
-fn compare(survey: &[u8], yard: Yard, tally: Tally) -> Tally {
-    let listing = trees_of(yard);
-    let list = listing.list;
-    let trees = first(&list, listing.count);
-    let plans = plans_of(trees);
-    let asked = questions::differences(survey, yard.kind, trees);
-    let size = wrapping_add_usize(need(yard), PAST);
-    let listed = lists::differences(survey, size, yard, trees, plans);
-    let looked = lookups::differences(survey, yard.kind, trees, plans);
-    let written = surveys::differences(yard, trees, plans);
-    tally.yard(
-        listing.count as u64,
-        plans.count,
-        asked,
-        listed,
-        looked,
-        written,
-    )
-}
-
-// The same yard with some of its stations at rest, and the comparisons.
-fn compare_resting(yard: Yard, rest: u8, tally: Tally) -> Tally {
-    let resting = at_rest(yard, rest);
-    let survey = survey_of(resting);
-    resting::compare(part(&survey, 0, length(resting)), resting, tally)
+fn compare(yard: Yard<'_>, tally: &mut Tally, alloc: Global) -> Result<(), AllocError> {
+    let survey = yard.survey(alloc)?;
+    let trees = trees_of(&yard, alloc)?;
+    let plans = plans_of(&trees, alloc)?;
+    let case = Case {
+        yard,
+        survey: &survey,
+        trees: &trees,
+        plans: &plans,
+        alloc,
+    };
+    let size = yard.need(alloc)?.saturating_add(PAST);
+    tally.add_yard(trees.len(), plans.len());
+    tally.add_differences(questions::differences(&case));
+    tally.add_differences(lists::differences(&case, size)?);
+    tally.add_differences(lookups::differences(&case)?);
+    tally.add_differences(surveys::differences(&case)?);
+    Ok(())
 }
 
 // A yard with every set of the stations 0 to 4 at rest, those that it does not have among them.
-fn compare_all(yard: Yard, tally: Tally) -> Tally {
-    let mut all = tally;
-    for rest in 0..32u8 {
-        all = compare_resting(yard, rest, all);
+fn compare_resting(yard: Yard<'_>, tally: &mut Tally, alloc: Global) -> Result<(), AllocError> {
+    for bits in 0..32u8 {
+        resting::compare(yard.at_rest(Stations::of_bits(bits)), tally, alloc)?;
     }
-    all
+    Ok(())
 }
 
-fn main() {
+// All yards.
+fn run(alloc: Global) -> Result<Tally, AllocError> {
     let mut x = 1;
-    let mut tally = Tally::new();
+    let mut tally = Tally::default();
     for i in 0..YARDS {
         x = next(x);
-        let yard = make(i, x);
-        let survey = survey_of(yard);
-        let compared = compare(part(&survey, 0, length(yard)), yard, tally);
-        tally = compare_all(yard, compared);
+        let drawn = Drawn::new(i, x, alloc)?;
+        let yard = drawn.yard();
+        compare(yard, &mut tally, alloc)?;
+        compare_resting(yard, &mut tally, alloc)?;
     }
-    tally.print();
+    Ok(tally)
+}
+
+// That a write fails is nothing that the program reports.
+fn main(rt: HostRuntime) -> io::Result<()> {
+    let tally = run(rt.alloc())?;
+    let _written = rt.print(tally);
+    Ok(())
 }

@@ -1,102 +1,74 @@
 // What was counted, and how often the planner differed.
-use console::{number, text};
-use std::num::wrapping_add_u64;
+use std::fmt;
 
-#[derive(Drop)]
+#[derive(Clone, Copy, Default)]
 pub struct Tally {
-    pub yards: u64,
-    pub resting: u64,
-    pub declined: u64,
-    pub trees: u64,
-    pub judged: u64,
-    pub questions: u64,
-    pub lists: u64,
-    pub plans: u64,
-    pub lookups: u64,
-    pub written: u64,
-    pub differences: u64,
+    yards: usize,
+    resting: usize,
+    declined: usize,
+    trees: usize,
+    judged: usize,
+    questions: usize,
+    lists: usize,
+    plans: usize,
+    lookups: usize,
+    written: usize,
+    differences: usize,
 }
 
-// A line with what was counted, and how many.
-fn row(what: &[u8], n: u64) {
-    text(what);
-    text(b" ");
-    number(n);
-    text(b"\n");
+// A count with so many more.
+fn add(count: &mut usize, more: usize) {
+    *count = count.saturating_add(more);
 }
 
 impl Tally {
-    pub fn new() -> Tally {
-        Tally {
-            yards: 0,
-            resting: 0,
-            declined: 0,
-            trees: 0,
-            judged: 0,
-            questions: 0,
-            lists: 0,
-            plans: 0,
-            lookups: 0,
-            written: 0,
-            differences: 0,
-        }
-    }
-
     // With a yard of so many trees and plans, 256 questions, its list, the list's index, a lookup for each bound, and its survey written with both kinds
     // of yard record and listed with the other one, or refused.
-    pub fn yard(
-        mut self,
-        trees: u64,
-        plans: u64,
-        asked: u64,
-        listed: u64,
-        looked: u64,
-        written: u64,
-    ) -> Tally {
-        self.yards = wrapping_add_u64(self.yards, 1);
-        self.trees = wrapping_add_u64(self.trees, trees);
-        self.questions = wrapping_add_u64(self.questions, 256);
-        self.lists = wrapping_add_u64(self.lists, 1);
-        self.plans = wrapping_add_u64(self.plans, plans);
-        self.lookups = wrapping_add_u64(self.lookups, 16);
-        self.written = wrapping_add_u64(self.written, 2);
-        let calls = wrapping_add_u64(asked, wrapping_add_u64(listed, looked));
-        self.differences = wrapping_add_u64(self.differences, wrapping_add_u64(calls, written));
-        self
+    pub fn add_yard(&mut self, trees: usize, plans: usize) {
+        add(&mut self.yards, 1);
+        add(&mut self.trees, trees);
+        add(&mut self.questions, 256);
+        add(&mut self.lists, 1);
+        add(&mut self.plans, plans);
+        add(&mut self.lookups, 16);
+        add(&mut self.written, 2);
     }
 
     // With a survey that has rest bytes, so many trees and plans, so many sets of links judged, a question for each bound, and its list.
-    pub fn resting(mut self, trees: u64, plans: u64, judged: u64, differences: u64) -> Tally {
-        self.resting = wrapping_add_u64(self.resting, 1);
-        self.trees = wrapping_add_u64(self.trees, trees);
-        self.judged = wrapping_add_u64(self.judged, judged);
-        self.questions = wrapping_add_u64(self.questions, 16);
-        self.lists = wrapping_add_u64(self.lists, 1);
-        self.plans = wrapping_add_u64(self.plans, plans);
-        self.differences = wrapping_add_u64(self.differences, differences);
-        self
+    pub fn add_resting(&mut self, trees: usize, plans: usize, judged: usize) {
+        add(&mut self.resting, 1);
+        add(&mut self.trees, trees);
+        add(&mut self.judged, judged);
+        add(&mut self.questions, 16);
+        add(&mut self.lists, 1);
+        add(&mut self.plans, plans);
     }
 
     // With a survey that has rest bytes and is declined.
-    pub fn declined(mut self, differences: u64) -> Tally {
-        self.resting = wrapping_add_u64(self.resting, 1);
-        self.declined = wrapping_add_u64(self.declined, 1);
-        self.differences = wrapping_add_u64(self.differences, differences);
-        self
+    pub fn add_declined(&mut self) {
+        add(&mut self.resting, 1);
+        add(&mut self.declined, 1);
     }
 
-    pub fn print(self) {
-        row(b"yards", self.yards);
-        row(b"surveys with rest bytes", self.resting);
-        row(b"of them declined", self.declined);
-        row(b"trees", self.trees);
-        row(b"sets of links judged", self.judged);
-        row(b"questions", self.questions);
-        row(b"lists", self.lists);
-        row(b"plans", self.plans);
-        row(b"indexes", self.yards);
-        row(b"lookups", self.lookups);
-        row(b"surveys written or refused", self.written);
-        row(b"differences", self.differences);
+    // With so many differences more.
+    pub fn add_differences(&mut self, more: usize) {
+        add(&mut self.differences, more);
+    }
+}
+
+impl fmt::Display for Tally {
+    fn fmt<W: fmt::Write>(&self, f: &mut fmt::Formatter<W>) -> fmt::Result {
+        writeln!(f, "yards {}", self.yards)?;
+        writeln!(f, "surveys with rest bytes {}", self.resting)?;
+        writeln!(f, "of them declined {}", self.declined)?;
+        writeln!(f, "trees {}", self.trees)?;
+        writeln!(f, "sets of links judged {}", self.judged)?;
+        writeln!(f, "questions {}", self.questions)?;
+        writeln!(f, "lists {}", self.lists)?;
+        writeln!(f, "plans {}", self.plans)?;
+        writeln!(f, "indexes {}", self.yards)?;
+        writeln!(f, "lookups {}", self.lookups)?;
+        writeln!(f, "surveys written or refused {}", self.written)?;
+        writeln!(f, "differences {}", self.differences)
     }
 }

@@ -1,5 +1,5 @@
 -- The forest value in the theory's terms: its leaders are a labelling held in a list.
-use Rattle.std.specs.Prelude.{ℕ, ◌<◌, true, false, not, ◌≡◌, refl, eqb}
+use Rattle.std.specs.Prelude.{ℕ, ◌<◌, true, false, not, [], ◌≡◌, refl, eqb}
 use Rattle.std.proofs.Common.{sym, ◌∙◌, subst, eq-eqb, ne_eqb}
 use Rattle.std.proofs.Math.Path.{fun_ext}
 use Rattle.network.specs.Capacities.{stations_held}
@@ -16,6 +16,10 @@ link a b = record { a = a; b = b }
 -- each station is a group of its own
 unfoldable pub apart : Forest
 apart = record { leader = first_labels stations_held }
+
+-- what stands for groups that are not there
+abbrev pub nobody : Forest
+nobody = record { leader = [] }
 
 -- the groups of a and b made one: the leader of b becomes that of a
 unfoldable pub joined : Forest → ℕ → ℕ → Forest

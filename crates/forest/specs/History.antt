@@ -3,7 +3,7 @@ use Rattle.std.specs.Prelude.{ℕ, zero, suc, ◌+◌, ◌*◌, ◌-◌, ◌≤�
 use mathlib.Core.List.Memᴰ.{head as here}
 use mathlib.Core.List.Memᴰ.{tail as there}
 use mathlib.Core.List.{List, [], ◌∷◌, ◌++◌, foldl, foldl-append, map}
-use Rattle.std.proofs.Common.{⊎_elim, sym, ◌∙◌, eq-or-lt_of_le, le_of_suc-le-suc, add-one, arith, length-append, length-drop, drop_at, length-take-le, take-add, take_all}
+use Rattle.std.proofs.Common.{⊎_elim, sym, ◌∙◌, eq-or-lt_of_le, le_of_suc-le-suc, add-one, arith, length-append, drop_at, length-take-le, take-add, take_all}
 use Rattle.std.proofs.Math.Path.{ap, fun_ext}
 use Rattle.std.proofs.lemmas.List.{take-append-le}
 use Rattle.order.specs.Lists.{◌∈◌}
@@ -12,7 +12,7 @@ use Rattle.spanning.specs.LabelList.{label_of}
 use Rattle.spanning.specs.Tree.{EndsBelow, identity, merge_all}
 use Rattle.network.specs.Capacities.{stations_held}
 use Rattle.network.specs.Yard.{ends_at}
-use Rattle.buffers.specs.Overwrite.{length-overwrite, overwrite, overwrite-end, take-overwrite, written}
+use Rattle.buffers.specs.Overwrite.{length-overwrite, overwrite, take-overwrite, written}
 use Rattle.forest.specs.Groups.{Led, apart, apart-labels, apart-led, joined, joined-labels, joined-led}
 use Rattle.forest.specs.declared.Forest.{Forest}
 
@@ -126,18 +126,15 @@ pub groups_none : (history : List ℕ) {count : ℕ} {r : Forest} → count ≡ 
 unfolding groups_in
 groups_none history e q = rw e q
 
-pub groups-row : (history zeros : List ℕ) (count : ℕ) {leader : List ℕ} → ¬ (count ≡ 0) → length zeros ≡ stations_held
-    → count * stations_held ≤ length history
-    → leader ≡ overwrite zeros 0 (take (count * stations_held - (count * stations_held - stations_held)) (drop (count * stations_held - stations_held) history))
+pub groups-row : (history : List ℕ) (count : ℕ) {leader : List ℕ} → ¬ (count ≡ 0)
+    → leader ≡ take (count * stations_held - (count * stations_held - stations_held)) (drop (count * stations_held - stations_held) history)
     → record { leader = leader } ≡ groups_in history count
 unfolding groups_in
-groups-row history zeros zero n size fits e = absurd (n refl)
-groups-row history zeros (suc k) {leader} n size fits e =
+groups-row history zero n e = absurd (n refl)
+groups-row history (suc k) {leader} n e =
     let start : suc k * stations_held - stations_held ≡ k * stations_held = omega arith in
     let whole : suc k * stations_held - k * stations_held ≡ stations_held = omega arith in
-    let row : List ℕ = take stations_held (drop (k * stations_held) history) in
-    let long : length row ≡ stations_held = length-take-le stations_held (drop (k * stations_held) history) (omega (arith, length-drop (k * stations_held) history)) in
-    let is : leader ≡ row = rw (start, whole) at e ∙ overwrite-end zeros 0 row (omega arith) in
+    let is : leader ≡ take stations_held (drop (k * stations_held) history) = rw (start, whole) at e in
     λ i. record { leader = is i }
 
 -- a link fewer

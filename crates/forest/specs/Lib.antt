@@ -4,3 +4,5 @@ pub mod MapFirst
 pub mod Groups
 -- the groups after each link of a list, in rows
 pub mod History
+-- an array that a function of the index made
+pub mod Made

@@ -7,11 +7,10 @@ ghost use Rattle.spanning.specs.LabelList.{label_of, replaced};
 ghost use Rattle.forest.specs.Groups.{apart, joined};
 ghost use Rattle.forest.specs.History.{groups_in};
 
-use buffers::copies::copy_in;
 use network::capacities::STATIONS_HELD;
 
 // A leader for each station: two stations with one leader are in one group.
-#[derive(Clone, Copy)]
+#[derive(Clone, Copy, PartialEq, Eq)]
 pub struct Forest {
     pub leader: [u8; STATIONS_HELD],
 }
@@ -23,7 +22,8 @@ fn successor(leader: u8, old: u8, new: u8) -> u8
     if leader == old { new } else { leader }
 }
 
-// The array of leaders, handed back with the group of `old` led by `new`.
+// The array of leaders, handed back with the group of `old` led by `new`. By places: this is Kruskal's inner loop, and the array's iterator made it
+// slower.
 fn relabel(mut leaders: [u8; STATIONS_HELD], old: u8, new: u8) -> [u8; STATIONS_HELD]
     ensures { result ≡ map (replaced new old) leaders }
 {
@@ -38,6 +38,7 @@ impl Forest {
     pub fn new() -> Forest
         ensures { result ≡ apart }
     {
+        // Written out: a constant is copied faster than counted up.
         Forest {
             leader: [
                 0, 1, 2, 3, 4, 5, 6, 7, 8, 9, 10, 11, 12, 13, 14, 15, 16, 17, 18, 19, 20, 21, 22,
@@ -76,6 +77,6 @@ pub fn groups_after(history: &[u8], count: usize) -> Forest
     }
     let end = count * STATIONS_HELD;
     let mut leader = [0u8; STATIONS_HELD];
-    copy_in(&mut leader, 0, &history[end - STATIONS_HELD..end]);
+    leader.copy_from_slice(&history[end - STATIONS_HELD..end]);
     Forest { leader }
 }

@@ -1,8 +1,8 @@
 // The index of a plan list by first ceiling, written into a lent buffer.
 #![tactic(auto)]
 
-// The plan numbers by rising key.
-pub mod ordering;
+// The plan numbers by rising key, written.
+pub mod entries;
 
-// 12, 16, or the index.
+// Damaged list, short index, or the index.
 pub mod building;

@@ -1,10 +1,12 @@
 -- The key of a plan in the index: y1, sum and y2 as one number; where the list has no ceiling, the sum alone in its place. The keys of all plans.
-use Rattle.std.specs.Prelude.{Bool, true, cond, List, ◌≡◌, ℕ, ◌+◌, ◌*◌, ◌/◌, ◌%◌, ◌≤◌, leb}
+use Rattle.std.specs.Prelude.{cond, not, List, ◌≡◌, ℕ, ◌+◌, ◌*◌, ◌/◌, ◌%◌, ◌≤◌, leb}
 use native.Mathlib.Omega.{arith}
 use Rattle.std.proofs.Common.{eq-eqb, ne_eqb}
 use Rattle.order.specs.Test.{by-test}
 use Rattle.order.specs.Lists.{all}
 use Rattle.network.specs.Bytes.{u16_at, u32_at}
+use Rattle.network.specs.Checked.{Checked, no_refusal, refuse_if}
+use Rattle.network.specs.declared.refusals.Rule.TheVariants.{DamagedList}
 use Rattle.network.specs.Survey.{narrow_slots}
 use Rattle.network.specs.PlanList.{plan_slots}
 use Rattle.network.specs.Fetching.{head_ceilings, head_count, is_marked, plan_start}
@@ -58,10 +60,10 @@ key_at list at =
 unfoldable pub plan_key : List ℕ → ℕ → ℕ
 plan_key list r = key_at list (plan_start list r)
 
--- what reading the keys gives: whether each plan has its mark, and if so, the keys of all plans in the order of the list
-pub record KeysRead (list keys : List ℕ) (r : Bool) : Type 0 where
-  pub marked : r ≡ all (is_marked list) (plan_numbers list)
-  pub filled : r ≡ true → keys ≡ tabled (plan_key list) (head_count list)
+-- what reading the keys gives: a refusal of the list where a plan has no mark, and if each has, the keys of all plans in the order of the list
+pub record KeysRead (list keys : List ℕ) (r : Checked) : Type 0 where
+  pub marked : r ≡ refuse_if (not (all (is_marked list) (plan_numbers list))) DamagedList 0
+  pub filled : r ≡ no_refusal → keys ≡ tabled (plan_key list) (head_count list)
 
 -- ---- by what the code finds
 

@@ -1,5 +1,5 @@
 -- The keys of a list's plans, as a loop reads them plan by plan and tests the marks.
-use Rattle.std.specs.Prelude.{Bool, true, false, ◌&&◌, List, ◌≡◌, refl, length, set, take}
+use Rattle.std.specs.Prelude.{Bool, true, false, Err, is_ok, ◌&&◌, List, ◌≡◌, refl, length, set, take}
 use Rattle.std.proofs.Common.{sym, ◌∙◌, zero-mul}
 use Rattle.std.proofs.Math.Path.{ap, ap₂}
 use Prim.Native.Nat.{ℕ, suc, ◌+◌, ◌-◌, ◌≤◌, ◌<◌}
@@ -9,6 +9,8 @@ use Rattle.std.proofs.Math.ListN.{length-set}
 use Rattle.order.specs.Test.{clash}
 use Rattle.order.specs.Lists.{all, numbers_from}
 use Rattle.network.specs.Bytes.{mark_at}
+use Rattle.network.specs.Checked.{no_refusal, refuse_if}
+use Rattle.network.specs.declared.refusals.Rule.TheVariants.{DamagedList}
 use Rattle.network.specs.PlanList.{head_size, plan_mark, plan_size}
 use Rattle.network.specs.Fetching.{damaged, head_count, head_slots, head_tree_size, is_marked, plan_start}
 use Rattle.network.specs.Indexing.{plan_numbers}
@@ -84,14 +86,17 @@ module _ {list keys : List ℕ} {at r : ℕ} (w : Reading list keys at r) (more 
       }
 
   -- a wrong mark
-  pub reading-stops : {mark : List ℕ} → mark ≡ plan_mark (head_slots list) → false ≡ mark_at list at mark → KeysRead list keys false
-  reading-stops m e = record { marked = sym (left_by m e); filled = λ t. clash t refl }
+  pub reading-stops : {mark : List ℕ} → mark ≡ plan_mark (head_slots list) → false ≡ mark_at list at mark
+      → KeysRead list keys (Err (record { rule = DamagedList; place = 0 }))
+  unfolding refuse_if
+  reading-stops m e = record { marked = rw (left_by m e); filled = λ t. clash (ap is_ok t) refl }
 
 -- no plan is left
-pub reading-end : {list keys : List ℕ} {at r : ℕ} → Reading list keys at r → length keys ≤ r → KeysRead list keys true
+pub reading-end : {list keys : List ℕ} {at r : ℕ} → Reading list keys at r → length keys ≤ r → KeysRead list keys no_refusal
+unfolding refuse_if
 reading-end {list} {keys} {at} {r} w h =
     let whole : r ≡ head_count list = omega (arith, w.full, w.few) in
     record {
-      marked = sym (w.left ∙ marked-none list r (omega (arith, w.full)));
+      marked = rw (w.left ∙ marked-none list r (omega (arith, w.full)));
       filled = λ t. tabled-end (plan_key list) keys r w.front h ∙ ap (tabled (plan_key list)) whole;
     }

@@ -11,6 +11,8 @@ use Rattle.std.proofs.Math.Path.{refl, subst, subst⁻¹}
 use native.Mathlib.Omega.{arith}
 use borrow.Author.Tests.{eq-eqb, le-leb, le-ltb, leb-false, leb-true, lt-ltb, ltb-true, ne_eqb, not-true}
 use Rattle.std.proofs.Math.ListN.{get_or}
+use Rattle.std.specs.Ordering.{is_lt, is_some_and, nat_cmp, partial_lt, partial_ordering_then}
+use Rattle.std.proofs.Common.{Some, Less, Equal, Greater, cond}
 use Rattle.order.specs.Test.{by-test, clash, left}
 use Rattle.order.proofs.Test.{both, fails, right, test_iff}
 use Rattle.order.specs.Lists.{◌∈◌, all, numbers_from}
@@ -51,11 +53,26 @@ before-numbers v w a b =
     (λ q. rw (p, q, le-ltb v w x, ne_eqb v w (λ e. omega (arith, leb-false v w q)))))
     (λ p. rw (p, lt-ltb v w (leb-false w v p)))
 
+-- a test of pairs by those of their halves
+pairs-by : (p q r s : Bool)
+    → is_some_and is_lt (partial_ordering_then (Some (cond p Less (cond q Equal Greater))) (Some (cond r Less (cond s Equal Greater)))) ≡ p || (q && r)
+pairs-by true q r s = refl
+pairs-by false false r s = refl
+pairs-by false true true s = refl
+pairs-by false true false true = refl
+pairs-by false true false false = refl
+
+-- the test of two pairs, by their order
+less-pairs : (v w a b : ℕ)
+    → partial_lt (λ (x y : ℕ × ℕ). partial_ordering_then (Some (nat_cmp x.0 y.0)) (Some (nat_cmp x.1 y.1))) (v, a) (w, b) ≡ ltb v w || (eqb v w && ltb a b)
+less-pairs v w a b = pairs-by (ltb v w) (eqb v w) (ltb a b) (eqb a b)
+
 -- number a stands before number b by the code's test
 pub before-by : (keys : List ℕ) (a b : ℕ)
-    → ltb (get_or keys a 0) (get_or keys b 0) || (eqb (get_or keys a 0) (get_or keys b 0) && ltb a b) ≡ key_before keys a b
+    → partial_lt (λ (x y : ℕ × ℕ). partial_ordering_then (Some (nat_cmp x.0 y.0)) (Some (nat_cmp x.1 y.1))) (get_or keys a 0, a) (get_or keys b 0, b)
+    ≡ key_before keys a b
 unfolding key_before
-before-by keys a b = sym (before-numbers (get_or keys a 0) (get_or keys b 0) a b)
+before-by keys a b = less-pairs (get_or keys a 0) (get_or keys b 0) a b ∙ sym (before-numbers (get_or keys a 0) (get_or keys b 0) a b)
 
 -- ---- what the tests mean
 

@@ -7,5 +7,5 @@ pub mod testing;
 // The cheapest plan, by keys.
 pub mod cheapest;
 
-// 12, 16, 13, or the plan.
+// Damaged list, short index, no such plan, or the plan.
 pub mod finding;

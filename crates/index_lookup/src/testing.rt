@@ -12,17 +12,7 @@ fn all_below(index: &[u8], n: usize) -> bool
     requires { n * 2 ≤ length index.now }
     ensures { result ≡ all (λ x. ltb x n) (entries_from n 0 index.now) }
 {
-    let mut at = 0;
-    let mut left = n;
-    while 0 < left {
-        if (read_u16(index, at) as usize) < n {
-            at += 2;
-            left -= 1;
-        } else {
-            return false;
-        }
-    }
-    true
+    (0..n).all(|r| (read_u16(index, r * 2) as usize) < n)
 }
 
 // Whether plan a stands before plan b in the index.
@@ -30,9 +20,7 @@ fn stands_before(keys: &[u64], a: u16, b: u16) -> bool
     requires { (a < length keys.now) × (b < length keys.now) }
     ensures { result ≡ key_before keys.now a b }
 {
-    let v = keys[a as usize];
-    let w = keys[b as usize];
-    (v < w) | ((v == w) & (a < b))
+    (keys[a as usize], a) < (keys[b as usize], b)
 }
 
 // Whether the first n entries rise strictly in the order of the index.
@@ -40,17 +28,7 @@ fn rises(keys: &[u64], index: &[u8], n: usize) -> bool
     requires { (n * 2 ≤ length index.now) × AllBelow (length keys.now) (entries_from n 0 index.now) }
     ensures { result ≡ rises_by (key_before keys.now) (entries_from n 0 index.now) }
 {
-    let mut at = 0;
-    let mut left = n;
-    while 1 < left {
-        if stands_before(keys, read_u16(index, at), read_u16(index, at + 2)) {
-            at += 2;
-            left -= 1;
-        } else {
-            return false;
-        }
-    }
-    true
+    (1..n).all(|r| stands_before(keys, read_u16(index, (r - 1) * 2), read_u16(index, r * 2)))
 }
 
 // Whether the buffer's first entries are the plan numbers by rising key: entries that are below their count and rise strictly are.
@@ -58,9 +36,5 @@ pub fn holds_index(keys: &[u64], index: &[u8]) -> bool
     requires { length keys.now * 2 ≤ length index.now }
     ensures { result ≡ holds_places keys.now index.now }
 {
-    let n = keys.len();
-    if all_below(index, n) {
-        return rises(keys, index, n);
-    }
-    false
+    all_below(index, keys.len()) && rises(keys, index, keys.len())
 }

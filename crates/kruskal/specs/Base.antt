@@ -1,6 +1,6 @@
 -- The links that Kruskal's method keeps, as a program collects them in an array, and the groups after each of them.
-use Rattle.std.specs.Prelude.{ℕ, ◌+◌, ◌*◌, ◌≤◌, ◌<◌, true, false, cond, ◌≡◌, length, get_or, set, take, drop}
-use mathlib.Core.List.{List, [], ◌∷◌, ◌++◌, append-nil, foldl, Sublistᴰ}
+use Rattle.std.specs.Prelude.{ℕ, ◌+◌, ◌≤◌, ◌<◌, true, false, cond, ◌≡◌, length, get_or, set, take, drop}
+use mathlib.Core.List.{List, [], ◌∷◌, ◌++◌, append-nil, Sublistᴰ}
 use Rattle.std.proofs.Math.Path.{refl, sym}
 use Rattle.std.proofs.Common.{◌∙◌, drop_of_length-le, drop-cons}
 use Rattle.std.proofs.Math.Numerals.{add-one}
@@ -14,7 +14,8 @@ use Rattle.spanning.specs.LabelList.{label_of}
 use Rattle.spanning.specs.Tree.{Within}
 use Rattle.network.specs.Capacities.{stations_held, tree_held}
 use Rattle.network.specs.Yard.{ends_at, sum_at}
-use Rattle.forest.specs.Groups.{apart, joined}
+use Rattle.forest.specs.Groups.{apart, joined, nobody}
+use Rattle.forest.specs.History.{groups_after}
 use Rattle.forest.specs.declared.Forest.{Forest}
 use Rattle.kruskal.specs.declared.links.Base.{Base}
 
@@ -60,14 +61,10 @@ module _ (ends : List ℕ) where
     unfolding collected kept
     collect-end h = sym (append-nil (take n link)) ∙ rw (drop_of_length-le l h) at i
 
--- the groups when the links of a list are joined, one after another, with nothing joined before
-unfoldable pub groups_after : List ℕ → List ℕ → Forest
-groups_after ends links = foldl (λ f e. joined f (ends_at ends e).a (ends_at ends e).b) apart links
-
--- the leaders after each link of a list stand in rows of an array
-pub record Recorded (ends links history : List ℕ) : Type 0 where
-  pub room : length links * stations_held ≤ length history
-  pub row : (k : ℕ) → k < length links → take stations_held (drop (k * stations_held) history) ≡ (groups_after ends (take (k + 1) links)).leader
+-- the groups after each link of a list stand in an array
+pub record Recorded (ends links : List ℕ) (history : List Forest) : Type 0 where
+  pub room : length links ≤ length history
+  pub row : (k : ℕ) → k < length links → get_or history k nobody ≡ groups_after ends (take (k + 1) links)
 
 -- the links of a list join stations, one more than `goal` and each there once, which arrays hold
 pub record Joinable (ends links : List ℕ) (goal : ℕ) : Type 0 where
@@ -78,8 +75,8 @@ pub record Joinable (ends links : List ℕ) (goal : ℕ) : Type 0 where
   pub within : (e : ℕ) → e ∈ links → Within stations (ends_at ends e)
   pub held : goal ≤ tree_held
 
--- an array holds the links that are kept of a list, of which r has the number and the sum, and another the leaders after each of them
-pub record Based (ends sums l : List ℕ) (goal : ℕ) (base history : List ℕ) (r : Base) : Type 0 where
+-- an array holds the links that are kept of a list, of which r has the number and the sum, and another the groups after each of them
+pub record Based (ends sums l : List ℕ) (goal : ℕ) (base : List ℕ) (history : List Forest) (r : Base) : Type 0 where
   pub links : take r.count base ≡ kept ends apart l
   pub inside : r.count ≤ length base
   pub few : r.count ≤ goal

@@ -1,7 +1,7 @@
--- The loop that collects the links that are kept, with the leaders after each of them, and stops once all stations that are to be joined are.
+-- The loop that collects the links that are kept, with the groups after each of them, and stops once all stations that are to be joined are.
 use Rattle.std.specs.Prelude.{ℕ, ◌+◌, ◌*◌, ◌≤◌, ◌<◌, true, false, ◌≡◌, refl, get_or, set, take, drop}
-use mathlib.Core.List.{List, [], ◌∷◌, ◌++◌, append-nil, foldl-append, map}
-use Rattle.std.proofs.Common.{⊎_elim, sym, ◌∙◌, subst, eq-or-lt_of_le, le_of_suc-le-suc, add-one, length-set, drop_at, drop-cons, take-add, take_all, take-suc-set}
+use mathlib.Core.List.{List, [], ◌∷◌, ◌++◌, append-nil, map}
+use Rattle.std.proofs.Common.{⊎_elim, sym, ◌∙◌, subst, eq-or-lt_of_le, le_of_suc-le-suc, take_all, get_or-set_other, get_or-set_same, add-one, length-set, drop-cons, take-suc-set}
 use Rattle.std.proofs.Math.Path.{ap, fun_ext}
 use native.Mathlib.Omega.{arith}
 use Rattle.std.proofs.Math.ListN.{length, length-append}
@@ -16,15 +16,15 @@ use Rattle.spanning.specs.Tree.{AllWithin, Forest as Ringless, Within, identity}
 use Rattle.spanning.proofs.Count.{forest-few}
 use Rattle.spanning.specs.Kruskal.{kruskal}
 use Rattle.spanning.proofs.Kruskal.{greedy-forest, kruskal-greedy}
-use Rattle.network.specs.Capacities.{stations_held, sum_held}
+use Rattle.network.specs.Capacities.{sum_held}
 use Rattle.network.specs.Yard.{ends_at, sum_at}
-use Rattle.buffers.specs.Overwrite.{length-overwrite, overwrite, take-overwrite, written}
-use Rattle.forest.specs.Groups.{Led, apart, apart-labels, apart-led, joined, joined-led}
+use Rattle.forest.specs.Groups.{Led, apart, apart-labels, apart-led, joined, joined-led, nobody}
+use Rattle.forest.specs.History.{Near, groups-more, groups_after}
 use Rattle.forest.specs.declared.Forest.{Forest}
 use Rattle.kruskal.specs.Tree.{Usable}
 use Rattle.kruskal.specs.Base.{Based, Joinable, Recorded, collect-end, collect-left, collect-start, collect-taken, collected}
-use Rattle.kruskal.specs.Base.{groups_after, kept, kept-sublist}
-use Rattle.kruskal.specs.Grown.{Near, kept-kruskal}
+use Rattle.kruskal.specs.Base.{kept, kept-sublist}
+use Rattle.kruskal.specs.Grown.{kept-kruskal}
 
 -- ---- no more links are kept than join the stations
 
@@ -49,56 +49,32 @@ module _ {ends links : List ℕ} {goal : ℕ} (j : Joinable ends links goal) whe
 
 -- ---- one row more
 
--- the groups with a link more
-groups-more : (ends l : List ℕ) (e : ℕ) → groups_after ends (l ++ (e ∷ [])) ≡ joined (groups_after ends l) (ends_at ends e).a (ends_at ends e).b
-unfolding groups_after
-groups-more ends l e = foldl-append _ apart l (e ∷ [])
-
--- a part of a list is that of its front
-part : (n i : ℕ) (l : List ℕ) → i ≤ length l → take n (drop i l) ≡ drop i (take (i + n) l)
-part n i l h = sym (ap (drop i) (take-add i n l) ∙ drop_at (take i l) (take n (drop i l)) i (length-take-le i l h))
-
--- it stays where what is written starts behind it
-part_stays : (d s : List ℕ) (j n i : ℕ) → i + n ≤ j → j + length s ≤ length d → take n (drop i (overwrite d j s)) ≡ take n (drop i d)
-part_stays d s j n i h g =
-    part n i (overwrite d j s) (omega (arith, length-overwrite d j s g))
-    ∙ ap (drop i) (take-overwrite d j s (i + n) h (omega arith))
-    ∙ sym (part n i d (omega arith))
-
-module _ {ends l history : List ℕ} (e : ℕ) {leader : List ℕ} (R : Recorded ends l history) (size : length leader ≡ stations_held)
-    (room : (length l + 1) * stations_held ≤ length history) (new : leader ≡ (groups_after ends (l ++ (e ∷ []))).leader) where
-  pub recorded_more : Recorded ends (l ++ (e ∷ [])) (overwrite history (length l * stations_held) leader)
+module _ {ends l : List ℕ} {history : List Forest} (e : ℕ) {f : Forest} (R : Recorded ends l history) (room : length l + 1 ≤ length history)
+    (new : f ≡ groups_after ends (l ++ (e ∷ []))) where
+  recorded_more : Recorded ends (l ++ (e ∷ [])) (set history (length l) f)
   recorded_more =
       let more = length-append l (e ∷ []) in
-      let fits : length l * stations_held + length leader ≤ length history = omega arith in
       record {
-        room = omega (arith, length-overwrite history (length l * stations_held) leader fits);
+        room = omega (arith, length-set history (length l) f);
         row = λ k h. ⊎_elim (own k) (earlier k) (eq-or-lt_of_le (le_of_suc-le-suc (let m : k < length l + 1 = omega arith in rw add-one at m)));
       }
     where
-      fits : length l * stations_held + length leader ≤ length history
-      fits = omega (arith, size, room)
-
-      earlier : (k : ℕ) → k < length l
-          → take stations_held (drop (k * stations_held) (overwrite history (length l * stations_held) leader))
-          ≡ (groups_after ends (take (k + 1) (l ++ (e ∷ [])))).leader
+      earlier : (k : ℕ) → k < length l → get_or (set history (length l) f) k nobody ≡ groups_after ends (take (k + 1) (l ++ (e ∷ [])))
       earlier k h =
-          part_stays history leader (length l * stations_held) stations_held (k * stations_held) (omega arith) fits
+          get_or-set_other history (length l) k f nobody (λ q. omega arith)
           ∙ R.row k h
-          ∙ ap (λ (t : List ℕ). (groups_after ends t).leader) (sym (take-append-le (k + 1) l (e ∷ []) (omega arith)))
+          ∙ ap (groups_after ends) (sym (take-append-le (k + 1) l (e ∷ []) (omega arith)))
 
-      own : (k : ℕ) → k ≡ length l
-          → take stations_held (drop (k * stations_held) (overwrite history (length l * stations_held) leader))
-          ≡ (groups_after ends (take (k + 1) (l ++ (e ∷ [])))).leader
+      own : (k : ℕ) → k ≡ length l → get_or (set history (length l) f) k nobody ≡ groups_after ends (take (k + 1) (l ++ (e ∷ [])))
       own k h =
-          let there = written history (length l * stations_held) leader (omega (arith, size, room)) in
-          rw (h, take_all (length l + 1) (l ++ (e ∷ [])) (omega (arith, length-append l (e ∷ []))), ← new) (rw size at there)
+          rw (h, take_all (length l + 1) (l ++ (e ∷ [])) (omega (arith, length-append l (e ∷ []))), ← new)
+          (get_or-set_same history (length l) f nobody (omega arith))
 
 -- ---- the loop
 
 module _ (ends sums links : List ℕ) where
   -- after `at` links: what was collected of them, and what will be of the others; its groups, sum and rows
-  pub record Basing (f : Forest) (base history : List ℕ) (count sum at : ℕ) : Type 0 where
+  pub record Basing (f : Forest) (base : List ℕ) (history : List Forest) (count sum at : ℕ) : Type 0 where
     pub whole : collected ends links f base count at ≡ kept ends apart links
     pub led : Led f
     pub groups : f ≡ groups_after ends (take count base)
@@ -108,7 +84,7 @@ module _ (ends sums links : List ℕ) where
     pub fewer : count ≤ at
     pub room : length links ≤ length base
 
-  pub basing-start : {f : Forest} {base history : List ℕ} → f ≡ apart → length links ≤ length base → Basing f base history 0 0 0
+  pub basing-start : {f : Forest} {base : List ℕ} {history : List Forest} → f ≡ apart → length links ≤ length base → Basing f base history 0 0 0
   unfolding groups_after
   basing-start e room =
       record {
@@ -122,7 +98,7 @@ module _ (ends sums links : List ℕ) where
         room = room;
       }
 
-  module _ {goal : ℕ} (j : Joinable ends links goal) {f : Forest} {base history : List ℕ} {count sum at : ℕ} (b : Basing f base history count sum at) where
+  module _ {goal : ℕ} (j : Joinable ends links goal) {f : Forest} {base : List ℕ} {history : List Forest} {count sum at : ℕ} (b : Basing f base history count sum at) where
     -- the links collected, and those that will be, are at most goal
     few : at ≤ length links → count + length (kept ends f (drop at links)) ≤ goal
     unfolding collected
@@ -140,11 +116,11 @@ module _ (ends sums links : List ℕ) where
       unfolding kept
       taken-few c = let all = few (omega arith) in let w = rw (drop-cons links at 0 h, c) at all in omega arith
 
-      pub basing-taken : {f' : Forest} {history' leader : List ℕ} → crosses (label_of f.leader) (ends_at ends (get_or links at 0)) ≡ true
-          → f' ≡ joined f (ends_at ends (get_or links at 0)).a (ends_at ends (get_or links at 0)).b → leader ≡ f'.leader → length leader ≡ stations_held
-          → goal * stations_held ≤ length history → history' ≡ overwrite history (count * stations_held) leader → Usable sums (get_or links at 0)
+      pub basing-taken : {f' : Forest} {history' : List Forest} → crosses (label_of f.leader) (ends_at ends (get_or links at 0)) ≡ true
+          → f' ≡ joined f (ends_at ends (get_or links at 0)).a (ends_at ends (get_or links at 0)).b
+          → goal ≤ length history → history' ≡ set history count f' → Usable sums (get_or links at 0)
           → Basing f' (set base count (get_or links at 0)) history' (count + 1) (sum + sum_at sums (get_or links at 0)) (at + 1)
-      basing-taken {f'} {history'} {leader} c e l size space w u =
+      basing-taken {f'} {history'} c e space w u =
           let x = get_or links at 0 in
           let near = joinable-near j x (get_or-mem links at 0 h) in
           let fewer = b.fewer in
@@ -156,7 +132,7 @@ module _ (ends sums links : List ℕ) where
           let more : take (count + 1) (set base count x) ≡ take count base ++ (x ∷ []) = rw add-one (take-suc-set base count x (omega arith)) in
           let joins : f' ≡ groups_after ends (take count base ++ (x ∷ [])) =
           e ∙ ap (λ (g : Forest). joined g (ends_at ends x).a (ends_at ends x).b) b.groups ∙ sym (groups-more ends (take count base) x) in
-          let rows = recorded_more x b.rows size (omega arith) (l ∙ ap (λ (g : Forest). g.leader) joins) in
+          let rows = recorded_more x b.rows (omega arith) joins in
           record {
             whole = rw e (collect-taken ends links f base _ count at b.whole h (omega arith) c);
             led = rw e (joined-led f (ends_at ends x).a (ends_at ends x).b b.led near.0 near.1);

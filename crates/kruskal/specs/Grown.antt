@@ -8,7 +8,6 @@ use Rattle.std.proofs.Common.{◌∙◌, subst, arith}
 use Rattle.std.proofs.Math.ListN.{length-append}
 use Rattle.std.proofs.Math.Seq.{append_snoc}
 use Rattle.order.specs.Test.{by-test}
-use Rattle.order.specs.Lists.{◌∈◌}
 use Rattle.order.specs.Perm as perm
 use Rattle.order.proofs.Perm as perm_laws
 use Rattle.spanning.specs.Labelling.{Labelling, crosses, merge}
@@ -19,6 +18,7 @@ use Rattle.spanning.specs.Kruskal.{kruskal}
 use Rattle.network.specs.Capacities.{links_held, stations_held}
 use Rattle.network.specs.Yard.{ends_at, sum_at}
 use Rattle.forest.specs.Groups.{Led, apart-labels, apart-led, joined, joined-labels, joined-led}
+use Rattle.forest.specs.History.{Near}
 use Rattle.forest.specs.declared.Forest.{Forest}
 use Rattle.kruskal.specs.Tree.{added, bare, linked}
 use Rattle.kruskal.specs.Base.{kept}
@@ -31,10 +31,6 @@ with_flag flags e = set flags e true
 -- a flag for each link, set for the links of a list
 unfoldable pub flags_of : List ℕ → List Bool
 flags_of ts = foldl with_flag (replicate links_held false) ts
-
--- the links of a list join stations
-abbrev pub Near : List ℕ → List ℕ → Type 0
-Near ends l = (e : ℕ) → e ∈ l → EndsBelow stations_held (ends_at ends e)
 
 module _ (ends sums : List ℕ) where
   -- the forest value t holds the links ts

@@ -1,4 +1,4 @@
-// Kruskal's method: the links that it keeps, the base, and the leaders after each of them, the history.
+// Kruskal's method: the links that it keeps, the base, and the groups after each of them, the history.
 #![tactic(auto)]
 
 // The base with its history.

@@ -1,12 +1,17 @@
 -- Numbers in a mixed radix, one digit for each ceiling, the first ceiling highest: how many there are, weights and digits. They are the product and the
 -- places of `frontier`, by the numbers of values alone.
 use mathlib.Core.List.{List, [], ◌∷◌, ◌++◌, append-nil, map}
-use Rattle.std.specs.Prelude.{◌≡◌, ℕ, zero, suc, ◌+◌, ◌-◌, ◌*◌, ◌/◌, ◌%◌, ◌^◌, ◌≤◌, ◌<◌, drop, get_or, set, take}
+use Rattle.std.specs.Prelude.{◌≡◌, ℕ, zero, suc, ◌+◌, ◌*◌, ◌/◌, ◌%◌, ◌^◌, ◌≤◌, ◌<◌, drop, get_or, set, take}
 use Rattle.std.proofs.Math.Path.{refl, ap}
 use Rattle.std.proofs.Common.{sym, ap₂, ◌∙◌, le_of_eq, le_trans, mul_comm, mul-le-mul, mul-le-mul_right, pow-suc, add-one, arith, drop_of_length-le, length-drop, length-set, drop-cons, drop-set-lt, get_or-drop, get_or-set_same, take_all, take-suc-set}
 use Rattle.std.proofs.Math.Nat.{pow-le-pow_right, pow-zero}
 use Rattle.std.proofs.Math.ListN.{length}
-use Rattle.std.proofs.Math.Seq.{append_snoc}
+use Rattle.std.proofs.Math.Seq.{append_snoc, drop-append_seam, get_or-append_seam}
+use Rattle.std.proofs.lemmas.List.{length-append, length_push}
+use Rattle.std.specs.List.{push}
+use Rattle.marking.specs.Paint.{side}
+use Rattle.marking.specs.Sides.{sides_with}
+use Rattle.marking.specs.declared.mark.Side.{Side}
 use Rattle.frontier.specs.Frontier.{product}
 use Rattle.frontier.specs.Places.{places}
 use Rattle.network.specs.Capacities.{ceilings_held, links_held}
@@ -51,32 +56,52 @@ module _ {C : Type 0} where
   digits-places [] n = refl
   digits-places (l ∷ ls) n = rw (total-product ls) (ap (λ (is : List ℕ). n / product ls ∷ is) (digits-places ls (n % product ls)))
 
--- ---- strides from the last ceiling to the first: none, one ceiling more
+-- ---- sides from the last ceiling to the first: none, one ceiling more
 
 pub total-none : (ms : List ℕ) (i : ℕ) → length ms ≤ i → 1 ≡ total (drop i ms)
 unfolding total
 total-none ms i h = rw (drop_of_length-le ms h)
 
-pub weights-none : (ws ms : List ℕ) (i : ℕ) → length ws ≤ i → length ms ≤ i → drop i ws ≡ weights (drop i ms)
-unfolding weights
-weights-none ws ms i h g = rw (drop_of_length-le ws h, drop_of_length-le ms g)
+pub sides-none : (rs : List Side) (ms : List ℕ) (i : ℕ) → length rs ≤ i → length ms ≤ i → drop i rs ≡ sides_with (weights (drop i ms)) (drop i ms)
+unfolding weights sides_with
+sides-none rs ms i h g = rw (drop_of_length-le rs h, drop_of_length-le ms g)
 
-pub total-turn : (ms : List ℕ) (i : ℕ) → 0 < i → i ≤ length ms → total (drop i ms) * get_or ms (i - 1) 0 ≡ total (drop (i - 1) ms)
-unfolding total
-total-turn ms zero h g = absurd (omega arith)
-total-turn ms (suc j) h g =
-    let e : suc j - 1 ≡ j = omega arith in
-    rw (e, drop-cons ms j 0 g) (mul_comm (total (drop (suc j) ms)) (get_or ms j 0))
+module _ (ms : List ℕ) (i j : ℕ) (next : j ≡ i + 1) (h : i < length ms) where
+  behind : drop j ms ≡ drop (suc i) ms
+  behind = ap (λ (k : ℕ). drop k ms) (next ∙ add-one i)
 
-pub weights-turn : (ws ms : List ℕ) (i size : ℕ) → 0 < i → i ≤ length ms → length ws ≡ length ms → size ≡ total (drop i ms) → drop i ws ≡ weights (drop i ms)
-    → drop (i - 1) (set ws (i - 1) size) ≡ weights (drop (i - 1) ms)
-unfolding weights
-weights-turn ws ms zero size h g l q w = absurd (omega arith)
-weights-turn ws ms (suc j) size h g l q w =
-    let e : suc j - 1 ≡ j = omega arith in
-    let inside : j < length (set ws j size) = omega (arith, length-set ws j size) in
-    rw (e, drop-cons ms j 0 g, drop-cons (set ws j size) j 0 inside)
-    (ap₂ (λ (x : ℕ) (l : List ℕ). x ∷ l) (get_or-set_same ws j size 0 (omega arith) ∙ q) (drop-set-lt (suc j) ws j size (omega arith) ∙ w))
+  pub total-turn : total (drop j ms) * get_or ms i 0 ≡ total (drop i ms)
+  unfolding total
+  total-turn = rw (behind, drop-cons ms i 0 h) (mul_comm (total (drop (suc i) ms)) (get_or ms i 0))
+
+  pub sides-turn : (rs : List Side) (size : ℕ) → length rs ≡ length ms → size ≡ total (drop j ms) → drop j rs ≡ sides_with (weights (drop j ms)) (drop j ms)
+      → drop i (set rs i (side size (get_or ms i 0))) ≡ sides_with (weights (drop i ms)) (drop i ms)
+  unfolding weights sides_with
+  sides-turn rs size l q w =
+      let r = side size (get_or ms i 0) in
+      let inside : i < length (set rs i r) = omega (arith, length-set rs i r) in
+      let here = get_or-set_same rs i r r (omega arith) in
+      let later = drop-set-lt (suc i) rs i r (omega arith) in
+      let rest = later ∙ ap (λ (k : ℕ). drop k rs) (sym (next ∙ add-one i)) ∙ w ∙ ap (λ (l : List ℕ). sides_with (weights l) l) behind in
+      rw (drop-cons ms i 0 h, drop-cons (set rs i r) i r inside)
+      (ap₂ (λ (x : Side) (l : List Side). x ∷ l) (here ∙ ap (λ (k : ℕ). side k (get_or ms i 0)) (q ∙ ap total behind)) rest)
+
+-- all ceilings are left at first
+pub front-all : (ms : List ℕ) → ms ≡ ms ++ drop (length ms) ms
+front-all ms = let none : drop (length ms) ms ≡ [] = drop_of_length-le ms {i = length ms} (omega arith) in rw none (sym (append-nil ms))
+
+-- the ceilings that are left, without the last of them
+pub front-turn : (ms rest front : List ℕ) (x : ℕ) → ms ≡ rest ++ drop (length rest) ms → rest ≡ push front x
+    → (length rest ≡ length front + 1) × (ms ≡ front ++ drop (length front) ms) × (get_or ms (length front) 0 ≡ x) × (length front < length ms)
+front-turn ms rest front x e p =
+    let behind = drop (length rest) ms in
+    let whole : ms ≡ front ++ (x ∷ behind) = e ∙ ap (λ (l : List ℕ). l ++ behind) p ∙ append_snoc front x behind in
+    let own = ap (λ (l : List ℕ). drop (length front) l) whole ∙ drop-append_seam front (x ∷ behind) in (
+      ap length p ∙ length_push front x,
+      whole ∙ ap (λ (l : List ℕ). front ++ l) (sym own),
+      ap (λ (l : List ℕ). get_or l (length front) 0) whole ∙ get_or-append_seam front x behind 0,
+      omega (arith, ap length whole, length-append front (x ∷ behind)),
+    )
 
 -- ---- places from the first ceiling to the last: one ceiling more, all
 

@@ -9,18 +9,26 @@ use Rattle.frontier.specs.Places.{places}
 use Rattle.planning.specs.Graph.{Graph, values_at, values_from}
 use Rattle.network.specs.Capacities.{ceilings_held, links_held}
 use Rattle.network.specs.Network.{Network}
+use Rattle.network.specs.Shaped.{net_of}
+use Rattle.network.specs.declared.net.Net.{Net}
 use Rattle.network.specs.Tabulate.{tabulate}
 use Rattle.network.proofs.Tabulate.{tabulate-at, tabulate-length}
 use Rattle.network.specs.Walk.{values}
 use Rattle.network.specs.Yard.{graph, usable}
 use Rattle.marking.specs.Values.{falling-values}
-use Rattle.marking.specs.Digits.{Few, Steps, digits-places, digits_by, sizes, total, total-product, weights, weights-steps}
+use Rattle.marking.specs.Digits.{Few, Steps, digits-places, digits_by, sizes, total, total-product, weights, weights-length, weights-steps}
+use Rattle.marking.specs.Sides.{counts, counts-with, sides_with, strides, strides-with}
+use Rattle.marking.specs.declared.mark.Side.{Side}
 use Rattle.marking.specs.Parts.{Filled, ceiling_values, column_values, parts-apart}
 use Rattle.marking.specs.declared.grid.Grid.{Grid}
 
--- the arrays of a grid are as long as they are declared
+-- the network that the code hands on
+abbrev pub network : Net → Network
+network net = net_of net.shape net.ends.now net.sums.now net.costs.now
+
+-- the array of a grid is as long as it is declared
 abbrev pub Held : Grid → Type 0
-Held grid = (length grid.counts ≡ ceilings_held) × (length grid.strides ≡ ceilings_held)
+Held grid = length grid.sides ≡ ceilings_held
 
 -- The grid of the ceilings with these values, in an array with m places for each.
 pub record Gridded (lists : List (List ℤ)) (m : ℕ) (array : List ℤ) (grid : Grid) : Type 0 where
@@ -28,20 +36,12 @@ pub record Gridded (lists : List (List ℤ)) (m : ℕ) (array : List ℤ) (grid 
   pub part : (i : ℕ) → i < length lists → take (length (get_or lists i [])) (drop (i * m) array) ≡ get_or lists i []
   pub few : (i : ℕ) → i < length lists → length (get_or lists i []) ≤ m
   pub room : length array ≡ length lists * m
-  -- their numbers, the strides of positions, and the number of positions
-  pub counts : take (length lists) grid.counts ≡ sizes lists
-  pub strides : take (length lists) grid.strides ≡ weights (sizes lists)
+  -- the sides of the box of all positions, and the number of positions
+  pub sides : take (length lists) grid.sides ≡ sides_with (weights (sizes lists)) (sizes lists)
   pub total : grid.total ≡ product lists
   -- it is held
   pub ceilings : length lists ≤ ceilings_held
   pub held : Held grid
-
--- what finding it asks: columns of p ceilings and m links, an array as long, and that they are held
-pub record Griddable (p m : ℕ) (costs array : List ℤ) : Type 0 where
-  pub costs-are : length costs ≡ p * m
-  pub array-is : length array ≡ p * m
-  pub links : m ≤ links_held
-  pub ceilings : p ≤ ceilings_held
 
 -- ---- the values of a network
 
@@ -107,24 +107,30 @@ module _ {u : ℕ → Bool} {p m : ℕ} {costs array : List ℤ} {counts : List 
     each = λ i h. let inside : i < p = omega (arith, counts-length) in rw (get_or-take p counts i 0 inside) (omega (arith, f.few i inside));
   }
 
-  pub filled-grid : {strides : List ℕ} {all : ℕ} → length strides ≡ ceilings_held → take p strides ≡ weights (take p counts) → all ≡ total (take p counts)
-      → Gridded lists m array (record { counts = counts; strides = strides; total = all })
-  filled-grid {strides} {all} same are is = record {
+  pub filled-grid : {sides : List Side} {all : ℕ} → length sides ≡ ceilings_held → take p sides ≡ sides_with (weights (take p counts)) (take p counts)
+      → all ≡ total (take p counts) → Gridded lists m array (record { sides = sides; total = all })
+  filled-grid {sides} {all} same are is = record {
     part = λ i h. let inside : i < p = omega (arith, lists_length) in rw (count_at i inside) (f.part i inside ∙ sym (list_at i inside));
     few = λ i h. let inside : i < p = omega (arith, lists_length) in rw (count_at i inside) (f.few i inside);
     room = room ∙ ap (λ (k : ℕ). k * m) (sym lists_length);
-    counts = ap (λ (k : ℕ). take k counts) lists_length ∙ counts-are;
-    strides = ap (λ (k : ℕ). take k strides) lists_length ∙ are ∙ ap weights counts-are;
+    sides = ap (λ (k : ℕ). take k sides) lists_length ∙ are ∙ ap (λ (cs : List ℕ). sides_with (weights cs) cs) counts-are;
     total = is ∙ ap total counts-are ∙ total-product lists;
     ceilings = omega (arith, lists_length);
-    held = (held, same);
+    held = same;
   }
 
--- ---- the places of position n, by the strides of the grid
+-- ---- the sides of the grid, and the places of position n by them
 
-module _ {lists : List (List ℤ)} {m : ℕ} {array : List ℤ} {grid : Grid} (g : Gridded lists m array grid) (n : ℕ) where
-  pub grid-places : digits_by (take (length lists) grid.strides) n ≡ places lists n
-  grid-places = rw g.strides (digits-places lists n)
+module _ {lists : List (List ℤ)} {m : ℕ} {array : List ℤ} {grid : Grid} (g : Gridded lists m array grid) where
+  pub grid-strides : strides (take (length lists) grid.sides) ≡ weights (sizes lists)
+  grid-strides = rw g.sides (strides-with (weights (sizes lists)) (sizes lists) (weights-length (sizes lists)))
 
-  pub grid-steps : n < product lists → Steps (take (length lists) grid.strides)
-  grid-steps h = rw g.strides (weights-steps (sizes lists) (omega (arith, total-product lists)))
+  pub grid-counts : counts (take (length lists) grid.sides) ≡ sizes lists
+  grid-counts = rw g.sides (counts-with (weights (sizes lists)) (sizes lists) (weights-length (sizes lists)))
+
+  module _ (n : ℕ) where
+    pub grid-places : digits_by (strides (take (length lists) grid.sides)) n ≡ places lists n
+    grid-places = rw grid-strides (digits-places lists n)
+
+    pub grid-steps : n < product lists → Steps (strides (take (length lists) grid.sides))
+    grid-steps h = rw grid-strides (weights-steps (sizes lists) (omega (arith, total-product lists)))

@@ -7,13 +7,9 @@ pub mod Box
 pub mod Settle
 -- a box by strides and counts
 pub mod Sides
--- the next position to solve
-pub mod Unmarked
 -- Positions as numbers in a mixed radix, a digit for each ceiling
 pub mod Digits
 -- the values of each ceiling, in its part of one array
 pub mod Parts
 -- the grid of a network's ceilings
 pub mod Gridded
--- the network that can be planned, with the grid
-pub mod Ready

@@ -1,8 +1,8 @@
 -- The place of a value in a falling list, and of each ceiling's cost in that ceiling's values.
-use Rattle.std.specs.Prelude.{true, false, cond, List, [], ◌∷◌, ◌++◌, ◌≡◌, refl, ℕ, zero, suc, ◌+◌, ◌≤◌, ◌<◌, ℤ, pos, length, get_or, take, drop}
+use Rattle.std.specs.Prelude.{true, false, cond, List, [], ◌∷◌, ◌++◌, ◌≡◌, refl, ℕ, zero, suc, ◌+◌, ◌≤◌, ◌<◌, ℤ, length, get_or, take, drop}
 use mathlib.Core.List.Memᴰ.{head as here}
 use mathlib.Core.List.Memᴰ.{tail as there}
-use Rattle.std.proofs.Common.{sym, ap, ap₂, zero-add, arith, drop_of_length-le, drop-cons}
+use Rattle.std.proofs.Common.{sym, ap, ap₂, zero-add, arith}
 use Rattle.std.specs.Int.Signed.{le_z}
 use Rattle.order.specs.Test.{by-test}
 use Rattle.order.proofs.Test.{refute}
@@ -24,16 +24,6 @@ abbrev pub places_of : List ℤ → List (List ℤ) → List ℕ
 places_of [] ls = []
 places_of (x ∷ v) [] = []
 places_of (x ∷ v) (l ∷ ls) = place_in x l ∷ places_of v ls
-
--- a turn of the search for a place, and its end
-pub place-turn : (x : ℤ) (l : List ℤ) (i : ℕ) → i < length l
-    → place_in x (drop i l) ≡ cond (le_z (get_or l i (pos 0)) x) 0 (suc (place_in x (drop (suc i) l)))
-unfolding place_in
-place-turn x l i h = ap (place_in x) (drop-cons l i (pos 0) h)
-
-pub place_end : (x : ℤ) (l : List ℤ) (i : ℕ) → length l ≤ i → place_in x (drop i l) ≡ 0
-unfolding place_in
-place_end x l i h = ap (place_in x) (drop_of_length-le l h)
 
 pub place-le : (x : ℤ) (l : List ℤ) → place_in x l ≤ length l
 unfolding place_in

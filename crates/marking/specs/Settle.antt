@@ -1,5 +1,5 @@
 -- What an answer settles, in marks: for any number of ceilings whose values are in falling order.
-use Rattle.std.specs.Prelude.{Bool, true, cond, ◌&&◌, List, [], map, ◌≡◌, refl, ℕ, ◌-◌, ◌≤◌, ◌<◌, length, get_or}
+use Rattle.std.specs.Prelude.{Bool, true, false, ◌||◌, ◌&&◌, List, [], map, ◌≡◌, refl, ℕ, ◌-◌, ◌≤◌, ◌<◌, length, get_or}
 use Rattle.std.proofs.Math.Option.{Option, none, some}
 use Rattle.std.proofs.Common.{sym, ap, ap₂, ◌∙◌, zero-add, arith, le-leb}
 use Rattle.order.specs.Order.{orderℕ}
@@ -28,9 +28,9 @@ module _ {C : Type 0} where
   lasts-le (in-cons {i = j} {l = l} h p) = ap₂ ◌&&◌ (le-leb j (length l - 1) (omega arith)) (lasts-le p)
 
 -- the marks ms' that the answer o at position n leaves of the marks ms
-abbrev pub Settled : {C S : Type 0} → Problem C S → ℕ → Option S → List ℕ → List ℕ → Type 0
+abbrev pub Settled : {C S : Type 0} → Problem C S → ℕ → Option S → List Bool → List Bool → Type 0
 Settled P n o ms ms' = (x : ℕ) → x < product P.values
-    → get_or ms' x 0 ≡ cond (settles P (get_or (positions P.values) n []) o (get_or (positions P.values) x [])) 1 (get_or ms x 0)
+    → get_or ms' x false ≡ settles P (get_or (positions P.values) n []) o (get_or (positions P.values) x []) || get_or ms x false
 
 -- Position n (d stands for a place out of range)
 module _ {C S : Type 0} (P : Problem C S) (d : C) (n : ℕ) (h : n < product P.values) where
@@ -43,28 +43,28 @@ module _ {C S : Type 0} (P : Problem C S) (d : C) (n : ℕ) (h : n < product P.v
   -- a box from it through the places ks, where it is what the answer o settles
   settled-box : {ks : List ℕ} → InRange ks values → (o : Option S)
       → ((js : List ℕ) → InRange js values → settles P (pick d (places values n) values) o (pick d js values) ≡ in_box (places values n) ks js)
-      → (ms : List ℕ) → product values ≤ length ms → Settled P n o ms (paint (sides (places values n) ks values) n ms)
+      → (ms : List Bool) → product values ≤ length ms → Settled P n o ms (paint (sides (places values n) ks values) n ms)
   settled-box {ks} to o box ms room x g =
       let is = places values n in
       let js = places values x in
       let at : InRange js values = places-range values x g in
-      let painted : get_or (paint (sides is ks values) n ms) x 0 ≡ cond (in_box is ks js) 1 (get_or ms x 0) =
+      let painted : get_or (paint (sides is ks values) n ms) x false ≡ in_box is ks js || get_or ms x false =
       simp (zero-add, places-number values n h, places-number values x g) at (paint-on (places-range values n h) to at 0 ms (rw zero-add room)) in
       let same : settles P (get_or (positions values) n []) o (get_or (positions values) x []) ≡ in_box is ks js =
       ap₂ (λ (b c : List C). settles P b o c) position_at
       (ap (λ (k : ℕ). get_or (positions values) k []) (sym (places-number values x g)) ∙ positions-number d at) ∙ box js at in
-      painted ∙ ap (λ (b : Bool). cond b 1 (get_or ms x 0)) (sym same)
+      painted ∙ ap (λ (b : Bool). b || get_or ms x false) (sym same)
 
   module _ (fall : AllFalling order values) where
     -- with no solution: a box to the last places
-    pub settled-none : (ms : List ℕ) → product values ≤ length ms → Settled P n none ms (paint (sides (places values n) (lasts values) values) n ms)
+    pub settled-none : (ms : List Bool) → product values ≤ length ms → Settled P n none ms (paint (sides (places values n) (lasts values) values) n ms)
     settled-none ms room =
         settled-box (lasts-range (places-range values n h)) none
         (λ js at. settles-none P d fall (places-range values n h) at ∙ sym (ap (λ (b : Bool). b && le_all orderℕ (places values n) js) (lasts-le at))) ms room
 
     module _ {ks : List ℕ} (to : InRange ks values) (s : S) (e : ceilings s ≡ pick d ks values) where
       -- with a solution: a box through the places of its costs
-      pub settled-some : (ms : List ℕ) → product values ≤ length ms → Settled P n (some s) ms (paint (sides (places values n) ks values) n ms)
+      pub settled-some : (ms : List Bool) → product values ≤ length ms → Settled P n (some s) ms (paint (sides (places values n) ks values) n ms)
       settled-some ms room = settled-box to (some s) (λ js at. settles-some P d fall (places-range values n h) at to s e) ms room
 
       -- these are no earlier

@@ -1,26 +1,46 @@
 -- The sides of a box from strides and counts, and that the box lies inside the marks.
-use Rattle.std.specs.Prelude.{List, [], ◌∷◌, ◌≡◌, refl, ℕ, zero, suc, ◌+◌, ◌*◌, ◌-◌, ◌≤◌, ◌<◌, drop, get_or, length, set, take}
-use Rattle.std.proofs.Common.{sym, ap, mul-suc, mul-zero, arith, length-drop, get_or-drop, take_all}
-use Rattle.marking.specs.Paint.{Run, paint, run, sweep}
+use Rattle.std.specs.Prelude.{Bool, List, [], ◌∷◌, map, ◌≡◌, refl, ℕ, zero, suc, ◌+◌, ◌*◌, ◌-◌, ◌≤◌, ◌<◌, drop, get_or, length, take}
+use Rattle.std.proofs.Common.{sym, ap, mul-suc, mul-zero, arith, length-drop, take_all}
+use Rattle.marking.specs.Paint.{paint, rows-before, side, sweep}
+use Rattle.marking.specs.declared.mark.Side.{Side}
+
+-- the strides of sides, and the counts
+abbrev pub strides : List Side → List ℕ
+strides rs = map (λ r. r.stride) rs
+
+abbrev pub counts : List Side → List ℕ
+counts rs = map (λ r. r.count) rs
 
 -- the sides with these strides and counts
-unfoldable pub runs : List ℕ → List ℕ → List Run
-runs [] cs = []
-runs (s ∷ ss) [] = []
-runs (s ∷ ss) (c ∷ cs) = run s c ∷ runs ss cs
+unfoldable pub sides_with : List ℕ → List ℕ → List Side
+sides_with [] cs = []
+sides_with (s ∷ ss) [] = []
+sides_with (s ∷ ss) (c ∷ cs) = side s c ∷ sides_with ss cs
+
+-- have them
+pub strides-with : (ss cs : List ℕ) → length ss ≡ length cs → strides (sides_with ss cs) ≡ ss
+unfolding sides_with
+strides-with [] cs h = refl
+strides-with (s ∷ ss) [] h = absurd (omega arith)
+strides-with (s ∷ ss) (c ∷ cs) h = ap (λ (l : List ℕ). s ∷ l) (strides-with ss cs (omega arith))
+
+pub counts-with : (ss cs : List ℕ) → length ss ≡ length cs → counts (sides_with ss cs) ≡ cs
+unfolding sides_with
+counts-with [] [] h = refl
+counts-with [] (c ∷ cs) h = absurd (omega arith)
+counts-with (s ∷ ss) [] h = absurd (omega arith)
+counts-with (s ∷ ss) (c ∷ cs) h = ap (λ (l : List ℕ). c ∷ l) (counts-with ss cs (omega arith))
 
 -- how far the last position of a box is behind its first
-unfoldable pub span : List ℕ → List ℕ → ℕ
-span [] cs = 0
-span (s ∷ ss) [] = 0
-span (s ∷ ss) (c ∷ cs) = s * (c - 1) + span ss cs
+unfoldable pub span : List Side → ℕ
+span [] = 0
+span (r ∷ rs) = r.stride * (r.count - 1) + span rs
 
 -- a box whose first position is `at` lies inside `size` marks, and the positions of its last side are neighbours
-pub record Inside (ss cs : List ℕ) (at size : ℕ) : Type 0 where
-  pub alike : length ss ≡ length cs
-  pub last : at + span ss cs < size
-  pub short : (k : ℕ) → k < length ss → get_or ss k 0 ≤ size
-  pub dense : (k : ℕ) → suc k ≡ length ss → get_or ss k 0 ≡ 1
+pub record Inside (rs : List Side) (at size : ℕ) : Type 0 where
+  pub last : at + span rs < size
+  pub short : (k : ℕ) → k < length rs → get_or (strides rs) k 0 ≤ size
+  pub dense : (k : ℕ) → suc k ≡ length rs → get_or (strides rs) k 0 ≡ 1
 
 -- room for all turns of the first side, where its last one has room
 room-start : (at s c rest size : ℕ) → at + (s * (c - 1) + rest) < size → at + s * c + rest < size + s
@@ -30,75 +50,61 @@ room-start at s (suc c) rest size h =
     let less : at + (s * c + rest) < size = rw e at h in
     omega (arith, mul-suc s c)
 
--- ---- no side; one, a row; two, rows: there is room for them, and they are the box
+-- what stands for a side that there is not
+abbrev pub no_side : Side
+no_side = side 0 0
 
-pub no-side : (ss cs : List ℕ) (at : ℕ) (ms : List ℕ) → length ss ≡ 0 → set ms at 1 ≡ paint (runs ss cs) at ms
-unfolding runs
-no-side [] cs at ms h = refl
-no-side (s ∷ ss) cs at ms h = absurd (omega arith)
+-- ---- one side, a row; two, rows: there is room for them, and they are the box
 
-pub one_side : {ss cs : List ℕ} {at size : ℕ} → Inside ss cs at size → length ss ≡ 1 → (ms : List ℕ)
-    → (at + get_or cs 0 0 ≤ size) × (paint (run 1 (get_or cs 0 0) ∷ []) at ms ≡ paint (runs ss cs) at ms)
-unfolding runs span
-one_side {ss = []} i h ms = absurd (omega arith)
-one_side {ss = s ∷ []} {cs = []} i h ms = absurd (omega (arith, i.alike))
-one_side {ss = s ∷ []} {cs = c ∷ cs} {at = at} {size = size} i h ms =
-    let e : s ≡ 1 = i.dense 0 refl in
-    let l : at + (s * (c - 1) + 0) < size = i.last in
-    let l₁ : at + (1 * (c - 1) + 0) < size = rw e at l in
-    (omega arith, ap (λ (k : ℕ). sweep (paint []) k c at ms) (sym e))
-one_side {ss = s ∷ t ∷ ss} i h ms = absurd (omega arith)
-
-pub two-sides : {ss cs : List ℕ} {at size : ℕ} → Inside ss cs at size → length ss ≡ 2 → (ms : List ℕ)
-    → (get_or ss 0 0 ≤ size) × (at + get_or ss 0 0 * get_or cs 0 0 + get_or cs 1 0 ≤ size + get_or ss 0 0)
-    × (paint (run (get_or ss 0 0) (get_or cs 0 0) ∷ run 1 (get_or cs 1 0) ∷ []) at ms ≡ paint (runs ss cs) at ms)
-unfolding runs span
-two-sides {ss = []} i h ms = absurd (omega arith)
-two-sides {ss = s ∷ []} i h ms = absurd (omega arith)
-two-sides {ss = s ∷ t ∷ []} {cs = []} i h ms = absurd (omega (arith, i.alike))
-two-sides {ss = s ∷ t ∷ []} {cs = c ∷ []} i h ms = absurd (omega (arith, i.alike))
-two-sides {ss = s ∷ t ∷ []} {cs = c ∷ d ∷ cs} {at = at} {size = size} i h ms =
-    let e : t ≡ 1 = i.dense 1 refl in
-    let l : at + (s * (c - 1) + (t * (d - 1) + 0)) < size = i.last in
-    let l₁ : at + (s * (c - 1) + (1 * (d - 1) + 0)) < size = rw e at l in
-    let r = room-start at s c (1 * (d - 1) + 0) size l₁ in
-    (i.short 0 (omega arith), omega arith, ap (λ (k : ℕ). sweep (paint (run k d ∷ [])) s c at ms) (sym e))
-two-sides {ss = s ∷ t ∷ u ∷ ss} i h ms = absurd (omega arith)
-
--- ---- more sides: the first is swept, there is room for that, and the box of the others, a part of each array, lies inside too
-
-pub first-side : (ss cs : List ℕ) (at : ℕ) (ms : List ℕ) → 0 < length ss → length ss ≡ length cs
-    → sweep (paint (runs (drop 1 ss) (drop 1 cs))) (get_or ss 0 0) (get_or cs 0 0) at ms ≡ paint (runs ss cs) at ms
-unfolding runs
-first-side [] cs at ms h l = absurd (omega arith)
-first-side (s ∷ ss) [] at ms h l = absurd (omega arith)
-first-side (s ∷ ss) (c ∷ cs) at ms h l = refl
-
-pub first-room : {ss cs : List ℕ} {at size : ℕ} → 0 < length ss → Inside ss cs at size
-    → at + get_or ss 0 0 * get_or cs 0 0 + span (drop 1 ss) (drop 1 cs) < size + get_or ss 0 0
+pub one_side : {rs : List Side} {at size : ℕ} → Inside rs at size → 1 ≤ length rs → length rs < 2
+    → (at + (get_or rs 0 no_side).count ≤ size) × ((ms : List Bool) → paint (side 1 (get_or rs 0 no_side).count ∷ []) at ms ≡ paint rs at ms)
 unfolding span
-first-room {ss = []} h i = absurd (omega arith)
-first-room {ss = s ∷ ss} {cs = []} h i = absurd (omega (arith, i.alike))
-first-room {ss = s ∷ ss} {cs = c ∷ cs} {at = at} {size = size} h i = room-start at s c (span ss cs) size i.last
+one_side {rs = []} i h g = absurd (omega arith)
+one_side {rs = r ∷ []} {at = at} {size = size} i h g =
+    let e : r.stride ≡ 1 = i.dense 0 refl in
+    let l : at + (r.stride * (r.count - 1) + 0) < size = i.last in
+    let l₁ : at + (1 * (r.count - 1) + 0) < size = rw e at l in
+    (omega arith, λ ms. ap (λ (k : ℕ). sweep (paint []) k r.count at ms) (sym e))
+one_side {rs = r ∷ q ∷ rs} i h g = absurd (omega arith)
 
-rest_part : (l : List ℕ) → take (length l - 1) (drop 1 l) ≡ drop 1 l
-rest_part l = take_all (length l - 1) (drop 1 l) (omega (arith, length-drop 1 l))
+pub two_sides : {rs : List Side} {at size : ℕ} → Inside rs at size → 2 ≤ length rs → length rs < 3
+    → let rows = get_or rs 0 no_side in
+    let n = (get_or rs 1 no_side).count in
+    (rows.stride ≤ size) × (at + rows.stride * rows.count + n ≤ size + rows.stride) × ((ms : List Bool) → paint (rows ∷ side 1 n ∷ []) at ms ≡ paint rs at ms)
+unfolding span
+two_sides {rs = []} i h g = absurd (omega arith)
+two_sides {rs = r ∷ []} i h g = absurd (omega arith)
+two_sides {rs = r ∷ q ∷ []} {at = at} {size = size} i h g =
+    let e : q.stride ≡ 1 = i.dense 1 refl in
+    let l : at + (r.stride * (r.count - 1) + (q.stride * (q.count - 1) + 0)) < size = i.last in
+    let l₁ : at + (r.stride * (r.count - 1) + (1 * (q.count - 1) + 0)) < size = rw e at l in
+    let room = room-start at r.stride r.count (1 * (q.count - 1) + 0) size l₁ in
+    (i.short 0 (omega arith), omega arith, λ ms. ap (λ (k : ℕ). sweep (paint (side k q.count ∷ [])) r.stride r.count at ms) (sym e))
+two_sides {rs = r ∷ q ∷ o ∷ rs} i h g = absurd (omega arith)
 
-pub inside-part : {ss cs : List ℕ} {at size : ℕ} (to : ℕ) → 0 < length ss → Inside ss cs at size → to + span (drop 1 ss) (drop 1 cs) < size
-    → Inside (take (length ss - 1) (drop 1 ss)) (take (length cs - 1) (drop 1 cs)) to size
-inside-part {ss} {cs} {at} {size} to some i h =
-    let l = i.alike in
-    let shorter = length-drop 1 ss in
-    rw (rest_part ss, rest_part cs)
-    (record {
-      alike = omega (arith, length-drop 1 cs);
-      last = h;
-      short = λ k g. rw (get_or-drop 1 ss k 0) (i.short (1 + k) (omega arith));
-      dense = λ k e. rw (get_or-drop 1 ss k 0) (i.dense (1 + k) (omega arith));
-    })
+-- ---- more sides: the first is swept, there is room for that, and the box of the others lies inside too
 
-pub runs-part : (ss cs : List ℕ) → runs (take (length ss - 1) (drop 1 ss)) (take (length cs - 1) (drop 1 cs)) ≡ runs (drop 1 ss) (drop 1 cs)
-runs-part ss cs = rw (rest_part ss, rest_part cs)
+pub first-side : (rs : List Side) (at : ℕ) (ms : List Bool) → 0 < length rs
+    → sweep (paint (drop 1 rs)) (get_or rs 0 no_side).stride (get_or rs 0 no_side).count at ms ≡ paint rs at ms
+first-side [] at ms h = absurd (omega arith)
+first-side (r ∷ rs) at ms h = refl
 
-pub part-shorter : (l : List ℕ) → 0 < length l → length (take (length l - 1) (drop 1 l)) < length l
-part-shorter l h = rw (rest_part l) (omega (arith, length-drop 1 l))
+-- where the part at a place of the first side starts
+pub part-room : {rs : List Side} {at size : ℕ} (k : ℕ) → 0 < length rs → Inside rs at size → k < (get_or rs 0 no_side).count
+    → at + k * (get_or rs 0 no_side).stride + span (drop 1 rs) < size
+unfolding span
+part-room {rs = []} k h i g = absurd (omega arith)
+part-room {rs = r ∷ rs} {at = at} {size = size} k h i g =
+    omega (arith, room-start at r.stride r.count (span rs) size i.last, rows-before r.stride k r.count g)
+
+pub inside-part : {rs : List Side} {at size : ℕ} (to : ℕ) → 0 < length rs → Inside rs at size → to + span (drop 1 rs) < size → Inside (drop 1 rs) to size
+inside-part {rs = []} to h i g = absurd (omega arith)
+inside-part {rs = r ∷ rs} to h i g = record {
+  last = g;
+  short = λ k l. i.short (suc k) (omega arith);
+  dense = λ k e. i.dense (suc k) (omega arith);
+}
+
+-- as a part of the slice
+pub rest_part : (rs : List Side) → take (length rs - 1) (drop 1 rs) ≡ drop 1 rs
+rest_part rs = take_all (length rs - 1) (drop 1 rs) (omega (arith, length-drop 1 rs))

@@ -7,7 +7,7 @@ pub mod place;
 // The different values of a ceiling, falling.
 pub mod values;
 
-// A box of positions marked, and the next one that is not.
+// A box of positions marked.
 pub mod mark;
 
 // The values of all ceilings, and positions as numbers with a digit for each ceiling.

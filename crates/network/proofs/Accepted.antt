@@ -11,7 +11,7 @@ use Rattle.network.proofs.Layouts.{layout-roomy}
 use Rattle.network.proofs.CheckedLaws.{fine-both, first_fine, refuse-fine}
 use Rattle.network.specs.Refusals.{bad_length, checked_of, checked_with, link_checked, link_checked_at}
 use Rattle.network.specs.Refusals.{records_checked, too_many_positions, yard_checked}
-use Rattle.network.specs.declared.Checked.TheVariants.{Fine}
+use Rattle.network.specs.Checked.{no_refusal}
 use Rattle.network.specs.declared.Layout.{Layout}
 use Rattle.network.specs.Accepted.{LinkFine, RecordsFine, Whole, YardFine}
 
@@ -33,7 +33,7 @@ whole-records l len e =
     let rest : (len - l.yard.size) % l.link.size ≡ 0 = eqb-true _ _ (not-false _ both.1) in
     omega (arith, div-add-mod' (len - l.yard.size) l.link.size)
 
-pub yard-fine : (s : List ℕ) (l : Layout) (m : ℕ) → yard_checked s l m ≡ Fine → YardFine s l m
+pub yard-fine : (s : List ℕ) (l : Layout) (m : ℕ) → yard_checked s l m ≡ no_refusal → YardFine s l m
 unfolding yard_checked
 yard-fine s l m e =
     let to6 = fine-both _ _ e in
@@ -55,7 +55,7 @@ yard-fine s l m e =
       ranks = refuse-fine _ _ _ to6.1;
     }
 
-pub link-fine : (s : List ℕ) (at : ℕ) (mark : List ℕ) (slots n p place : ℕ) → link_checked s at mark slots n p place ≡ Fine → LinkFine s at mark n
+pub link-fine : (s : List ℕ) (at : ℕ) (mark : List ℕ) (slots n p place : ℕ) → link_checked s at mark slots n p place ≡ no_refusal → LinkFine s at mark n
 unfolding link_checked
 link-fine s at mark slots n p place e =
     let to7 = fine-both _ _ e in
@@ -73,7 +73,7 @@ link-fine s at mark slots n p place e =
     }
 
 -- where the length is right and the yard record is fine
-pub whole : (s : List ℕ) (l : Layout) → Roomy l → bad_length l (length s) ≡ false → yard_checked s l (link_count l s) ≡ Fine → Whole s l (link_count l s)
+pub whole : (s : List ℕ) (l : Layout) → Roomy l → bad_length l (length s) ≡ false → yard_checked s l (link_count l s) ≡ no_refusal → Whole s l (link_count l s)
 whole s l roomy right yard =
     record {
       size = whole-records l (length s) right;
@@ -81,7 +81,7 @@ whole s l roomy right yard =
       few = (yard-fine s l _ yard).few-links;
     }
 
-pub records-fine : (s : List ℕ) (l : Layout) → Roomy l → records_checked l s ≡ Fine → RecordsFine s l
+pub records-fine : (s : List ℕ) (l : Layout) → Roomy l → records_checked l s ≡ no_refusal → RecordsFine s l
 unfolding records_checked
 records-fine s l roomy e =
     let both = fine-both _ _ e in
@@ -93,11 +93,11 @@ records-fine s l roomy e =
     }
 
 -- the records of an accepted survey are fine
-pub accepted-records : (s : List ℕ) → checked_of s ≡ Fine → RecordsFine s (layout_of s)
+pub accepted-records : (s : List ℕ) → checked_of s ≡ no_refusal → RecordsFine s (layout_of s)
 unfolding checked_with
 accepted-records s e = records-fine s (layout_of s) (layout-roomy s) (fine-both _ _ e).0
 
 -- and it has at most 1,600 positions
-pub accepted-positions : (s : List ℕ) → checked_of s ≡ Fine → position_count (network_of s) ≤ max_plans
+pub accepted-positions : (s : List ℕ) → checked_of s ≡ no_refusal → position_count (network_of s) ≤ max_plans
 unfolding checked_with too_many_positions
 accepted-positions s e = ltb-false _ _ (refuse-fine _ _ _ (fine-both _ _ e).1)

@@ -19,7 +19,8 @@ use Rattle.network.specs.Meaning.{Best}
 use Rattle.network.proofs.Meaning.{best-found, best-missing, is_tree-iff, tree-size}
 use Rattle.network.proofs.NetworkFine.{survey-sound}
 use Rattle.network.specs.Network.{Network}
-use Rattle.network.specs.declared.Checked.TheVariants.{Fine}
+use Rattle.network.specs.Checked.{no_refusal}
+use Rattle.network.specs.declared.refusals.Rule.TheVariants.{NoTree, NothingFits}
 use Rattle.network.specs.AnswerPromise.{Answers, BestPromised, JudgePromised}
 
 -- ---- the ceilings question
@@ -28,11 +29,11 @@ use Rattle.network.specs.AnswerPromise.{Answers, BestPromised, JudgePromised}
 module _ (net : Network) (bs : List ℤ) (tree : List ℕ) where
   -- the reply
   abbrev reply_by : Option (List ℕ) → Reply
-  reply_by o = reply (refuse_if (is_none o) 14 0) (cost_values (costs_of net (links_of o)))
+  reply_by o = reply (refuse_if (is_none o) NothingFits 0) (cost_values (costs_of net (links_of o)))
 
   -- the buffer after it
   abbrev left_by : Option (List ℕ) → List ℕ
-  left_by o = if_fine (refuse_if (is_none o) 14 0) (tree_with o tree) tree
+  left_by o = if_fine (refuse_if (is_none o) NothingFits 0) (tree_with o tree) tree
 
   answers_by : (o : Option (List ℕ)) → ((ts : List ℕ) → o ≡ some ts → Best net bs ts × (length ts ≡ tree_size net))
       → (o ≡ none → (ts : List ℕ) → Tree net ts → fits net bs ts ≡ false)
@@ -85,10 +86,10 @@ judge-promised s drawn {a} e =
           let iff = is_tree-iff net (survey-sound s fine) drawn in
           by-test (is_tree net drawn)
           (λ t.
-          let replied : a ≡ reply Fine (cost_values (costs_of net drawn)) = e ∙ rw (fine, t) in
+          let replied : a ≡ reply no_refusal (cost_values (costs_of net drawn)) = e ∙ rw (fine, t) in
           rw replied (record { exactly = (λ z. iff.0 t, λ z. refl); costs = λ z. refl; otherwise = λ no. absurd (no (iff.0 t)) }))
           (λ t.
-          let replied : a ≡ reply (refuse_if true 11 0) (cost_values (costs_of net drawn)) = e ∙ rw (fine, t) in
+          let replied : a ≡ reply (refuse_if true NoTree 0) (cost_values (costs_of net drawn)) = e ∙ rw (fine, t) in
           let no : ¬ Tree net drawn = λ tree. clash (iff.1 tree) t in
           rw replied (record {
             exactly = (λ z. let y : ◌≡◌ {A = ℕ} 11 0 = z in absurd (omega arith), λ tree. absurd (no tree));

@@ -1,5 +1,6 @@
 -- An accepted survey that writes its link count and is then cut off is refused: by 15 at the end of a record before its last, and anywhere else by 1.
-use Rattle.std.specs.Prelude.{ℕ, ◌+◌, ◌-◌, ◌*◌, ◌/◌, ◌≤◌, ◌<◌, ◌≡◌, List, ℤ, length, take}
+use Rattle.std.specs.Prelude.{Bool, true, false, cond, Err, ℕ, ◌+◌, ◌-◌, ◌*◌, ◌/◌, ◌≤◌, ◌<◌, ◌≡◌, List, ℤ, length, take}
+use Rattle.std.proofs.Math.Path.{refl}
 use Rattle.std.proofs.Common.{ap, ◌∙◌, lt_of_mul-lt-mul_right, arith, get_or-take, length-take-le}
 use Rattle.std.proofs.Math.Bool.{true, false}
 use borrow.Author.Tests.{eqb-true, le-ltb, lt-ltb, ltb-false, ltb-true, ne_eqb, not-false}
@@ -7,7 +8,7 @@ use Rattle.std.proofs.Math.Dec.{eqb, ltb}
 use Rattle.order.specs.Test.{by-test}
 use Rattle.network.specs.Limits.{max_links, max_stations}
 use Rattle.network.specs.Bytes.{byte_at, mark_at}
-use Rattle.network.specs.Survey.{count_in, has_count, layout_of, link_count, plain, stations_in}
+use Rattle.network.specs.Survey.{count_at, count_in, has_count, layout_of, link_count, plain, stations_in}
 use Rattle.network.specs.Checked.{refuse_if, ◌or_else◌}
 use Rattle.network.specs.Refusals.{bad_count, bad_length, checked_of, checked_with, outside, records_checked, yard_checked}
 use Rattle.network.specs.Calls.{Reply, asked, asked_checked, drawn_checked, judged, list_checked, list_status, reply, status}
@@ -15,21 +16,22 @@ use Rattle.network.specs.EveryTree.{count_reply, tree_checked, tree_reply, trees
 use Rattle.network.proofs.Layouts.{layout-kept, layout-roomy, layout-short}
 use Rattle.network.specs.Accepted.{RecordsFine}
 use Rattle.network.proofs.Accepted.{accepted-records, whole-records}
-use Rattle.network.specs.declared.Checked.{Checked}
-use Rattle.network.specs.declared.Checked.TheVariants.{Fine, Refused}
+use Rattle.network.specs.Checked.{Checked}
+use Rattle.network.specs.Checked.{no_refusal, number_of}
+use Rattle.network.specs.declared.refusals.Rule.TheVariants.{BadLength, WrongLinkCount}
 use Rattle.network.specs.declared.Layout.{Layout}
-use Rattle.network.specs.declared.Refusal.{Refusal}
-use Rattle.network.specs.declared.Status.{Status}
+use Rattle.network.specs.declared.refusals.Refusal.{Refusal}
+use Rattle.network.specs.declared.refusals.Status.{Status}
 use Rattle.network.specs.Cut.{CutNoticed, cut_refusal}
 
 -- a wrong length is number 1
-refused-length : (l : Layout) (s : List ℕ) → bad_length l (length s) ≡ true → checked_with l s ≡ Refused (record { number = 1; place = 0 })
+refused-length : (l : Layout) (s : List ℕ) → bad_length l (length s) ≡ true → checked_with l s ≡ Err (record { rule = BadLength; place = 0 })
 unfolding checked_with records_checked refuse_if ◌or_else◌
 refused-length l s e = rw e
 
 -- a yard record whose mark, stations and number of links pass, and that writes another count, is number 15
 refused-count : (l : Layout) (s : List ℕ) (m : ℕ) → mark_at s 0 l.yard.mark ≡ true → outside (stations_in s) 1 max_stations ≡ false → m ≤ max_links
-    → bad_count s l m ≡ true → yard_checked s l m ≡ Refused (record { number = 15; place = 0 })
+    → bad_count s l m ≡ true → yard_checked s l m ≡ Err (record { rule = WrongLinkCount; place = 0 })
 unfolding yard_checked refuse_if ◌or_else◌
 refused-count l s m mark stations few bad = rw (mark, stations, le-ltb max_links m few, bad)
 
@@ -62,7 +64,7 @@ module _ (s : List ℕ) (l : Layout) (fine : RecordsFine s l) (counts : has_coun
         rw size (lt_of_mul-lt-mul_right l.link.size (omega (arith, fine.records.size)))
 
     -- and the fields of the yard record stand in front of the cut
-    cut-yard : yard_checked part l (link_count l part) ≡ Refused (record { number = 15; place = 0 })
+    cut-yard : yard_checked part l (link_count l part) ≡ Err (record { rule = WrongLinkCount; place = 0 })
     unfolding bad_count
     cut-yard =
         let room = fine.records.roomy in
@@ -72,9 +74,9 @@ module _ (s : List ℕ) (l : Layout) (fine : RecordsFine s l) (counts : has_coun
         let few : ltb max_stations (stations_in s) ≡ false = le-ltb _ _ fine.yard.few-stations in
         let other : eqb (count_in l s) (link_count l part) ≡ false = ne_eqb _ _ (λ (e : count_in l s ≡ link_count l part). omega (arith, written, fewer)) in
         refused-count l part (link_count l part) mark (rw (kept 2 (omega arith), some, few)) (omega (arith, fewer, fine.yard.few-links))
-        (rw (counts, kept l.count (omega arith), other))
+        (rw (counts, kept (count_at l) (omega arith), other))
 
-    cut-ends : checked_with l part ≡ Refused (record { number = 15; place = 0 })
+    cut-ends : checked_with l part ≡ Err (record { rule = WrongLinkCount; place = 0 })
     unfolding checked_with records_checked refuse_if ◌or_else◌
     cut-ends =
         let yard = cut-yard in
@@ -84,7 +86,7 @@ module _ (s : List ℕ) (l : Layout) (fine : RecordsFine s l) (counts : has_coun
   cut-long = by-test (bad_length l c) (λ e. rw e (refused-length l part (rw size e))) (λ e. rw e (cut-ends e))
 
 -- THE THEOREM: every part of an accepted survey with a link count that begins with its first byte, and is not all of it, is refused
-pub cut_off : (s : List ℕ) → checked_of s ≡ Fine → has_count (layout_of s) ≡ true → (c : ℕ) → c < length s
+pub cut_off : (s : List ℕ) → checked_of s ≡ no_refusal → has_count (layout_of s) ≡ true → (c : ℕ) → c < length s
     → checked_of (take c s) ≡ cut_refusal (layout_of s) c
 cut_off s e counts c h = by-test (ltb c 2) short long
   where
@@ -100,13 +102,24 @@ cut_off s e counts c h = by-test (ltb c 2) short long
 
 -- ---- what callers rely on
 
+cut-number : (b : Bool) → number_of (cond b BadLength WrongLinkCount) ≡ cond b 1 15
+cut-number true = refl
+cut-number false = refl
+
 -- a call notices it that replies with what the survey alone decides, where that is a refusal
-noticed : (bytes : List ℕ) {number place : ℕ} → ((r : Refusal) → checked_of bytes ≡ Refused r → (number ≡ r.number) × (place ≡ r.place))
+noticed : (bytes : List ℕ) {number place : ℕ} → ((r : Refusal) → checked_of bytes ≡ Err r → (number ≡ number_of r.rule) × (place ≡ r.place))
     → CutNoticed bytes number place
-noticed bytes h = record { declined = λ s fine counts c less q. h _ (rw q (cut_off s fine counts c less)) }
+noticed bytes {number} {place} h = record { declined = go }
+  where
+    go : (s : List ℕ) → checked_of s ≡ no_refusal → has_count (layout_of s) ≡ true → (c : ℕ) → c < length s → bytes ≡ take c s
+        → (number ≡ cond (bad_length (layout_of s) c) 1 15) × (place ≡ 0)
+    go s fine counts c less q =
+        let cut = bad_length (layout_of s) c in
+        let said = h (record { rule = cond cut BadLength WrongLinkCount; place = 0 }) (rw q (cut_off s fine counts c less)) in
+        (said.0 ∙ cut-number cut, said.1)
 
 -- one that replies by a check does, where that check has the refusal of the survey alone
-cut-replied : (bytes : List ℕ) (c : Checked) (vs : List ℤ) {a : Reply} → ((r : Refusal) → checked_of bytes ≡ Refused r → c ≡ Refused r) → a ≡ reply c vs
+cut-replied : (bytes : List ℕ) (c : Checked) (vs : List ℤ) {a : Reply} → ((r : Refusal) → checked_of bytes ≡ Err r → c ≡ Err r) → a ≡ reply c vs
     → CutNoticed bytes a.number a.place
 unfolding reply
 cut-replied bytes c vs first e =

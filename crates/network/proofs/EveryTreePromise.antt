@@ -22,7 +22,8 @@ use Rattle.network.specs.Calls.{reply, tree_with}
 use Rattle.network.specs.EveryTree.{count_reply, tree_at, tree_checked, tree_count, tree_left, tree_reply, trees_checked}
 use Rattle.network.proofs.Meaning.{is_tree-iff, tree-size, trees-iff, trees-rising}
 use Rattle.network.proofs.NetworkFine.{survey-sound}
-use Rattle.network.specs.declared.Checked.TheVariants.{Fine}
+use Rattle.network.specs.Checked.{no_refusal}
+use Rattle.network.specs.declared.refusals.Rule.TheVariants.{NoSuchPlan}
 use Rattle.network.specs.EveryTreePromise.{Numbered, CountPromised, TreePromised}
 
 pub numbered : (net : Network) → Sound (graph net) → Numbered net
@@ -45,7 +46,7 @@ numbered net sound =
 -- ---- the number of trees
 
 -- a survey of at most 12 links that is accepted is not declined by 21
-pub few-links : (s : List ℕ) → checked_of s ≡ Fine → (network_of s).m ≤ max_enumerated → trees_checked s ≡ Fine
+pub few-links : (s : List ℕ) → checked_of s ≡ no_refusal → (network_of s).m ≤ max_enumerated → trees_checked s ≡ no_refusal
 unfolding trees_checked refuse_if ◌or_else◌
 few-links s fine few = rw (fine, le-ltb max_enumerated (network_of s).m few)
 
@@ -55,7 +56,7 @@ count-promised s {a} e =
     record {
       counts = λ fine few.
           let net = network_of s in
-          let replied : a ≡ reply Fine (pos (tree_count net) ∷ []) = e ∙ rw (few-links s fine few) in
+          let replied : a ≡ reply no_refusal (pos (tree_count net) ∷ []) = e ∙ rw (few-links s fine few) in
           rw replied (record { succeeds = refl; count = refl; numbered = numbered net (survey-sound s fine) });
     }
 
@@ -75,7 +76,7 @@ tree-promised s r tree {a} {left} e f =
           let enough = le-ltb (length tree) (tree_size net) room in
           by-test (leb (tree_count net) r)
           (λ past.
-          let replied : a ≡ reply (refuse_if true 13 0) (cost_values (costs_of net ts)) = e ∙ rw (limit, enough, past) in
+          let replied : a ≡ reply (refuse_if true NoSuchPlan 0) (cost_values (costs_of net ts)) = e ∙ rw (limit, enough, past) in
           let no : ¬ (◌≡◌ {A = ℕ} 13 0) = λ z. absurd (omega arith) in
           rw replied (record {
             either = inr refl;
@@ -89,7 +90,7 @@ tree-promised s r tree {a} {left} e f =
           (λ past.
           let h = leb-false (tree_count net) r past in
           let is = all.only-trees r h in
-          let replied : a ≡ reply Fine (cost_values (costs_of net ts)) = e ∙ rw (limit, enough, past) in
+          let replied : a ≡ reply no_refusal (cost_values (costs_of net ts)) = e ∙ rw (limit, enough, past) in
           let leaves : left ≡ ts ++ drop (length ts) tree = f ∙ rw (limit, enough, past) in
           let front : take (tree_size net) left ≡ ts = ap (take (tree_size net)) leaves ∙ take_at ts (drop (length ts) tree) (tree_size net) (tree-size net sound ts is) in
           rw (replied, front) (record {

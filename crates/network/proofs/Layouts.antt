@@ -11,7 +11,7 @@ use Rattle.order.specs.Test.{left}
 use Rattle.order.proofs.Test.{right}
 use Rattle.network.specs.Limits.{max_ceilings}
 use Rattle.network.specs.Bytes.{byte_at, mark_at}
-use Rattle.network.specs.Survey.{layout_of, layouts, link_size, opens, plain, rest_size, row_where, yard_size}
+use Rattle.network.specs.Survey.{count_at, rest_at, layout_of, layouts, link_size, opens, plain, rest_size, row_where, yard_size}
 use Rattle.network.specs.declared.Layout.{Layout}
 use Rattle.network.specs.Layouts.{Roomy}
 
@@ -19,18 +19,18 @@ use Rattle.network.specs.Layouts.{Roomy}
 abbrev roomy : Layout → Bool
 roomy l =
     leb (yard_size l.slots) l.yard.size
-    && (ltb l.count l.yard.size
-    && (leb (l.rest + rest_size) l.yard.size && (leb (link_size l.slots) l.link.size && leb l.slots max_ceilings)))
+    && (ltb (count_at l) l.yard.size
+    && (leb (rest_at l + rest_size) l.yard.size && (leb (link_size l.slots) l.link.size && leb l.slots max_ceilings)))
 
 roomy-row : (l : Layout) → roomy l ≡ true → Roomy l
 roomy-row l e =
     let first = right (leb (yard_size l.slots) l.yard.size) _ e in
-    let second = right (ltb l.count l.yard.size) _ first in
-    let third = right (leb (l.rest + rest_size) l.yard.size) _ second in
+    let second = right (ltb (count_at l) l.yard.size) _ first in
+    let third = right (leb (rest_at l + rest_size) l.yard.size) _ second in
     record {
       yard = leb-true _ _ (left (leb (yard_size l.slots) l.yard.size) _ e);
-      count = ltb-true _ _ (left (ltb l.count l.yard.size) _ first);
-      rest = leb-true _ _ (left (leb (l.rest + rest_size) l.yard.size) _ second);
+      count = ltb-true _ _ (left (ltb (count_at l) l.yard.size) _ first);
+      rest = leb-true _ _ (left (leb (rest_at l + rest_size) l.yard.size) _ second);
       link = leb-true _ _ (left (leb (link_size l.slots) l.link.size) _ third);
       ceilings = leb-true _ _ (right (leb (link_size l.slots) l.link.size) _ third);
     }

@@ -20,12 +20,12 @@ use Rattle.frontier.proofs.Best.{best_none, best-some}
 use Rattle.planning.specs.Graph.{Sound, search_tree}
 use Rattle.planning.proofs.Search.{search-best}
 use Rattle.network.specs.Yard.{Tree, best, dominates, ends, fits, graph, is_tree, ranks, stations, tree_size, tree_sum, trees, usable, yard}
-use Rattle.network.specs.Tabulate.{tabulate}
-use Rattle.network.specs.PlanList.{costs_of}
 use Rattle.network.proofs.Resting.{mem-working, working-mem}
-use Rattle.network.specs.Calls.{Reply, apart, cost_values, says, together}
-use Rattle.network.specs.declared.Answer.{Answer}
-use Rattle.network.specs.declared.Answer.TheVariants.{Plan, Refused as Answer-as-Refused}
+use Rattle.network.proofs.CheckedLaws.{refused-once}
+use Rattle.network.specs.Calls.{Reply, cost_values, says}
+use Rattle.network.specs.Checked.{Answer}
+use Rattle.network.specs.declared.Costs.{Costs}
+use Rattle.std.specs.Prelude.{Ok, Err, suc, drop}
 use Rattle.network.specs.Network.{Network}
 use Rattle.network.specs.Meaning.{Best}
 
@@ -111,22 +111,19 @@ module _ (net : Network) (sound : Sound (graph net)) where
   pub search-finds : (bs : List ℤ) → length bs ≡ length (ranks net) → search_tree (graph net) bs ≡ best net bs
   search-finds bs l = search-best (graph net) sound bs l
 
--- no cost of a tree is lost where an answer holds them one by one
-pub together-apart : (net : Network) (ts : List ℕ) → together (apart (costs_of net ts)) ≡ costs_of net ts
-unfolding apart tabulate
-together-apart net ts = refl
+-- no cost is lost in an answer
+pub says-costs : (v : Costs) → (says (Ok v)).values ≡ cost_values v
+unfolding says
+says-costs v = refl
 
--- `says` is one-to-one: no two answers of the enum say the same
+-- `says` is one-to-one: no two answers say the same
 pub says-once : (a b : Answer) → says a ≡ says b → a ≡ b
 unfolding says
-says-once (Plan v) (Plan w) e =
-    λ i. Plan (record { sum = value 0 i; y1 = value 1 i; y2 = value 2 i; y3 = value 3 i })
-  where
-    value : (j : ℕ) → get_or (cost_values (together v)) j (pos 0) ≡ get_or (cost_values (together w)) j (pos 0)
-    value j = ap (λ (r : Reply). get_or r.values j (pos 0)) e
-says-once (Answer-as-Refused r) (Answer-as-Refused q) e =
-    let number = ap (λ (a : Reply). a.number) e in
-    let place = ap (λ (a : Reply). a.place) e in
-    λ i. Answer-as-Refused (record { number = number i; place = place i })
-says-once (Plan v) (Answer-as-Refused r) e = let z : ◌≡◌ {A = ℕ} 4 0 = ap (λ (a : Reply). length a.values) e in absurd (omega arith)
-says-once (Answer-as-Refused r) (Plan v) e = let z : ◌≡◌ {A = ℕ} 0 4 = ap (λ (a : Reply). length a.values) e in absurd (omega arith)
+says-once (Ok v) (Ok w) e =
+    let sum = ap (λ (r : Reply). get_or r.values 0 (pos 0)) e in
+    let y = ap (λ (r : Reply). drop 1 r.values) e in
+    λ i. Ok (record { sum = sum i; y = y i })
+says-once (Err r) (Err q) e =
+    refused-once r q (ap (λ (a : Reply). a.number) e) (ap (λ (a : Reply). a.place) e)
+says-once (Ok v) (Err r) e = let z : ◌≡◌ {A = ℕ} (suc (length v.y)) 0 = ap (λ (a : Reply). length a.values) e in absurd (omega arith)
+says-once (Err r) (Ok v) e = let z : ◌≡◌ {A = ℕ} 0 (suc (length v.y)) = ap (λ (a : Reply). length a.values) e in absurd (omega arith)

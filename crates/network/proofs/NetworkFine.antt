@@ -31,7 +31,7 @@ use Rattle.network.specs.Accepted.{RecordsFine}
 use Rattle.network.proofs.Accepted.{accepted-positions, accepted-records, or-false}
 use Rattle.network.proofs.CostsLaws.{costs-length}
 use Rattle.network.proofs.Sums.{raised_at, raised-small, sums-length}
-use Rattle.network.specs.declared.Checked.TheVariants.{Fine}
+use Rattle.network.specs.Checked.{no_refusal}
 use Rattle.network.specs.declared.Layout.{Layout}
 use Rattle.network.specs.NetworkFine.{NetworkFine, WithinLimits}
 
@@ -200,10 +200,10 @@ module _ (s : List ℕ) (l : Layout) (fine : RecordsFine s l) where
         cheap = λ i h. rw (raised_at s l m i h) (raised-small _ (fine.link i h).priced);
       }
 
-pub survey-fine : (s : List ℕ) → checked_of s ≡ Fine → NetworkFine (network_of s)
+pub survey-fine : (s : List ℕ) → checked_of s ≡ no_refusal → NetworkFine (network_of s)
 survey-fine s e = network-fine s (layout_of s) (accepted-records s e) (accepted-positions s e)
 
-pub survey-limits : (s : List ℕ) → checked_of s ≡ Fine → WithinLimits (network_of s)
+pub survey-limits : (s : List ℕ) → checked_of s ≡ no_refusal → WithinLimits (network_of s)
 survey-limits s e = network-limits s (layout_of s) (accepted-records s e) (accepted-positions s e)
 
 -- ---- the graph
@@ -218,5 +218,5 @@ graph-sound net fine =
       ranks = fine.ranked;
     }
 
-pub survey-sound : (s : List ℕ) → checked_of s ≡ Fine → Sound (graph (network_of s))
+pub survey-sound : (s : List ℕ) → checked_of s ≡ no_refusal → Sound (graph (network_of s))
 survey-sound s e = graph-sound (network_of s) (survey-fine s e)

@@ -25,8 +25,8 @@ use Rattle.network.specs.Refusals.{checked_of}
 use Rattle.network.specs.Calls.{list_checked, plans_checked, room_checked}
 use Rattle.network.proofs.Meaning.{trees-iff, trees-rising}
 use Rattle.network.proofs.NetworkFine.{need-limit, survey-limits, survey-sound}
-use Rattle.network.specs.declared.Checked.{Checked}
-use Rattle.network.specs.declared.Checked.TheVariants.{Fine, Refused}
+use Rattle.network.specs.Checked.{Checked}
+use Rattle.std.specs.Prelude.{Ok, Err}
 use Rattle.network.specs.Network.{Network}
 use Rattle.network.specs.Promise.{Attained, Complete, Undominated}
 
@@ -78,8 +78,8 @@ unfolding list_checked plans_checked room_checked refuse_if ◌or_else◌
 program-checked s = go (checked_of s) refl
   where
     go : (c : Checked) → checked_of s ≡ c → c or_else plans_checked (network_of s) max_plans max_need ≡ c
-    go (Refused r) e = refl
-    go Fine e =
+    go (Err r) e = refl
+    go (Ok u) e =
         let fine = survey-limits s e in
         let few = (complete (network_of s) (survey-sound s e)).count in
         let room = le-ltb max_need (buffer_need (network_of s)) (need-limit (network_of s) fine) in

@@ -18,9 +18,10 @@ use Rattle.network.specs.Refusals.{bad_length, checked_of, checked_with, link_ch
 use Rattle.network.specs.Refusals.{records_checked, too_many_positions, yard_checked}
 use Rattle.network.specs.Alike.{Alike}
 use Rattle.network.proofs.Alike.{alike}
-use Rattle.network.specs.declared.Checked.{Checked}
+use Rattle.network.specs.Checked.{Checked}
 use Rattle.network.specs.declared.Layout.{Layout}
 use Rattle.network.specs.SameYard.{SameYard}
+use Rattle.network.specs.declared.refusals.Rule.TheVariants.{BadLength, TooManyPositions}
 
 -- the first refusal of the same checks
 first-same : (f g : ℕ → Checked) → ((i : ℕ) → f i ≡ g i) → (m : ℕ) → first_refusal f m ≡ first_refusal g m
@@ -108,7 +109,7 @@ module _ {s : List ℕ} {l : Layout} {s' : List ℕ} {l' : Layout} (y : SameYard
       let link : links_checked s' l' (link_count l' s') ≡ links_checked s l (link_count l s) = rw count_same (links-same (link_count l s)) in
       let net : network_with l' s' (link_count l' s') ≡ network_with l s (link_count l s) = rw count_same (network-same (link_count l s)) in
       rw (y.layout, y.layout')
-      (λ i. refuse_if (length-same i) 1 0 or_else (yard i or_else link i) or_else refuse_if (too_many_positions (net i)) 19 0)
+      (λ i. refuse_if (length-same i) BadLength 0 or_else (yard i or_else link i) or_else refuse_if (too_many_positions (net i)) TooManyPositions 0)
 
   -- and have the same network,
   pub same-network : network_of s' ≡ network_of s

@@ -11,7 +11,7 @@ use Rattle.network.specs.Refusals.{bad_sum, checked_of}
 use Rattle.network.specs.Yard.{sum_cost}
 use Rattle.network.specs.Accepted.{RecordsFine}
 use Rattle.network.proofs.Accepted.{accepted-records, or-false}
-use Rattle.network.specs.declared.Checked.TheVariants.{Fine}
+use Rattle.network.specs.Checked.{no_refusal}
 use Rattle.network.specs.declared.Layout.{Layout}
 
 -- a sum cost in its range is at most 2,000,000 when raised
@@ -43,7 +43,7 @@ unfolding sums_in
 sums-length l s m = tabulate-length (λ i. raised (sum_in s (link_start l i))) m
 
 -- THE THEOREM: the sum cost of each link of an accepted survey is the one that its bytes say
-pub sum_said : (s : List ℕ) → checked_of s ≡ Fine → (i : ℕ) → i < link_count (layout_of s) s → sum_cost (network_of s) i ≡ sum_in s (link_start (layout_of s) i)
+pub sum_said : (s : List ℕ) → checked_of s ≡ no_refusal → (i : ℕ) → i < link_count (layout_of s) s → sum_cost (network_of s) i ≡ sum_in s (link_start (layout_of s) i)
 unfolding network_with
 sum_said s e i h =
     let l = layout_of s in

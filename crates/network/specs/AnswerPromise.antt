@@ -11,7 +11,7 @@ use Rattle.network.specs.Refusals.{checked_of}
 use Rattle.network.specs.Calls.{cost_values}
 use Rattle.network.specs.Meaning.{Best}
 use Rattle.network.specs.Network.{Network}
-use Rattle.network.specs.declared.Checked.TheVariants.{Fine}
+use Rattle.network.specs.Checked.{no_refusal}
 
 -- ---- the ceilings question
 
@@ -29,7 +29,7 @@ pub record Answers (net : Network) (bs : List ℤ) (number : ℕ) (values : List
 -- DEMAND 2, of a ceilings question on survey s that replied with this number and these values and left these bytes: for every accepted survey, every
 -- number given and every tree buffer of t bytes or more, whatever it held.
 pub record BestPromised (s : List ℕ) (given : List ℤ) (tree : List ℕ) (number : ℕ) (values : List ℤ) (left : List ℕ) : Type 0 where
-  pub answers : checked_of s ≡ Fine → tree_size (network_of s) ≤ length tree
+  pub answers : checked_of s ≡ no_refusal → tree_size (network_of s) ≤ length tree
       → Answers (network_of s) (bounds (network_of s) given) number values (take (tree_size (network_of s)) left)
 
 -- ---- the judge
@@ -45,4 +45,4 @@ pub record Judges (net : Network) (drawn : List ℕ) (number : ℕ) (values : Li
 
 -- DEMAND 2, of a judge that replied so to drawn links: for every accepted survey.
 pub record JudgePromised (s drawn : List ℕ) (number : ℕ) (values : List ℤ) : Type 0 where
-  pub judges : checked_of s ≡ Fine → Judges (network_of s) drawn number values
+  pub judges : checked_of s ≡ no_refusal → Judges (network_of s) drawn number values

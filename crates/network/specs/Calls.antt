@@ -1,21 +1,18 @@
 -- Document 01, "When the planner declines": what each call on a survey replies and what it leaves in the buffer it was lent, with the numbers
 -- 9, 10, 11 and 14 in each call's own order. Each call reads its survey and leaves it as it was.
-use Rattle.std.specs.Prelude.{Bool, cond, false, not, true, List, [], ◌∷◌, ◌++◌, ℕ, ltb, ℤ, pos, drop, get_or, length, replicate}
+use Rattle.std.specs.Prelude.{Bool, cond, false, not, true, List, [], ◌∷◌, ◌++◌, ℕ, ltb, ℤ, drop, length, replicate}
 use Rattle.std.proofs.Math.Option.{Option, none, some}
 use Rattle.network.specs.Yard.{best, bounds, is_tree, tree_size}
 use Rattle.network.specs.Walk.{passes}
 use Rattle.network.specs.Survey.{network_of}
 use Rattle.network.specs.PlanList.{buffer_need, costs_of, filled}
-use Rattle.network.specs.Checked.{refuse_if, ◌or_else◌}
+use Rattle.network.specs.Checked.{Answer, Checked, number_of, refuse_if, ◌or_else◌}
 use Rattle.network.specs.Refusals.{checked_of}
-use Rattle.network.specs.declared.Answer.{Answer}
-use Rattle.network.specs.declared.Answer.TheVariants.{Plan, Refused as Answer-as-Refused}
-use Rattle.network.specs.declared.Checked.{Checked}
-use Rattle.network.specs.declared.Checked.TheVariants.{Fine, Refused}
+use Rattle.std.specs.Prelude.{Ok, Err}
+use Rattle.network.specs.declared.refusals.Rule.TheVariants.{AllowanceSpent, NoTree, NothingFits, ShortBuffer}
 use Rattle.network.specs.declared.Costs.{Costs}
-use Rattle.network.specs.declared.PlanCosts.{PlanCosts}
 use Rattle.network.specs.Network.{Network}
-use Rattle.network.specs.declared.Status.{Status}
+use Rattle.network.specs.declared.refusals.Status.{Status}
 
 -- ---- replies
 
@@ -30,39 +27,31 @@ pub record Reply : Type 0 where
 abbrev pub cost_values : Costs → List ℤ
 cost_values v = v.sum ∷ v.y
 
--- the costs of an answer, whose ceiling costs stand one by one, with these as a list
-abbrev pub together : PlanCosts → Costs
-together v = record { sum = v.sum; y = v.y1 ∷ v.y2 ∷ v.y3 ∷ [] }
-
--- and costs with their ceiling costs one by one
-unfoldable pub apart : Costs → PlanCosts
-apart v = record { sum = v.sum; y1 = get_or v.y 0 (pos 0); y2 = get_or v.y 1 (pos 0); y3 = get_or v.y 2 (pos 0) }
-
--- what each case of the answer enum says
+-- what each case of an answer says
 unfoldable pub says : Answer → Reply
-says (Plan v) = record { number = 0; place = 0; values = cost_values (together v) }
-says (Answer-as-Refused r) = record { number = r.number; place = r.place; values = [] }
+says (Ok v) = record { number = 0; place = 0; values = cost_values v }
+says (Err r) = record { number = number_of r.rule; place = r.place; values = [] }
 
 -- the reply by a check: the refusal it found, or else the values
 unfoldable pub reply : Checked → List ℤ → Reply
-reply Fine vs = record { number = 0; place = 0; values = vs }
-reply (Refused r) vs = record { number = r.number; place = r.place; values = [] }
+reply (Ok u) vs = record { number = 0; place = 0; values = vs }
+reply (Err r) vs = record { number = number_of r.rule; place = r.place; values = [] }
 
 -- the number and place of a call that only fills a buffer: those of the refusal, or 0, 0
 unfoldable pub status : Checked → Status
-status Fine = record { number = 0; place = 0 }
-status (Refused r) = record { number = r.number; place = r.place }
+status (Ok u) = record { number = 0; place = 0 }
+status (Err r) = record { number = number_of r.rule; place = r.place }
 
 -- what a check that found nothing lets through, and what stands where it refused
 unfoldable pub if_fine : {A : Type 0} → Checked → A → A → A
-if_fine Fine a b = a
-if_fine (Refused r) a b = b
+if_fine (Ok u) a b = a
+if_fine (Err r) a b = b
 
 -- ---- the judge of a drawn tree
 
 -- 1 to 8, 15, 18 and 19, then 11: not t links, not strictly rising, one not in the survey, or no tree
 unfoldable pub drawn_checked : List ℕ → List ℕ → Checked
-drawn_checked s drawn = checked_of s or_else refuse_if (not (is_tree (network_of s) drawn)) 11 0
+drawn_checked s drawn = checked_of s or_else refuse_if (not (is_tree (network_of s) drawn)) NoTree 0
 
 -- the reply to a drawn tree: its costs, or the refusal
 unfoldable pub judged : List ℕ → List ℕ → Reply
@@ -88,8 +77,8 @@ best_tree s given = let net = network_of s in best net (bounds net given)
 unfoldable pub asked_checked : List ℕ → List ℤ → ℕ → Checked
 asked_checked s given size =
     checked_of s
-    or_else refuse_if (ltb size (tree_size (network_of s))) 9 0
-    or_else refuse_if (is_none (best_tree s given)) 14 0
+    or_else refuse_if (ltb size (tree_size (network_of s))) ShortBuffer 0
+    or_else refuse_if (is_none (best_tree s given)) NothingFits 0
 
 -- the reply to a ceilings question: the best tree's costs, or the refusal
 unfoldable pub asked : List ℕ → List ℤ → ℕ → Reply
@@ -107,11 +96,11 @@ tree_after s given tree = if_fine (asked_checked s given (length tree)) (tree_wi
 
 -- 9: a list buffer of `size` bytes is below its need
 unfoldable pub room_checked : Network → ℕ → Checked
-room_checked net size = refuse_if (ltb size (buffer_need net)) 9 0
+room_checked net size = refuse_if (ltb size (buffer_need net)) ShortBuffer 0
 
 -- then 10: the solved count would pass the allowance
 unfoldable pub plans_checked : Network → ℕ → ℕ → Checked
-plans_checked net allowance size = room_checked net size or_else refuse_if (passes net allowance) 10 0
+plans_checked net allowance size = room_checked net size or_else refuse_if (passes net allowance) AllowanceSpent 0
 
 -- the list buffer of a yard: as it was on 9, 0 throughout on 10, and else the list with 0 after it
 unfoldable pub plans_after : Network → ℕ → List ℕ → List ℕ

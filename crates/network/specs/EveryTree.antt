@@ -7,13 +7,12 @@ use Rattle.network.specs.Network.{Network}
 use Rattle.network.specs.Yard.{tree_size, trees}
 use Rattle.network.specs.Survey.{network_of}
 use Rattle.network.specs.PlanList.{costs_of}
-use Rattle.network.specs.Checked.{refuse_if, ◌or_else◌}
+use Rattle.network.specs.Checked.{Checked, Counted, number_of, refuse_if, ◌or_else◌}
 use Rattle.network.specs.Refusals.{checked_of}
 use Rattle.network.specs.Calls.{Reply, cost_values, if_fine, reply, room_checked, status, tree_with}
-use Rattle.network.specs.declared.Checked.{Checked}
-use Rattle.network.specs.declared.Counted.{Counted}
-use Rattle.network.specs.declared.Counted.TheVariants.{Refused, Trees}
-use Rattle.network.specs.declared.Status.{Status}
+use Rattle.std.specs.Prelude.{Ok, Err}
+use Rattle.network.specs.declared.refusals.Rule.TheVariants.{NoSuchPlan, ShortBuffer, TooManyToEnumerate}
+use Rattle.network.specs.declared.refusals.Status.{Status}
 
 -- ---- the trees of a yard by their numbers
 
@@ -29,12 +28,12 @@ tree_at net r = get_or (trees net) r []
 
 -- 1 to 8, 15, 18 and 19, then 21: the survey has over 12 links, usable or not
 unfoldable pub trees_checked : List ℕ → Checked
-trees_checked s = checked_of s or_else refuse_if (ltb max_enumerated (network_of s).m) 21 0
+trees_checked s = checked_of s or_else refuse_if (ltb max_enumerated (network_of s).m) TooManyToEnumerate 0
 
 -- what each case of the enum says
 unfoldable pub says_count : Counted → Reply
-says_count (Trees n) = record { number = 0; place = 0; values = pos n ∷ [] }
-says_count (Refused r) = record { number = r.number; place = r.place; values = [] }
+says_count (Ok n) = record { number = 0; place = 0; values = pos n ∷ [] }
+says_count (Err r) = record { number = number_of r.rule; place = r.place; values = [] }
 
 -- the reply to the number of trees: how many there are, which may be none, or the refusal
 unfoldable pub count_reply : List ℕ → Reply
@@ -46,8 +45,8 @@ count_reply s = reply (trees_checked s) (pos (tree_count (network_of s)) ∷ [])
 unfoldable pub tree_checked : List ℕ → ℕ → ℕ → Checked
 tree_checked s r size =
     trees_checked s
-    or_else refuse_if (ltb size (tree_size (network_of s))) 9 0
-    or_else refuse_if (leb (tree_count (network_of s)) r) 13 0
+    or_else refuse_if (ltb size (tree_size (network_of s))) ShortBuffer 0
+    or_else refuse_if (leb (tree_count (network_of s)) r) NoSuchPlan 0
 
 -- the reply to number r: the tree's costs, or the refusal
 unfoldable pub tree_reply : List ℕ → ℕ → ℕ → Reply

@@ -11,7 +11,7 @@ use Rattle.network.specs.PlanList.{costs_of}
 use Rattle.network.specs.Refusals.{checked_of}
 use Rattle.network.specs.Calls.{cost_values, judged}
 use Rattle.network.specs.EveryTree.{tree_at, tree_count}
-use Rattle.network.specs.declared.Checked.TheVariants.{Fine}
+use Rattle.network.specs.Checked.{no_refusal}
 
 -- the trees of a yard by their numbers
 pub record Numbered (net : Network) : Type 0 where
@@ -34,7 +34,7 @@ pub record Counts (net : Network) (number : ℕ) (values : List ℤ) : Type 0 wh
 
 -- What is promised of the number of trees on survey s that replied with this number and these values: for every accepted survey of at most 12 links.
 pub record CountPromised (s : List ℕ) (number : ℕ) (values : List ℤ) : Type 0 where
-  pub counts : checked_of s ≡ Fine → (network_of s).m ≤ max_enumerated → Counts (network_of s) number values
+  pub counts : checked_of s ≡ no_refusal → (network_of s).m ≤ max_enumerated → Counts (network_of s) number values
 
 -- ---- tree r
 
@@ -55,5 +55,5 @@ pub record HandsOut (s : List ℕ) (r number : ℕ) (values : List ℤ) (links :
 -- What is promised of a call for tree r on survey s that replied so and left these bytes: for every accepted survey of at most 12 links, every number,
 -- and every tree buffer of t bytes or more, whatever it held.
 pub record TreePromised (s : List ℕ) (r : ℕ) (tree : List ℕ) (number : ℕ) (values : List ℤ) (left : List ℕ) : Type 0 where
-  pub hands : checked_of s ≡ Fine → (network_of s).m ≤ max_enumerated → tree_size (network_of s) ≤ length tree
+  pub hands : checked_of s ≡ no_refusal → (network_of s).m ≤ max_enumerated → tree_size (network_of s) ≤ length tree
       → HandsOut s r number values (take (tree_size (network_of s)) left)

@@ -1,5 +1,5 @@
 -- What callers rely on in an index and in a lookup. The contract of building has `IndexPromised`, that of a lookup `LookupPromised`.
-use Rattle.std.specs.Prelude.{true, false, List, ◌⊎◌, ◌≡◌, ℕ, ◌≤◌, ◌<◌, eqb, ℤ, length}
+use Rattle.std.specs.Prelude.{Ok, true, false, List, ◌⊎◌, ◌≡◌, ℕ, ◌≤◌, ◌<◌, eqb, ℤ, length}
 use Rattle.std.specs.Int.Signed.{le_z}
 use Rattle.order.specs.Lists.{◌∈◌, count}
 use Rattle.order.specs.Order.{dictionary, orderℤ}
@@ -8,8 +8,8 @@ use Rattle.network.specs.Calls.{Reply}
 use Rattle.network.specs.Fetching.{head_count}
 use Rattle.network.specs.Indexing.{declined, entries_from, index_after, index_key, index_need, meets, plan_sum, says_found}
 use Rattle.network.specs.Promise.{Archived}
-use Rattle.network.specs.declared.Found.TheVariants.{Plan}
-use Rattle.network.specs.declared.Status.{Status}
+use Rattle.network.specs.declared.refusals.Rule.TheVariants.{NoSuchPlan}
+use Rattle.network.specs.declared.refusals.Status.{Status}
 
 -- numbers that are the plan numbers of a list, each once, in the rising order of what plans stand by
 pub record Ordered (list numbers : List ℕ) : Type 0 where
@@ -38,11 +38,11 @@ pub record NoneMeets (list : List ℕ) (y : ℤ) : Type 0 where
 -- what a lookup by y has replied
 pub record LookupPromised (list index : List ℕ) (y : ℤ) (reply : Reply) : Type 0 where
   -- a plan is the cheapest that meets the value
-  pub cheapest : (r : ℕ) → reply ≡ says_found (Plan r) → IsCheapest list y r
+  pub cheapest : (r : ℕ) → reply ≡ says_found (Ok r) → IsCheapest list y r
   -- 13 says that none does
-  pub none : reply ≡ says_found (declined 13) → NoneMeets list y
+  pub none : reply ≡ says_found (declined NoSuchPlan) → NoneMeets list y
   -- either comes only with the list's own index: building into its buffer leaves it as it is
   pub own : (reply.number ≡ 0) ⊎ (reply.number ≡ 13) → index_after list index ≡ index
   -- on a list that a list call made, with what building left in a buffer of 2 bytes a plan or more, the reply is a plan or 13
   pub answers : (s buffer : List ℕ) → Archived s list → index_need list ≤ length buffer → index ≡ index_after list buffer
-      → ((r : ℕ) × (reply ≡ says_found (Plan r))) ⊎ (reply ≡ says_found (declined 13))
+      → ((r : ℕ) × (reply ≡ says_found (Ok r))) ⊎ (reply ≡ says_found (declined NoSuchPlan))

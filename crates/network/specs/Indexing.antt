@@ -8,15 +8,14 @@ use Rattle.order.specs.Sorted.{sort}
 use Rattle.order.specs.Least.{least}
 use Rattle.network.specs.Bytes.{little_endian, u16_at}
 use Rattle.network.specs.PlanList.{costs_at, join}
-use Rattle.network.specs.Checked.{refuse_if, ◌or_else◌}
+use Rattle.network.specs.Checked.{Checked, Found, number_of, refuse_if, ◌or_else◌}
 use Rattle.network.specs.Calls.{Reply, if_fine, status}
 use Rattle.network.specs.Fetching.{damaged, head_ceilings, head_count, head_slots, is_marked, plan_start}
-use Rattle.network.specs.declared.Checked.{Checked}
-use Rattle.network.specs.declared.Checked.TheVariants.{Fine, Refused}
+use Rattle.std.specs.Prelude.{Ok, Err}
+use Rattle.network.specs.declared.refusals.Rule.TheVariants.{DamagedList, NoSuchPlan, ShortIndex}
 use Rattle.network.specs.declared.Costs.{Costs}
-use Rattle.network.specs.declared.Found.{Found}
-use Rattle.network.specs.declared.Found.TheVariants.{Plan, Refused as Found-as-Refused}
-use Rattle.network.specs.declared.Status.{Status}
+use Rattle.network.specs.declared.refusals.Rule.{Rule}
+use Rattle.network.specs.declared.refusals.Status.{Status}
 
 -- ---- the index
 
@@ -62,7 +61,7 @@ unfit list = damaged list || not (all (is_marked list) (plan_numbers list))
 
 -- 12, then 16: an index buffer of `size` bytes is below 2 for each plan
 unfoldable pub index_checked : List ℕ → ℕ → Checked
-index_checked list size = refuse_if (unfit list) 12 0 or_else refuse_if (ltb size (index_need list)) 16 0
+index_checked list size = refuse_if (unfit list) DamagedList 0 or_else refuse_if (ltb size (index_need list)) ShortIndex 0
 
 -- the reply to building
 unfoldable pub index_status : List ℕ → ℕ → Status
@@ -101,21 +100,21 @@ cheapest list y = least orderℤ (plan_sum list) (meets list y) (plan_numbers li
 
 -- 12 and 16 as building, then 12: the buffer does not hold the index
 unfoldable pub lookup_checked : List ℕ → List ℕ → Checked
-lookup_checked list buffer = index_checked list (length buffer) or_else refuse_if (not (is_index list buffer)) 12 0
+lookup_checked list buffer = index_checked list (length buffer) or_else refuse_if (not (is_index list buffer)) DamagedList 0
 
 -- a refusal at place 0
-abbrev pub declined : ℕ → Found
-declined number = Found-as-Refused (record { number = number; place = 0 })
+abbrev pub declined : Rule → Found
+declined rule = Err (record { rule = rule; place = 0 })
 
 -- the plan that was found, or 13
 unfoldable pub found_plan : Option ℕ → Found
-found_plan none = declined 13
-found_plan (some r) = Plan r
+found_plan none = declined NoSuchPlan
+found_plan (some r) = Ok r
 
 -- the refusal of a check, or what was found
 unfoldable pub found_by : Checked → Option ℕ → Found
-found_by (Refused r) o = Found-as-Refused r
-found_by Fine o = found_plan o
+found_by (Err r) o = Err r
+found_by (Ok u) o = found_plan o
 
 -- what a lookup finds: the cheapest plan, or the refusal
 unfoldable pub looked_up : List ℕ → List ℕ → ℤ → Found
@@ -123,8 +122,8 @@ looked_up list buffer y = found_by (lookup_checked list buffer) (cheapest list y
 
 -- what each case of the enum says: number 0, place 0 and the plan's number as the one value, or the refusal and no value
 unfoldable pub says_found : Found → Reply
-says_found (Plan r) = record { number = 0; place = 0; values = pos r ∷ [] }
-says_found (Found-as-Refused r) = record { number = r.number; place = r.place; values = [] }
+says_found (Ok r) = record { number = 0; place = 0; values = pos r ∷ [] }
+says_found (Err r) = record { number = number_of r.rule; place = r.place; values = [] }
 
 -- the reply to a lookup
 unfoldable pub lookup_reply : List ℕ → List ℕ → ℤ → Reply

@@ -6,8 +6,8 @@ use Rattle.network.specs.Walk.{plans, solved_count}
 use Rattle.network.specs.Survey.{network_of}
 use Rattle.network.specs.PlanList.{join, max_need}
 use Rattle.network.specs.Calls.{list_checked}
-use Rattle.network.specs.declared.Checked.{Checked}
-use Rattle.network.specs.declared.Checked.TheVariants.{Fine, Refused}
+use Rattle.network.specs.Checked.{Checked, number_of}
+use Rattle.std.specs.Prelude.{Ok, Err}
 use Rattle.network.specs.Network.{Network}
 
 -- the decimal digits of n in ASCII, most significant first, where `fuel` is at least their number
@@ -59,8 +59,8 @@ plans_text net =
 
 -- the whole output, by what the list call's check found: the plans, or `refused N at P`
 abbrev pub text_of : Checked → Network → List ℕ
-text_of Fine net = plans_text net
-text_of (Refused r) net = line (refused_word ∷ natural r.number ∷ at_word ∷ natural r.place ∷ [])
+text_of (Ok u) net = plans_text net
+text_of (Err r) net = line (refused_word ∷ natural (number_of r.rule) ∷ at_word ∷ natural r.place ∷ [])
 
 -- what the program prints: the first 4,096 bytes of its input, or all, are the survey, and it allows 1,600 positions
 unfoldable pub printed : List ℕ → List ℕ

@@ -10,9 +10,9 @@ use Rattle.network.specs.Survey.{network_of}
 use Rattle.network.specs.PlanList.{buffer_need, costs_at, costs_of, filled, list_bytes}
 use Rattle.network.specs.Fetching.{fetch_links, fetch_number, head_count, head_slots, plan_start}
 use Rattle.network.specs.Refusals.{checked_of}
-use Rattle.network.specs.declared.Checked.TheVariants.{Fine}
+use Rattle.network.specs.Checked.{no_refusal}
 use Rattle.network.specs.Network.{Network}
-use Rattle.network.specs.declared.Status.{Status}
+use Rattle.network.specs.declared.refusals.Status.{Status}
 
 -- some tree of the yard attains v
 abbrev pub Attained : Network → List ℤ → Type 0
@@ -63,14 +63,14 @@ pub record Delivered (s : List ℕ) (size : ℕ) (r : Status) (left : List ℕ) 
 
 -- DEMAND 3: for every accepted survey, every buffer long enough, whatever it held before, and every allowance that is at least M.
 pub record Promised (s : List ℕ) (allowance : ℕ) (buffer : List ℕ) (r : Status) (left : List ℕ) : Type 0 where
-  pub delivers : checked_of s ≡ Fine → buffer_need (network_of s) ≤ length buffer → position_count (network_of s) ≤ allowance
+  pub delivers : checked_of s ≡ no_refusal → buffer_need (network_of s) ≤ length buffer → position_count (network_of s) ≤ allowance
       → Delivered s (length buffer) r left
 
 -- ---- the archive
 
 -- Bytes that begin with the list of an accepted survey: a list that a list call made, with whatever follows it.
 pub record Archived (s list : List ℕ) : Type 0 where
-  pub accepted : checked_of s ≡ Fine
+  pub accepted : checked_of s ≡ no_refusal
   pub rest : List ℕ
   pub bytes : list ≡ list_bytes (network_of s) ++ rest
 

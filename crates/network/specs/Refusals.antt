@@ -12,8 +12,9 @@ use Rattle.network.specs.Survey.{stations_in, sum_in, working_in}
 use Rattle.network.specs.Network.{Network}
 use Rattle.network.specs.Walk.{position_count}
 use Rattle.network.specs.Checked.{refuse_if, ◌or_else◌, first_refusal}
-use Rattle.network.specs.declared.Checked.{Checked}
+use Rattle.network.specs.Checked.{Checked}
 use Rattle.network.specs.declared.Layout.{Layout}
+use Rattle.network.specs.declared.refusals.Rule.TheVariants.{BadCeilings, BadCosts, BadEnds, BadLength, BadRanks, BadRest, BadStations, TooManyLinks, TooManyPositions, WrongLinkCount, WrongMark}
 
 -- x is not from low to high
 abbrev pub outside : ℕ → ℕ → ℕ → Bool
@@ -71,20 +72,20 @@ bad_costs p s bits = bad_sum s || absent_costs p bits
 -- the yard record of a survey with m links: its mark, 3, 4, 15, 18, 5, 6, all at place 0
 unfoldable pub yard_checked : List ℕ → Layout → ℕ → Checked
 yard_checked s l m =
-    refuse_if (not (mark_at s 0 l.yard.mark)) 2 0
-    or_else refuse_if (outside (stations_in s) 1 max_stations) 3 0
-    or_else refuse_if (ltb max_links m) 4 0
-    or_else refuse_if (bad_count s l m) 15 0
-    or_else refuse_if (bad_rest (stations_in s) (rest_in l s)) 18 0
-    or_else refuse_if (bad_ceilings l (ceilings_in s)) 5 0
-    or_else refuse_if (bad_ranks (length (working_in l s)) (ceilings_in s) (ranks_in l s)) 6 0
+    refuse_if (not (mark_at s 0 l.yard.mark)) WrongMark 0
+    or_else refuse_if (outside (stations_in s) 1 max_stations) BadStations 0
+    or_else refuse_if (ltb max_links m) TooManyLinks 0
+    or_else refuse_if (bad_count s l m) WrongLinkCount 0
+    or_else refuse_if (bad_rest (stations_in s) (rest_in l s)) BadRest 0
+    or_else refuse_if (bad_ceilings l (ceilings_in s)) BadCeilings 0
+    or_else refuse_if (bad_ranks (length (working_in l s)) (ceilings_in s) (ranks_in l s)) BadRanks 0
 
 -- the link record at an index, with room for so many costs, of a survey with n stations and p ceilings: its mark, 7, 8
 unfoldable pub link_checked : List ℕ → ℕ → List ℕ → ℕ → ℕ → ℕ → ℕ → Checked
 link_checked s at mark slots n p place =
-    refuse_if (not (mark_at s at mark)) 2 place
-    or_else refuse_if (bad_ends n (end_in s at 0) (end_in s at 1)) 7 place
-    or_else refuse_if (bad_costs p (sum_in s at) (cost_bits slots s at)) 8 place
+    refuse_if (not (mark_at s at mark)) WrongMark place
+    or_else refuse_if (bad_ends n (end_in s at 0) (end_in s at 1)) BadEnds place
+    or_else refuse_if (bad_costs p (sum_in s at) (cost_bits slots s at)) BadCosts place
 
 -- link i of a survey: its place is the link number plus 1
 abbrev pub link_checked_at : List ℕ → Layout → ℕ → Checked
@@ -97,7 +98,7 @@ links_checked s l m = first_refusal (link_checked_at s l) m
 -- the records of a survey: 1, the yard record, then the links
 unfoldable pub records_checked : Layout → List ℕ → Checked
 records_checked l s =
-    refuse_if (bad_length l (length s)) 1 0
+    refuse_if (bad_length l (length s)) BadLength 0
     or_else (yard_checked s l (link_count l s) or_else links_checked s l (link_count l s))
 
 -- 19, of a yard: M is above 1,600
@@ -106,8 +107,8 @@ too_many_positions net = ltb max_plans (position_count net)
 
 -- the whole survey: its records, then 19
 unfoldable pub checked_with : Layout → List ℕ → Checked
-checked_with l s = records_checked l s or_else refuse_if (too_many_positions (network_with l s (link_count l s))) 19 0
+checked_with l s = records_checked l s or_else refuse_if (too_many_positions (network_with l s (link_count l s))) TooManyPositions 0
 
--- a survey's first refusal; a survey is accepted if this is `Fine`
+-- a survey's first refusal; a survey is accepted if this is `no_refusal`
 abbrev pub checked_of : List ℕ → Checked
 checked_of s = checked_with (layout_of s) s

@@ -9,8 +9,8 @@ use Rattle.network.specs.Calls.{status}
 use Rattle.network.specs.Writing.{Link, figures_of, kind_of}
 use Rattle.network.specs.WritingPromise.{OfBytes}
 use Rattle.network.specs.SmallSurveys.{small_bytes, small_count, small_survey}
-use Rattle.network.specs.declared.Checked.TheVariants.{Fine}
-use Rattle.network.specs.declared.Status.{Status}
+use Rattle.network.specs.Checked.{no_refusal}
+use Rattle.network.specs.declared.refusals.Status.{Status}
 
 -- ---- the kind
 
@@ -27,7 +27,7 @@ pub record LinkOfSmallKind (x : Link) : Type 0 where
 -- a small survey: bytes that are accepted, with the old yard record, n = 3, p = 1, k1 = 1 and three such links
 pub record OfSmallKind (s : List ℕ) : Type 0 where
   pub bytes : OfBytes s
-  pub accepted : checked_of s ≡ Fine
+  pub accepted : checked_of s ≡ no_refusal
   pub kind : kind_of (layout_of s) ≡ 0x5944
   pub stations : (figures_of s).yard.n ≡ 3
   pub ceilings : (figures_of s).yard.p ≡ 1
@@ -62,7 +62,7 @@ pub record NumberOf (s : List ℕ) : Type 0 where
 -- say what these surveys are
 pub record SmallPromised (q : ℕ) (output : List ℕ) (r : Status) (left : List ℕ) : Type 0 where
   -- where the number is one of the 1,728 and the output has room, survey q stands at its front
-  pub made : q < small_count → small_bytes ≤ length output → (r ≡ status Fine) × (take small_bytes left ≡ small_survey q)
+  pub made : q < small_count → small_bytes ≤ length output → (r ≡ status no_refusal) × (take small_bytes left ≡ small_survey q)
   -- the survey of every number is a small one
   pub small : (u : ℕ) → u < small_count → OfSmallKind (small_survey u)
   -- every small survey is that of one number and of no other

@@ -6,9 +6,10 @@ use Rattle.frontier.specs.Frontier.{positions}
 use Rattle.network.specs.Checked.{refuse_if, ◌or_else◌}
 use Rattle.network.specs.Calls.{if_fine, status}
 use Rattle.network.specs.Writing.{Figures, Link, survey_at_front, survey_of}
-use Rattle.network.specs.declared.Checked.{Checked}
-use Rattle.network.specs.declared.Status.{Status}
+use Rattle.network.specs.Checked.{Checked}
+use Rattle.network.specs.declared.refusals.Status.{Status}
 use Rattle.network.specs.declared.YardFigures.{YardFigures}
+use Rattle.network.specs.declared.refusals.Rule.TheVariants.{NoSuchSurvey, ShortOutput}
 
 -- ---- the surveys in their order
 
@@ -66,7 +67,7 @@ small_bytes = 42
 
 -- 20: no survey has this number; then 17: an output of `size` bytes is shorter than a survey
 unfoldable pub small_checked : ℕ → ℕ → Checked
-small_checked q size = refuse_if (leb small_count q) 20 0 or_else refuse_if (ltb size small_bytes) 17 0
+small_checked q size = refuse_if (leb small_count q) NoSuchSurvey 0 or_else refuse_if (ltb size small_bytes) ShortOutput 0
 
 -- the reply
 unfoldable pub small_status : ℕ → ℕ → Status

@@ -1,5 +1,5 @@
 -- Document 01, "Bytes": the survey, which is one yard record and then link records only, and the network that its bytes say.
-use Rattle.std.specs.Prelude.{Bool, cond, List, [], ◌∷◌, ◌++◌, ℕ, zero, suc, ◌+◌, ◌-◌, ◌*◌, ◌/◌, ◌%◌, ltb, ℤ, negsuc, pos, drop, length, take}
+use Rattle.std.specs.Prelude.{Some, None, is_some, unwrap_or, Bool, cond, List, [], ◌∷◌, ◌++◌, ℕ, zero, suc, ◌+◌, ◌-◌, ◌*◌, ◌/◌, ◌%◌, ℤ, negsuc, pos, drop, length, take}
 use Rattle.std.specs.Int.{w16}
 use Rattle.network.specs.Capacities.{raise}
 use Rattle.network.specs.Bytes.{byte_at, i32_at, mark_at, signed, u16_at, u24_at}
@@ -50,8 +50,8 @@ plain =
       yard = record { mark = 0x59 ∷ 0x44 ∷ []; size = yard_size narrow_slots };
       fewest = 0;
       slots = narrow_slots;
-      count = 0;
-      rest = 0;
+      count = None;
+      rest = None;
       link = narrow_link;
     }
 
@@ -62,8 +62,8 @@ with_count =
       yard = record { mark = 0x59 ∷ 0x45 ∷ []; size = yard_size narrow_slots + 1 };
       fewest = 0;
       slots = narrow_slots;
-      count = yard_size narrow_slots;
-      rest = 0;
+      count = Some (yard_size narrow_slots);
+      rest = None;
       link = narrow_link;
     }
 
@@ -74,8 +74,8 @@ with_rest =
       yard = record { mark = 0x59 ∷ 0x46 ∷ []; size = yard_size narrow_slots + 1 + rest_size };
       fewest = 0;
       slots = narrow_slots;
-      count = yard_size narrow_slots;
-      rest = yard_size narrow_slots + 1;
+      count = Some (yard_size narrow_slots);
+      rest = Some (yard_size narrow_slots + 1);
       link = narrow_link;
     }
 
@@ -86,8 +86,8 @@ triple =
       yard = record { mark = 0x59 ∷ 0x47 ∷ []; size = yard_size wide_slots + 1 + rest_size };
       fewest = wide_slots;
       slots = wide_slots;
-      count = yard_size wide_slots;
-      rest = yard_size wide_slots + 1;
+      count = Some (yard_size wide_slots);
+      rest = Some (yard_size wide_slots + 1);
       link = wide_link;
     }
 
@@ -110,11 +110,19 @@ layout_of s = row_where (opens s) layouts
 
 -- the yard record has a link count
 abbrev pub has_count : Layout → Bool
-has_count l = ltb 0 l.count
+has_count l = is_some l.count
+
+-- where it has it; 0 stands for a place where it has none
+abbrev pub count_at : Layout → ℕ
+count_at l = unwrap_or l.count 0
 
 -- the yard record says which stations rest
 abbrev pub has_rest : Layout → Bool
-has_rest l = ltb 0 l.rest
+has_rest l = is_some l.rest
+
+-- where it says so; 0 stands for a place where it does not
+abbrev pub rest_at : Layout → ℕ
+rest_at l = unwrap_or l.rest 0
 
 -- how many link records follow the yard record
 abbrev pub link_count : Layout → List ℕ → ℕ
@@ -140,11 +148,11 @@ ranks_in l s = take l.slots (drop ranks_at s)
 
 -- the link count as it is written
 abbrev pub count_in : Layout → List ℕ → ℕ
-count_in l s = byte_at s l.count
+count_in l s = byte_at s (count_at l)
 
 -- the stations at rest, of 24 bits, low bit of the first byte first: bit j is set where station j rests, and no bit is where the layout has none
 unfoldable pub rest_in : Layout → List ℕ → ℕ
-rest_in l s = cond (has_rest l) (u24_at s l.rest) 0
+rest_in l s = cond (has_rest l) (u24_at s (rest_at l)) 0
 
 -- the working stations
 abbrev pub working_in : Layout → List ℕ → List ℕ

@@ -22,7 +22,7 @@ use Rattle.network.specs.WorkedYards.{A, apart, A₂, A₃, bare, costs, costs_a
 use Rattle.network.specs.WorkedYards.{links_a, link₃, list, list_a, list_a₃, list_winter, looked, minus, mixed, mixed₃, most_at_rest, one, output42, output_a}
 use Rattle.network.specs.WorkedYards.{output_a₃, output_solar, output_winter, pair, panels, plan, plan₃, refused, replied, resting, single, solar, sum_bits}
 use Rattle.network.specs.WorkedYards.{sums_a, sunny, tallied, three, tied, tripled, two, unmarked, winter, yard}
-use Rattle.network.specs.declared.Status.{Status}
+use Rattle.network.specs.declared.refusals.Status.{Status}
 use Rattle.network.specs.declared.YardFigures.{YardFigures}
 
 -- A question with its answer.

@@ -7,7 +7,7 @@ use Rattle.network.specs.Survey.{narrow_link, rest_size, triple, wide_link}
 use Rattle.network.specs.PlanList.{head_mark, join}
 use Rattle.network.specs.Calls.{Reply}
 use Rattle.network.specs.Count.{counted_yard, plain_yard, rested_yard}
-use Rattle.network.specs.declared.Status.{Status}
+use Rattle.network.specs.declared.refusals.Status.{Status}
 use Rattle.network.specs.declared.YardFigures.{YardFigures}
 
 -- ---- bytes as document 01 writes them

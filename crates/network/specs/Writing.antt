@@ -11,10 +11,11 @@ use Rattle.network.specs.PlanList.{join}
 use Rattle.network.specs.Checked.{first_refusal, refuse_if, ◌or_else◌}
 use Rattle.network.specs.Refusals.{bad_costs, bad_ends, bad_ranks, outside}
 use Rattle.network.specs.Calls.{if_fine, status}
-use Rattle.network.specs.declared.Checked.{Checked}
+use Rattle.network.specs.Checked.{Checked}
 use Rattle.network.specs.declared.Layout.{Layout}
-use Rattle.network.specs.declared.Status.{Status}
+use Rattle.network.specs.declared.refusals.Status.{Status}
 use Rattle.network.specs.declared.YardFigures.{YardFigures}
+use Rattle.network.specs.declared.refusals.Rule.TheVariants.{BadCeilings, BadCosts, BadEnds, BadRanks, BadStations, ShortOutput, TooManyLinks, WrongMark}
 
 -- ---- figures
 
@@ -96,16 +97,16 @@ survey_of f kind = survey_in (layout_for kind) f
 -- 3, 4, 5, 6 of a yard with m links, all at place 0
 unfoldable pub yard_figures_checked : YardFigures → ℕ → Checked
 yard_figures_checked y m =
-    refuse_if (outside y.n 1 max_stations) 3 0
-    or_else refuse_if (ltb max_links m) 4 0
-    or_else refuse_if (ltb narrow_slots y.p) 5 0
-    or_else refuse_if (bad_ranks y.n y.p (y.k1 ∷ y.k2 ∷ [])) 6 0
+    refuse_if (outside y.n 1 max_stations) BadStations 0
+    or_else refuse_if (ltb max_links m) TooManyLinks 0
+    or_else refuse_if (ltb narrow_slots y.p) BadCeilings 0
+    or_else refuse_if (bad_ranks y.n y.p (y.k1 ∷ y.k2 ∷ [])) BadRanks 0
 
 -- 7, 8 of a link
 unfoldable pub link_figures_checked : YardFigures → Link → ℕ → Checked
 link_figures_checked y x place =
-    refuse_if (bad_ends y.n x.first x.second) 7 place
-    or_else refuse_if (bad_costs y.p x.sum (bits_of w16 x.c1 ∷ bits_of w16 x.c2 ∷ [])) 8 place
+    refuse_if (bad_ends y.n x.first x.second) BadEnds place
+    or_else refuse_if (bad_costs y.p x.sum (bits_of w16 x.c1 ∷ bits_of w16 x.c2 ∷ [])) BadCosts place
 
 -- what stands for a link that is not there
 abbrev pub no_link : Link
@@ -123,7 +124,7 @@ figures_checked f = let m = length f.links in yard_figures_checked f.yard m or_e
 -- 2 for a kind that is not known, then the figures, then 17: an output of `size` bytes is shorter than the survey
 unfoldable pub write_checked : ℕ → Figures → ℕ → Checked
 write_checked kind f size =
-    refuse_if (unknown_kind kind) 2 0 or_else figures_checked f or_else refuse_if (ltb size (length (survey_of f kind))) 17 0
+    refuse_if (unknown_kind kind) WrongMark 0 or_else figures_checked f or_else refuse_if (ltb size (length (survey_of f kind))) ShortOutput 0
 
 -- the reply to writing
 unfoldable pub write_status : ℕ → Figures → ℕ → Status

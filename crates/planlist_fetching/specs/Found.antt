@@ -2,12 +2,14 @@
 use Rattle.std.specs.Prelude.{Bool, not, cond, ◌||◌, List, refl, ℕ, ◌+◌, ◌*◌, ◌≤◌, ◌<◌, ltb, length}
 use Rattle.std.proofs.Math.Bool.{true, false}
 use Rattle.std.proofs.Math.Path.{◌≡◌}
-use Rattle.std.proofs.Common.{sym, suc-mul, mul-le-mul_right, arith}
+use Rattle.std.proofs.Common.{sym, ◌∙◌, suc-mul, mul-le-mul_right, arith}
 use borrow.Author.Tests.{ltb-false, ltb-true, lt-ltb, le-ltb}
 use Rattle.network.specs.Limits.{max_ceilings, max_plans, max_tree}
 use Rattle.network.specs.Bytes.{mark_at}
 use Rattle.network.specs.PlanList.{head_mark, head_size, plan_size}
 use Rattle.network.proofs.Accepted.{or-false}
+use Rattle.network.specs.Checked.{number_of}
+use Rattle.network.specs.declared.refusals.Refusal.{Refusal}
 use Rattle.network.specs.Fetching.{damaged, fetch_number, head_ceilings, head_count, head_slots, head_tree_size, is_marked, plan_start}
 
 -- a list with room for its head and for its plans, which are not too many
@@ -77,3 +79,23 @@ module _ (list : List ℕ) (r : ℕ) where
       go true b c h e = absurd (omega arith)
       go false true c h e = (refl, h refl)
       go false false c h e = absurd (omega arith)
+
+-- ---- plan r found at an index, and not found
+
+pub record FoundAt (list : List ℕ) (r at : ℕ) : Type 0 where
+  pub number : fetch_number list r ≡ 0
+  pub start : at ≡ plan_start list r
+
+pub record NotFound (list : List ℕ) (r : ℕ) (e : Refusal) : Type 0 where
+  pub number : fetch_number list r ≡ number_of e.rule
+  pub refused : fetch_number list r ≡ 0 → ⊥
+
+-- its record lies inside
+pub found-inside : {list : List ℕ} {r at : ℕ} → FoundAt list r at → (head_size ≤ length list) × (at + plan_size (head_slots list) (head_tree_size list) ≤ length list)
+found-inside {list} {r} f =
+    let w = found list r f.number in
+    ((whole list w.0).long, omega (arith, f.start, plan-inside list r w.0 w.1))
+
+-- refused by a rule, whose number is not 0
+pub not-found : {list : List ℕ} {r n : ℕ} {e : Refusal} → fetch_number list r ≡ n → n ≡ number_of e.rule → (n ≡ 0 → ⊥) → NotFound list r e
+not-found e is apart = record { number = e ∙ is; refused = λ z. apart (sym e ∙ z) }

@@ -15,7 +15,7 @@ use Rattle.network.proofs.Meaning.{tree-size}
 use Rattle.network.proofs.NetworkFine.{survey-fine, survey-limits, survey-sound, tree-limit}
 use Rattle.network.specs.Promise.{Reads}
 use Rattle.network.proofs.Promise.{complete}
-use Rattle.network.specs.declared.Checked.TheVariants.{Fine}
+use Rattle.network.specs.Checked.{no_refusal}
 use Rattle.planlist_records.specs.Held.{Writable}
 use Rattle.planlist_fetching.specs.Fetched.{listed-costs, listed-count, listed-links, listed-number}
 
@@ -26,7 +26,7 @@ pub record Listable (s : List ℕ) : Type 0 where
   pub short : tree_size (network_of s) ≤ max_tree
   pub flat : (network_of s).p ≤ max_ceilings
 
-pub listable : (s : List ℕ) → checked_of s ≡ Fine → Listable s
+pub listable : (s : List ℕ) → checked_of s ≡ no_refusal → Listable s
 listable s accepted =
     let net = network_of s in
     let limits = survey-limits s accepted in
@@ -41,12 +41,12 @@ listable s accepted =
     }
 
 -- with whatever follows it, its head counts the plans,
-pub list_counted : (s rest : List ℕ) → checked_of s ≡ Fine → head_count (list_bytes (network_of s) ++ rest) ≡ length (plans (network_of s))
+pub list_counted : (s rest : List ℕ) → checked_of s ≡ no_refusal → head_count (list_bytes (network_of s) ++ rest) ≡ length (plans (network_of s))
 list_counted s rest accepted =
     let l = listable s accepted in listed-count (network_of s) rest l.full l.few l.short l.flat 0
 
 -- and record r is that of plan r, where records can hold the costs of all plans
-pub list-reads : (s rest : List ℕ) → checked_of s ≡ Fine
+pub list-reads : (s rest : List ℕ) → checked_of s ≡ no_refusal
     → ((ts : List ℕ) → ts ∈ plans (network_of s) → Writable (plan_slots (network_of s).p) (costs_of (network_of s) ts))
     → (r : ℕ) → r < length (plans (network_of s)) → Reads (list_bytes (network_of s) ++ rest) r (network_of s) (get_or (plans (network_of s)) r [])
 list-reads s rest accepted held r h =

@@ -9,7 +9,7 @@ use Rattle.order.proofs.Order.{le_refl}
 use Rattle.order.proofs.Perm.{pairwise-at}
 use Rattle.order.specs.Sorted.{Sorted}
 use Rattle.network.specs.PlanList.{plan_size, plan_sum_at}
-use Rattle.encoding.specs.Blocks.{blocks}
+use Rattle.encoding.specs.Blocks.{blocks, length-blocks}
 use Rattle.planlist_records.specs.Held.{sum-block}
 
 -- ---- definitions
@@ -115,3 +115,22 @@ pub lower-few : (x : ℤ) (bs : List (List ℕ)) → lower_sums x bs ≤ length 
 unfolding lower_sums
 lower-few x [] = omega arith
 lower-few x (b ∷ bs) = let ih = lower-few x bs in by-test (le_z x (record_sum b)) (λ e. rw e (omega arith)) (λ e. rw e (omega arith))
+
+-- behind them no record has a lower sum
+lower-behind : (x : ℤ) (bs : List (List ℕ)) → Sorted orderℤ record_sum bs → (i : ℕ) → lower_sums x bs ≤ i → i < length bs → le_z x (sum_at bs i) ≡ true
+unfolding lower_sums
+lower-behind x [] r i h k = absurd (omega arith)
+lower-behind x (b ∷ bs) r i h k =
+    by-test (le_z x (record_sum b))
+    (λ e. le_z-trans x (record_sum b) (sum_at (b ∷ bs) i) e (sorted-at orderℤ record_sum [] (b ∷ bs) r 0 i (omega arith) k))
+    (λ e. later (λ j m l. lower-behind x bs r.1 j m l) i (rw e at h) k)
+  where
+    later : ((j : ℕ) → lower_sums x bs ≤ j → j < length bs → le_z x (sum_at bs j) ≡ true) → (i : ℕ) → suc (lower_sums x bs) ≤ i → i < suc (length bs)
+        → le_z x (sum_at (b ∷ bs) i) ≡ true
+    later ih zero h k = absurd (omega arith)
+    later ih (suc j) h k = ih j (omega arith) (omega arith)
+
+pub no-lower : (x : ℤ) (z n : ℕ) (bs : List ℕ) (i : ℕ) → Ordered z n bs → lower_sums x (blocks z n bs) ≤ i → i < n → le_z x (plan_sum_at bs (i * z)) ≡ true
+no-lower x z n bs i o h k =
+    ap (le_z x) (sym (ap record_sum (block_at z n bs i k) ∙ sum-block bs (i * z) z o.wide))
+    ∙ lower-behind x (blocks z n bs) o.sums.rise i h (omega (arith, length-blocks z n bs))

@@ -17,8 +17,9 @@ pub record Insertable (slots : ℕ) (v : Costs) (t count : ℕ) (bs : List ℕ) 
   pub rise : RecordsRise slots (plan_records slots t count bs)
   pub level : Level slots v (plan_records slots t count bs)
 
--- the first r records of bs' are the first `count` of bs with the plan inserted
+-- the first r records of bs' are the first `count` of bs with the plan inserted, whose costs a record can hold
 pub record Inserted (slots : ℕ) (v : Costs) (links : List ℕ) (count : ℕ) (bs : List ℕ) (r : ℕ) (bs' : List ℕ) : Type 0 where
+  pub writable : Writable slots v
   pub few : r ≤ count + 1
   pub records-are : plan_records slots (length links) r bs' ≡ insert_record slots (plan_bytes slots v links) (plan_records slots (length links) count bs)
 

@@ -6,7 +6,7 @@ ghost use Rattle.planlist_frontier.specs.Taken.{Insertable, Inserted, PutInFront
 
 use crate::place::free_place;
 use crate::pruning::prune;
-use buffers::moves::move_up;
+use buffers::moves::move_within;
 use network::Costs;
 use network::records::HEAD_SIZE;
 use planlist_records::records::{plan_size, write_plan};
@@ -18,7 +18,7 @@ fn put(plans: &mut [u8], count: usize, slots: usize, v: Costs, links: &[u8]) -> 
 {
     let size = plan_size(slots, links.len());
     let kept = prune(plans, count, size, slots, v);
-    move_up(plans, 0, size, kept * size);
+    move_within(plans, 0, size, kept * size);
     write_plan(plans, 0, slots, v, links);
     kept + 1
 }
@@ -29,12 +29,13 @@ fn insert(plans: &mut [u8], count: usize, slots: usize, v: Costs, links: &[u8]) 
     ensures { Inserted slots v links.now count plans.old result plans.new }
 {
     let size = plan_size(slots, links.len());
-    let front = free_place(plans, count, size, slots, v);
-    if count < front {
-        return count;
+    match free_place(plans, count, size, slots, v) {
+        Some(front) => {
+            let start = front * size;
+            front + put(&mut plans[start..], count - front, slots, v, links)
+        }
+        None => count,
     }
-    let start = front * size;
-    front + put(&mut plans[start..], count - front, slots, v, links)
 }
 
 // Puts a plan into the frontier that stands behind the place of the list head, and returns the new count.

@@ -1,7 +1,9 @@
 -- The costs that a plan record holds.
 use Rattle.std.specs.Prelude.{◌≡◌, refl, List, [], ◌∷◌, ◌++◌, ℕ, zero, suc, ◌+◌, ◌*◌, ◌-◌, ◌≤◌, ◌<◌, ltb, ℤ, pos, drop, get_or, length, take}
 use Rattle.std.proofs.Math.Path.{sym}
-use Rattle.std.proofs.Common.{ap, ◌∙◌, arith, SFits, drop_at, drop-drop, get_or-drop, get_or-take, length-take-le, ltb-false, ltb-true}
+use Rattle.std.proofs.Common.{ap, ◌∙◌, arith, SFits, drop_at, drop-drop, get_or-drop, get_or-take, length-take-le, ltb-false, ltb-true, add-zero, subst, zero-add}
+use Rattle.std.specs.Array.{IsFromFnResult, IsFromFnResultFrom}
+use Rattle.std.specs.Fn.{Called, Mut}
 use Rattle.std.specs.Int.{w16, w32}
 use Rattle.std.proofs.Math.Seq.{ext_get_or}
 use Rattle.order.specs.Test.{by-test}
@@ -14,6 +16,25 @@ use Rattle.network.specs.declared.Costs.{Costs}
 use Rattle.encoding.specs.SignedRoundTrip.{i16-bytes, i32-bytes}
 use Rattle.encoding.specs.Blocks.{blocks, blocks-turn}
 use Rattle.planlist_records.specs.Records.{length-mark}
+
+-- an array that a function of the index made
+module _ {F A : Type 0} (g : Mut F (ℕ × Unit {0}) A) (f : F) (h : ℕ → A) (each : (i : ℕ) (r : A) (q : F) → Called g f (i, tt) r q → (q ≡ f) × (r ≡ h i)) where
+  made-from : (ys : List A) (i n : ℕ) (q : F) → q ≡ f → IsFromFnResultFrom g q ys i n → (j : ℕ) → j < n → (d : A) → get_or ys (i + j) d ≡ h (i + j)
+  made-from ys i zero q e m j k d = absurd (omega arith)
+  made-from ys i (suc n) q e (r, y, at, called, rest) zero k d =
+      let own : Called g f (i, tt) y r = subst (λ (u : F). Called g u (i, tt) y r) e called in
+      rw add-zero (at.1 d ∙ (each i y r own).1)
+  made-from ys i (suc n) q e (r, y, at, called, rest) (suc j) k d =
+      let own : Called g f (i, tt) y r = subst (λ (u : F). Called g u (i, tt) y r) e called in
+      let next : i + 1 + j ≡ i + suc j = omega arith in
+      subst (λ (l : ℕ). get_or ys l d ≡ h l) next (made-from ys (i + 1) n r (each i y r own).0 rest j (omega arith) d)
+
+  pub tabulate-made : (ys : List A) (n : ℕ) → IsFromFnResult g f ys n → (d : A) → ys ≡ tabulate h n
+  tabulate-made ys n m d =
+      ext_get_or d ys (tabulate h n) (m.long ∙ sym (tabulate-length h n))
+      (λ j k.
+      let l : j < n = omega (arith, m.long) in
+      subst (λ (i : ℕ). get_or ys i d ≡ h i) (zero-add j) (made-from ys 0 n f refl m.each j l d) ∙ sym (tabulate-at h n j l d))
 
 -- costs that a record with room for so many ceiling costs can hold
 pub record Writable (slots : ℕ) (v : Costs) : Type 0 where

@@ -1,11 +1,15 @@
 -- The two orders of costs: entry by entry, and by the first entry that differs.
-use Rattle.std.specs.Prelude.{◌≡◌, Bool, true, false, ◌&&◌, List, ◌∷◌, ℕ, ◌+◌, ◌≤◌, ◌<◌, drop, get_or, length}
-use Rattle.std.proofs.Math.Path.{refl, ap₂}
-use Rattle.std.proofs.Common.{sym, ◌∙◌, add-one, arith, drop_of_length-le, drop-cons}
+use Rattle.std.specs.Prelude.{◌≡◌, Bool, true, false, ◌&&◌, List, [], ◌∷◌, ℤ, length, Some}
+use Rattle.std.proofs.Math.Path.{refl, ap}
+use Rattle.std.proofs.Common.{sym, arith}
+use Rattle.std.specs.Cmp.Lexicographic.{slice_partial_cmp}
 use Rattle.std.specs.Int.Signed.{le_z}
-use Rattle.order.specs.Test.{by-test}
-use Rattle.order.specs.Order.{TotalOrder, dictionary_le, orderℤ, tie_break}
-use Rattle.order.proofs.Order.{dictionary-less, le_refl}
+use Rattle.std.specs.List.{list_all, zip}
+use Rattle.std.specs.Ordering.{int_cmp, is_le, is_some_and}
+use Rattle.std.proofs.lemmas.Cmp.{same_from_slice_cmp_tested}
+use Rattle.std.proofs.lemmas.Int.{ints}
+use Rattle.order.specs.Order.{dictionary_le, orderℤ, tie_break}
+use Rattle.order.proofs.Order.{dictionary-less}
 use Rattle.frontier.specs.Dominance.{le_all}
 use Rattle.frontier.proofs.Dominance.{le_all→dictionary_le}
 use Rattle.network.specs.Calls.{cost_values}
@@ -19,67 +23,20 @@ at_most v w = le_all orderℤ (cost_values v) (cost_values w)
 unfoldable pub in_order : Costs → Costs → Bool
 in_order v w = dictionary_le orderℤ (cost_values v) (cost_values w)
 
--- ---- the entries from an index on
+-- ---- entries compared side by side
 
-module _ {C : Type 0} (O : TotalOrder C) (a b : List C) (i : ℕ) where
-  -- none of a's is above that of b
-  unfoldable pub most_from : Bool
-  most_from = le_all O (drop i a) (drop i b)
+-- "at most" of each pair of entries
+pub all-pairs : (a b : List ℤ) → length a ≡ length b → list_all (λ p. le_z p.0 p.1) (zip a b) ≡ le_all orderℤ a b
+all-pairs [] [] e = refl
+all-pairs [] (y ∷ b) e = absurd (omega arith)
+all-pairs (x ∷ a) [] e = absurd (omega arith)
+all-pairs (x ∷ a) (y ∷ b) e = ap (λ t. le_z x y && t) (all-pairs a b (omega arith))
 
-  -- a's stand before b's in dictionary order, or are the same
-  unfoldable pub order_from : Bool
-  order_from = dictionary_le O (drop i a) (drop i b)
-
-module _ {C : Type 0} (O : TotalOrder C) (a b : List C) where
-  pub most-start : most_from O a b 0 ≡ le_all O a b
-  unfolding most_from
-  most-start = refl
-
-  pub order-start : order_from O a b 0 ≡ dictionary_le O a b
-  unfolding order_from
-  order-start = refl
-
-  module _ (i : ℕ) (same : length a ≡ length b) where
-    -- behind the last entries there is nothing to compare
-    module _ (past : length a ≤ i) where
-      past-b : length b ≤ i
-      past-b = omega arith
-
-      pub most-end : most_from O a b i ≡ true
-      unfolding most_from
-      most-end = ap₂ (le_all O) (drop_of_length-le a past) (drop_of_length-le b past-b)
-
-      pub order-end : order_from O a b i ≡ true
-      unfolding order_from
-      order-end = ap₂ (dictionary_le O) (drop_of_length-le a past) (drop_of_length-le b past-b)
-
-    module _ (d : C) (more : i < length a) where
-      first-a : drop i a ≡ get_or a i d ∷ drop (i + 1) a
-      first-a = rw add-one (drop-cons a i d more)
-
-      first-b : drop i b ≡ get_or b i d ∷ drop (i + 1) b
-      first-b = rw add-one (drop-cons b i d (omega arith))
-
-      -- the entries at i, and those behind them
-      pub most-turn : {t : Bool} → O.le (get_or a i d) (get_or b i d) ≡ t → most_from O a b i ≡ t && most_from O a b (i + 1)
-      unfolding most_from
-      most-turn e = ap₂ (le_all O) first-a first-b ∙ (λ j. e j && le_all O (drop (i + 1) a) (drop (i + 1) b))
-
-      order-turn : order_from O a b i ≡ tie_break (O.le (get_or a i d) (get_or b i d)) (O.le (get_or b i d) (get_or a i d)) (order_from O a b (i + 1))
-      unfolding order_from
-      order-turn = ap₂ (dictionary_le O) first-a first-b
-
-      -- where they are the same, those behind them decide
-      pub order_same : get_or a i d ≡ get_or b i d → order_from O a b i ≡ order_from O a b (i + 1)
-      order_same e = order-turn ∙ rw (e, le_refl O (get_or b i d))
-
-      -- and else they do
-      pub order-apart : (get_or a i d ≡ get_or b i d → ⊥) → order_from O a b i ≡ O.le (get_or a i d) (get_or b i d)
-      order-apart n =
-          order-turn
-          ∙ by-test (O.le (get_or a i d) (get_or b i d))
-          (λ e. by-test (O.le (get_or b i d) (get_or a i d)) (λ f. absurd (n (O.le_antisym _ _ e f))) (λ f. rw (e, f)))
-          (λ e. rw e)
+-- dictionary order is the order of slices
+pub by-slices : (a b : List ℤ) (r : Bool) → r ≡ is_some_and is_le (slice_partial_cmp (λ x y. Some (int_cmp x y)) a b) → r ≡ dictionary_le orderℤ a b
+by-slices =
+    same_from_slice_cmp_tested int_cmp is_le (dictionary_le orderℤ) refl (λ _ _. refl) (λ _ _. refl)
+    (λ x y xs ys o h. grind (arith, ints))
 
 -- ---- costs by their sums, and by the orders of their ceiling costs
 

@@ -32,6 +32,7 @@ pub const SUM_AT: usize = 2;
 pub const CEILING_COSTS_AT: usize = PLAN_FIELDS;
 
 // How many ceiling costs a plan record of a yard with p ceilings has room for.
+// Two slots or three: sizes are reckoned by the number, so no enum stands beside it.
 pub fn plan_slots(p: u8) -> usize
     ensures { (result ≡ plan_slots p) × (result ≤ wide_slots) }
 {
@@ -61,13 +62,13 @@ pub fn plan_size(slots: usize, t: usize) -> usize
     PLAN_FIELDS + 2 * slots + t
 }
 
-// Writes ceiling costs, two bytes each.
+// Writes ceiling costs, two bytes each. By places: of a slice written through chunks_exact_mut a proof knows the length alone.
 fn write_ceilings(out: &mut [u8], at: usize, y: &[i16])
     requires { at + 2 * length y.now ≤ length out.old }
     ensures { out.new ≡ overwrite out.old at (ceiling_bytes y.now) }
 {
-    for i in 0..y.len() {
-        write_i16(out, at + 2 * i, y[i]);
+    for (i, cost) in y.iter().enumerate() {
+        write_i16(out, at + 2 * i, *cost);
     }
 }
 

@@ -5,43 +5,41 @@ use Rattle.std.proofs.Common.{ap}
 use borrow.Author.Tests.{le-ltb, lt-ltb}
 use Rattle.network.specs.Yard.{best, bounds, tree_size}
 use Rattle.network.specs.PlanList.{costs_of}
-use Rattle.network.specs.Checked.{refuse_if, ◌or_else◌}
+use Rattle.network.specs.Checked.{Answer, no_refusal, refuse_if, ◌or_else◌}
 use Rattle.network.specs.Refusals.{checked_of}
 use Rattle.network.specs.Survey.{network_of}
 use Rattle.network.specs.Calls.{asked, asked_checked, best_tree, cost_values, if_fine, is_none, links_of, reply, says, tree_after, tree_with}
-use Rattle.network.proofs.Meaning.{together-apart}
-use Rattle.network.specs.declared.Answer.{Answer}
-use Rattle.network.specs.declared.Answer.TheVariants.{Refused as Answer-as-Refused}
-use Rattle.network.specs.declared.Checked.TheVariants.{Fine, Refused}
+use Rattle.std.specs.Prelude.{Err}
+use Rattle.network.specs.declared.refusals.Rule.TheVariants.{NothingFits, ShortBuffer}
 use Rattle.network.specs.declared.Costs.{Costs}
 use Rattle.network.specs.Network.{Network}
-use Rattle.network.specs.declared.Refusal.{Refusal}
+use Rattle.network.specs.declared.refusals.Refusal.{Refusal}
 use Rattle.solver.specs.Question.{answer_of}
 
 -- what an answer says, and what it leaves, where the last test is whether a tree fits
-answer-says : (net : Network) (o : Option (List ℕ)) → says (answer_of net o) ≡ reply (refuse_if (is_none o) 14 0) (cost_values (costs_of net (links_of o)))
+answer-says : (net : Network) (o : Option (List ℕ)) → says (answer_of net o) ≡ reply (refuse_if (is_none o) NothingFits 0) (cost_values (costs_of net (links_of o)))
 unfolding answer_of says reply refuse_if
 answer-says net none = refl
-answer-says net (some ts) = ap (λ (v : Costs). record { number = 0; place = 0; values = cost_values v }) (together-apart net ts)
+answer-says net (some ts) = refl
 
-answer-leaves : (o : Option (List ℕ)) (tree : List ℕ) → tree_with o tree ≡ if_fine (refuse_if (is_none o) 14 0) (tree_with o tree) tree
+answer-leaves : (o : Option (List ℕ)) (tree : List ℕ) → tree_with o tree ≡ if_fine (refuse_if (is_none o) NothingFits 0) (tree_with o tree) tree
 unfolding tree_with if_fine refuse_if
 answer-leaves none tree = refl
 answer-leaves (some ts) tree = refl
 
 module _ (s : List ℕ) (given : List ℤ) (tree : List ℕ) where
   -- the survey is refused
-  pub asked-refused : (r : Refusal) → checked_of s ≡ Refused r → says (Answer-as-Refused r) ≡ asked s given (length tree)
+  pub asked-refused : (r : Refusal) → checked_of s ≡ Err r → says (Err r) ≡ asked s given (length tree)
   unfolding asked asked_checked reply says ◌or_else◌
   asked-refused r e = rw e
 
-  pub refused-after : (r : Refusal) → checked_of s ≡ Refused r → tree ≡ tree_after s given tree
+  pub refused-after : (r : Refusal) → checked_of s ≡ Err r → tree ≡ tree_after s given tree
   unfolding tree_after asked_checked if_fine ◌or_else◌
   refused-after r e = rw e
 
-  module _ (accepted : checked_of s ≡ Fine) (net : Network) (network : net ≡ network_of s) where
+  module _ (accepted : checked_of s ≡ no_refusal) (net : Network) (network : net ≡ network_of s) where
     -- the buffer is below t
-    pub asked-short : length tree < tree_size net → says (Answer-as-Refused (record { number = 9; place = 0 })) ≡ asked s given (length tree)
+    pub asked-short : length tree < tree_size net → says (Err (record { rule = ShortBuffer; place = 0 })) ≡ asked s given (length tree)
     unfolding asked asked_checked reply says refuse_if ◌or_else◌
     asked-short h = rw (accepted, ← network, lt-ltb (length tree) (tree_size net) h)
 

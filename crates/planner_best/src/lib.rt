@@ -8,13 +8,13 @@ ghost use Rattle.network.specs.Cut.{CutNoticed};
 
 use kruskal_order::usable::order_usable;
 use network::capacities::{CEILINGS_HELD, LINKS_HELD};
-use network::{Answer, Checked, Refusal};
+use network::{Costs, Refusal, Rule};
 use solver::question::solve;
 use survey_reading::reader::read_survey;
 
 // The best tree under the numbers given for the ceilings, of which those for absent ones are ignored: its costs, with its links in the first t bytes of
 // the tree buffer, or the refusal.
-pub fn best(survey: &[u8], given: [i16; CEILINGS_HELD], tree: &mut [u8]) -> Answer
+pub fn best(survey: &[u8], given: [i16; CEILINGS_HELD], tree: &mut [u8]) -> Result<Costs, Refusal>
     ensures reply { says result ≡ asked survey.now given (length tree.old) }
     ensures leaves { tree.new ≡ tree_after survey.now given tree.old }
     ensures promised { BestPromised survey.now given tree.old (says result).number (says result).values tree.new }
@@ -23,33 +23,15 @@ pub fn best(survey: &[u8], given: [i16; CEILINGS_HELD], tree: &mut [u8]) -> Answ
     let mut ends = [0u8; 2 * LINKS_HELD];
     let mut sums = [0u32; LINKS_HELD];
     let mut costs = [0i16; CEILINGS_HELD * LINKS_HELD];
-    let read = read_survey(survey, &mut ends, &mut sums, &mut costs);
-    let checked = read.checked;
-    let shape = read.shape;
-    match checked {
-        Checked::Refused(refusal) => Answer::Refused(refusal),
-        Checked::Fine => {
-            if tree.len() < shape.t as usize {
-                return Answer::Refused(Refusal {
-                    number: 9,
-                    place: 0,
-                });
+    // By match: `?` copies the network once more, which short questions feel.
+    match read_survey(survey, &mut ends, &mut sums, &mut costs) {
+        Err(refusal) => Err(refusal),
+        Ok(net) => {
+            if tree.len() < net.shape.t as usize {
+                return Err(Refusal::of(Rule::ShortBuffer));
             }
-            let m = shape.m;
-            let p = shape.p as usize;
-            let size = p * m;
-            let usable = order_usable(shape.rest, &ends[..2 * m], &sums[..m]);
-            let order = usable.link;
-            let count = usable.count;
-            solve(
-                shape,
-                &ends[..2 * m],
-                &sums[..m],
-                &costs[..size],
-                &order[..count],
-                &given[..p],
-                tree,
-            )
+            let usable = order_usable(net.shape.rest, net.ends, net.sums);
+            solve(net, usable.links(), &given[..net.shape.p as usize], tree)
         }
     }
 }

@@ -8,7 +8,7 @@ use Rattle.std.proofs.Math.Option.{Option, none, some}
 use Rattle.std.proofs.Math.Path.{refl, sym, ap, subst⁻¹}
 use Rattle.std.proofs.Math.ListN.{drop, length-append, take-append-drop}
 use Rattle.std.specs.Int.Signed.{mag}
-use Rattle.order.specs.Test.{by-test}
+use Rattle.order.specs.Test.{by-test, clash}
 use Rattle.order.proofs.Test.{both, fails}
 use Rattle.order.specs.Lists.{◌∈◌, all}
 use Rattle.order.specs.Order.{dictionary, orderℕ}
@@ -16,15 +16,16 @@ use Rattle.order.proofs.Order.{equal→≡}
 use Rattle.order.proofs.Sorted.{numbers-mem}
 use Rattle.network.specs.Walk.{plans}
 use Rattle.network.specs.Survey.{network_of}
-use Rattle.network.specs.Calls.{Reply}
+use Rattle.network.specs.Calls.{Reply, status}
 use Rattle.network.specs.Fetching.{damaged, fetch_number, head_count, is_marked}
 use Rattle.network.specs.Indexing.{cheapest, declined, entries_from, found_plan, index_after, index_in, index_need, index_of}
-use Rattle.network.specs.Indexing.{index_status, is_index, looked_up, lookup_reply, plan_numbers, says_found, unfit}
+use Rattle.network.specs.Indexing.{index_checked, is_index, looked_up, lookup_reply, plan_numbers, says_found, unfit}
 use Rattle.network.specs.IndexPromise.{IndexPromised, LookupPromised, Ordered}
 use Rattle.network.specs.Promise.{Archived}
-use Rattle.network.specs.declared.Found.{Found}
-use Rattle.network.specs.declared.Found.TheVariants.{Plan}
-use Rattle.network.specs.declared.Status.{Status}
+use Rattle.std.specs.Prelude.{Ok, is_ok}
+use Rattle.network.proofs.CheckedLaws.{status-fine}
+use Rattle.network.specs.Checked.{Checked, Found, no_refusal}
+use Rattle.network.specs.declared.refusals.Rule.TheVariants.{NoSuchPlan}
 use Rattle.planlist_fetching.specs.Found.{number-damaged, number-marked}
 use Rattle.index_keys.specs.Order.{AllBytes}
 use Rattle.index_building.specs.Entries.{entry_length, entry_bytes}
@@ -100,34 +101,36 @@ module _ (list buffer : List ℕ) where
   unfolding index_in
   index-long = omega (arith, length-append (entry_bytes (index_of list)) (drop (index_need list) buffer), entry_length (index_of list), index-length list)
 
-  pub index-promised : {r : Status} {left : List ℕ} → r ≡ index_status list (length buffer) → left ≡ index_after list buffer → IndexPromised list buffer r left
+  pub index-promised : {r : Checked} {left : List ℕ} → r ≡ index_checked list (length buffer) → left ≡ index_after list buffer
+      → IndexPromised list buffer (status r) left
+  unfolding status
   index-promised {r} {left} e f =
       record {
-        ordered = λ z. go z (cases list (length buffer));
-        succeeds = λ s a room. e ∙ sym (built-fits list buffer (archived-fit s list a) room refl).0;
+        ordered = λ z. go (status-fine r z) (cases list (length buffer));
+        succeeds = λ s a room. ap status (e ∙ sym (built-fits list buffer (archived-fit s list a) room refl).0);
       }
     where
-      go : r ≡ record { number = 0; place = 0 } → Case list (length buffer) → Ordered list (entries_from (head_count list) 0 left)
-      go z (unfit-case u) = let n = ap (λ (x : Status). x.number) (sym z ∙ e ∙ sym (built-unfit list buffer u).0) in absurd (omega arith)
-      go z (short-case u h) = let n = ap (λ (x : Status). x.number) (sym z ∙ e ∙ sym (built-short list buffer u h).0) in absurd (omega arith)
+      go : r ≡ no_refusal → Case list (length buffer) → Ordered list (entries_from (head_count list) 0 left)
+      go z (unfit-case u) = clash refl (ap is_ok (sym z ∙ e ∙ sym (built-unfit list buffer u).0))
+      go z (short-case u h) = clash refl (ap is_ok (sym z ∙ e ∙ sym (built-short list buffer u h).0))
       go z (fits-case u h) =
           subst⁻¹ (λ (l : List ℕ). Ordered list (entries_from (head_count list) 0 l)) (f ∙ sym (built-fits list buffer u h refl).1) (in_order u)
 
 -- ---- a lookup
 
-plan-zero : (r : ℕ) → (says_found (Plan r)).number ≡ 0
+plan-zero : (r : ℕ) → (says_found (Ok r)).number ≡ 0
 unfolding says_found
 plan-zero r = refl
 
-none-thirteen : (says_found (declined 13)).number ≡ 13
+none-thirteen : (says_found (declined NoSuchPlan)).number ≡ 13
 unfolding says_found
 none-thirteen = refl
 
-missed : found_plan none ≡ declined 13
+missed : found_plan none ≡ declined NoSuchPlan
 unfolding found_plan
 missed = refl
 
-found-one : (r : ℕ) → found_plan (some r) ≡ Plan r
+found-one : (r : ℕ) → found_plan (some r) ≡ Ok r
 unfolding found_plan
 found-one r = refl
 
@@ -161,12 +164,12 @@ module _ (list index : List ℕ) (y : ℤ) where
   by_number : (n : ℕ) → number ≡ n → ¬ (n ≡ 12) → ¬ (n ≡ 16) → Answered
   by_number n e a b = answered (λ z. a (sym e ∙ z)) (λ z. b (sym e ∙ z))
 
-  plan-cheapest : (o : Option ℕ) (r : ℕ) → says_found (found_plan o) ≡ says_found (Plan r) → o ≡ some r
+  plan-cheapest : (o : Option ℕ) (r : ℕ) → says_found (found_plan o) ≡ says_found (Ok r) → o ≡ some r
   unfolding found_plan says_found
   plan-cheapest none r e = let z = ap (λ (x : Reply). x.number) e in absurd (omega arith)
   plan-cheapest (some q) r e = ap some (ap (λ (x : Reply). mag (get_or x.values 0 (pos 0))) e)
 
-  none-cheapest : (o : Option ℕ) → says_found (found_plan o) ≡ says_found (declined 13) → o ≡ none
+  none-cheapest : (o : Option ℕ) → says_found (found_plan o) ≡ says_found (declined NoSuchPlan) → o ≡ none
   unfolding found_plan says_found
   none-cheapest none e = refl
   none-cheapest (some q) e = let z = ap (λ (x : Reply). x.number) e in absurd (omega arith)
@@ -181,19 +184,19 @@ module _ (list index : List ℕ) (y : ℤ) where
       ∙ take-append-drop (index_need list) index
 
   -- number 0 is that of a plan, and 13 that no plan meets the value
-  pub reply-plan : (lookup_reply list index y).number ≡ 0 → (r : ℕ) × (lookup_reply list index y ≡ says_found (Plan r))
+  pub reply-plan : (lookup_reply list index y).number ≡ 0 → (r : ℕ) × (lookup_reply list index y ≡ says_found (Ok r))
   unfolding lookup_reply
   reply-plan e = go (cheapest list y) (by_number 0 e (λ z. omega arith) (λ z. omega arith)).found
     where
-      go : (o : Option ℕ) → looked_up list index y ≡ found_plan o → (r : ℕ) × (lookup_reply list index y ≡ says_found (Plan r))
+      go : (o : Option ℕ) → looked_up list index y ≡ found_plan o → (r : ℕ) × (lookup_reply list index y ≡ says_found (Ok r))
       go none q = let z = sym e ∙ ap (λ (f : Found). (says_found f).number) (q ∙ missed) ∙ none-thirteen in absurd (omega arith)
       go (some r) q = (r, ap says_found (q ∙ found-one r))
 
-  pub reply-thirteen : (lookup_reply list index y).number ≡ 13 → lookup_reply list index y ≡ says_found (declined 13)
+  pub reply-thirteen : (lookup_reply list index y).number ≡ 13 → lookup_reply list index y ≡ says_found (declined NoSuchPlan)
   unfolding lookup_reply
   reply-thirteen e = go (cheapest list y) (by_number 13 e (λ z. omega arith) (λ z. omega arith)).found
     where
-      go : (o : Option ℕ) → looked_up list index y ≡ found_plan o → lookup_reply list index y ≡ says_found (declined 13)
+      go : (o : Option ℕ) → looked_up list index y ≡ found_plan o → lookup_reply list index y ≡ says_found (declined NoSuchPlan)
       go none q = ap says_found (q ∙ missed)
       go (some r) q = let z = sym e ∙ ap (λ (f : Found). (says_found f).number) (q ∙ found-one r) ∙ plan-zero r in absurd (omega arith)
 
@@ -222,14 +225,14 @@ module _ (list index : List ℕ) (y : ℤ) where
       same : reply.number ≡ number
       same = ap (λ (x : Reply). x.number) e
 
-      plan-number : (r : ℕ) → reply ≡ says_found (Plan r) → number ≡ 0
+      plan-number : (r : ℕ) → reply ≡ says_found (Ok r) → number ≡ 0
       plan-number r q = sym same ∙ ap (λ (x : Reply). x.number) q ∙ plan-zero r
 
-      none_number : reply ≡ says_found (declined 13) → number ≡ 13
+      none_number : reply ≡ says_found (declined NoSuchPlan) → number ≡ 13
       none_number q = sym same ∙ ap (λ (x : Reply). x.number) q ∙ none-thirteen
 
       go : (s buffer : List ℕ) → Archived s list → index_need list ≤ length buffer → index ≡ index_after list buffer → (o : Option ℕ) → cheapest list y ≡ o
-          → ((r : ℕ) × (reply ≡ says_found (Plan r))) ⊎ (reply ≡ says_found (declined 13))
+          → ((r : ℕ) × (reply ≡ says_found (Ok r))) ⊎ (reply ≡ says_found (declined NoSuchPlan))
       go s buffer a room made o q =
           let fit = archived-fit s list a in
           let is : index ≡ index_in list buffer = made ∙ sym (built-fits list buffer fit room refl).1 in
@@ -237,6 +240,6 @@ module _ (list index : List ℕ) (y : ℤ) where
           let long : index_need list ≤ length index = omega (arith, ap length is, index-long list buffer) in
           answer o (e ∙ ap says_found (sym (looked-held list index y fit long held) ∙ ap found_plan q))
         where
-          answer : (o : Option ℕ) → reply ≡ says_found (found_plan o) → ((r : ℕ) × (reply ≡ says_found (Plan r))) ⊎ (reply ≡ says_found (declined 13))
+          answer : (o : Option ℕ) → reply ≡ says_found (found_plan o) → ((r : ℕ) × (reply ≡ says_found (Ok r))) ⊎ (reply ≡ says_found (declined NoSuchPlan))
           answer none z = inr (z ∙ ap says_found missed)
           answer (some r) z = inl (r, z ∙ ap says_found (found-one r))

@@ -11,19 +11,20 @@ use Rattle.network.proofs.NetworkFine.{survey-sound}
 use Rattle.network.specs.Promise.{Promised}
 use Rattle.network.proofs.Promise.{complete}
 use Rattle.network.specs.Network.{Network}
-use Rattle.network.specs.declared.Checked.TheVariants.{Fine, Refused}
-use Rattle.network.specs.declared.Refusal.{Refusal}
-use Rattle.network.specs.declared.Status.{Status}
+use Rattle.std.specs.Prelude.{Err}
+use Rattle.network.specs.Checked.{no_refusal}
+use Rattle.network.specs.declared.refusals.Refusal.{Refusal}
+use Rattle.network.specs.declared.refusals.Status.{Status}
 use Rattle.planlist_fetching.specs.Listable.{list_counted, list-reads}
 use Rattle.walk.specs.Call.{CostsHeld}
 
 -- a survey that is refused is not accepted
-pub refused-held : (s : List ℕ) {q : Refusal} {net : Network} {r : Status} → checked_of s ≡ Refused q → checked_of s ≡ Fine → CostsHeld net r
+pub refused-held : (s : List ℕ) {q : Refusal} {net : Network} {r : Status} → checked_of s ≡ Err q → checked_of s ≡ no_refusal → CostsHeld net r
 refused-held s e f = let z : ◌≡◌ {A = ℕ} 0 1 = cc in absurd (omega arith)
 
 -- THE PROMISE KEPT
 pub promised : (s : List ℕ) (allowance : ℕ) (buffer : List ℕ) {r : Status} {left : List ℕ} → r ≡ list_status s allowance (length buffer)
-    → left ≡ list_after s allowance buffer → (checked_of s ≡ Fine → CostsHeld (network_of s) r) → Promised s allowance buffer r left
+    → left ≡ list_after s allowance buffer → (checked_of s ≡ no_refusal → CostsHeld (network_of s) r) → Promised s allowance buffer r left
 unfolding list_status list_checked room_checked plans_checked plans_after list_after if_fine status refuse_if ◌or_else◌
 promised s allowance buffer {r} {left} e f held =
     record {

@@ -5,18 +5,18 @@ use Rattle.std.proofs.Math.Path.{ap}
 use borrow.Author.Tests.{le-leb, le-ltb, lt-leb, lt-ltb}
 use Rattle.std.proofs.Math.Dec.{leb, ltb}
 use Rattle.std.proofs.Common.{take_at}
-use Rattle.network.specs.Checked.{refuse_if, ◌or_else◌}
+use Rattle.network.specs.Checked.{Checked, no_refusal, refuse_if, ◌or_else◌}
 use Rattle.network.specs.Calls.{if_fine, status}
 use Rattle.network.specs.Writing.{survey_at_front}
 use Rattle.network.specs.SmallSurveys.{small_after, small_bytes, small_checked, small_status, small_survey, small_count}
 use Rattle.network.specs.SmallPromise.{SmallPromised}
-use Rattle.network.specs.declared.Checked.TheVariants.{Fine}
-use Rattle.network.specs.declared.Status.{Status}
+use Rattle.std.specs.Prelude.{Err}
+use Rattle.network.specs.declared.refusals.Rule.TheVariants.{NoSuchSurvey, ShortOutput}
 use Rattle.small_surveys.specs.Kind.{survey-number, survey-order, survey-size, survey-small}
 
 module _ (q : ℕ) (output : List ℕ) where
   -- where the number is one of the surveys' and the output has room, nothing is refused
-  nothing : q < small_count → small_bytes ≤ length output → small_checked q (length output) ≡ Fine
+  nothing : q < small_count → small_bytes ≤ length output → small_checked q (length output) ≡ no_refusal
   unfolding small_checked refuse_if ◌or_else◌
   nothing h room =
       let some-survey : leb small_count q ≡ false = lt-leb small_count q h in
@@ -25,7 +25,7 @@ module _ (q : ℕ) (output : List ℕ) where
 
   -- the survey then stands at the front
   made : q < small_count → small_bytes ≤ length output
-      → (small_status q (length output) ≡ status Fine) × (take small_bytes (small_after q output) ≡ small_survey q)
+      → (small_status q (length output) ≡ status no_refusal) × (take small_bytes (small_after q output) ≡ small_survey q)
   unfolding small_status small_after if_fine survey_at_front
   made h room = (
     ap status (nothing h room),
@@ -33,24 +33,25 @@ module _ (q : ℕ) (output : List ℕ) where
   )
 
   -- the reply, what is left, and what callers rely on
-  abbrev pub Kept : Status → List ℕ → Type 0
-  Kept r left = (r ≡ small_status q (length output)) × ((left ≡ small_after q output) × SmallPromised q output r left)
+  abbrev pub Kept : Checked → List ℕ → Type 0
+  Kept r left = (r ≡ small_checked q (length output)) × ((left ≡ small_after q output) × SmallPromised q output (status r) left)
 
-  kept : {r : Status} {left : List ℕ} → r ≡ small_status q (length output) → left ≡ small_after q output → Kept r left
+  kept : {r : Checked} {left : List ℕ} → r ≡ small_checked q (length output) → left ≡ small_after q output → Kept r left
+  unfolding small_status
   kept reply leaves = (
     reply,
     (leaves, record { made = λ h room. rw (reply, leaves) (made h room); small = survey-small; once = survey-number; ordered = survey-order }),
   )
 
   -- no survey has the number
-  pub by_number : small_count ≤ q → Kept (record { number = 20; place = 0 }) output
-  unfolding small_status small_after small_checked refuse_if ◌or_else◌ status if_fine
+  pub by_number : small_count ≤ q → Kept (Err (record { rule = NoSuchSurvey; place = 0 })) output
+  unfolding small_after small_checked refuse_if ◌or_else◌ if_fine
   by_number h = let e : leb small_count q ≡ true = le-leb small_count q h in kept (rw e) (rw e)
 
   module _ (h : q < small_count) where
     -- the output is too short
-    pub by-room : length output < small_bytes → Kept (record { number = 17; place = 0 }) output
-    unfolding small_status small_after small_checked refuse_if ◌or_else◌ status if_fine
+    pub by-room : length output < small_bytes → Kept (Err (record { rule = ShortOutput; place = 0 })) output
+    unfolding small_after small_checked refuse_if ◌or_else◌ if_fine
     by-room g =
         let some-survey : leb small_count q ≡ false = lt-leb small_count q h in
         let short : ltb (length output) small_bytes ≡ true = lt-ltb (length output) small_bytes g in
@@ -58,6 +59,6 @@ module _ (q : ℕ) (output : List ℕ) where
 
     -- the survey is written
     pub by-survey : small_bytes ≤ length output → {left : List ℕ} → left ≡ survey_at_front (small_survey q) output
-        → Kept (record { number = 0; place = 0 }) left
-    unfolding small_status small_after status if_fine
+        → Kept no_refusal left
+    unfolding small_after if_fine
     by-survey room e = kept (rw (nothing h room)) (rw (nothing h room) e)

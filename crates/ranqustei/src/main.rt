@@ -4,12 +4,12 @@
 mod print;
 
 use network::limits::MAX_INPUT;
+use std::io;
 
-const INPUT: i32 = 0;
-
-// The input, or as much of it as is taken, is the survey.
-fn main() {
-    let mut input = [0u8; MAX_INPUT];
-    let len = io::read_full(INPUT, &mut input);
-    print::plan(&input[..len]);
+// The input, or as much of it as is taken, is the survey. That a write fails is nothing that the program reports.
+fn main(rt: HostRuntime) -> io::Result<()> {
+    let survey = console::read_input(rt.stdin(), MAX_INPUT, rt.alloc())?;
+    let text = print::plans(&survey, rt.alloc())?;
+    let _written = rt.print(text);
+    Ok(())
 }

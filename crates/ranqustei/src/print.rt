@@ -1,81 +1,94 @@
 // What the program prints for a survey.
-use console::{number, refusal, row, signed16, signed32, text};
-use encoding::numbers::{read_u16, read_u32};
+use console::{Refused, Row};
+use network::Costs;
 use network::limits::{MAX_NEED, MAX_PLANS};
-use network::records::HEAD_SIZE;
-use network::{Answer, PlanCosts, Status};
 use planner::{fetch_links, fetch_number, judge, list};
+use std::alloc::{AllocError, Global};
+use std::fmt;
 
-// A space and a ceiling cost, where the ceiling is present.
-fn ceiling(y: i16, present: bool) {
-    if present {
-        text(b" ");
-        signed16(y);
-    }
+// What the head of a list says: how many plans it has, how many positions were solved for it, and of how many ceilings.
+#[derive(Clone, Copy)]
+struct Head {
+    plans: u16,
+    solved: u32,
+    ceilings: usize,
 }
 
-// The ceiling costs of the first p ceilings.
-fn ceilings(y: &[i16], p: u8) {
-    for i in 0..y.len() {
-        ceiling(y[i], i < p as usize);
-    }
-}
-
-// The sum and the present ceiling costs.
-fn costs(v: PlanCosts, p: u8) {
-    let y = [v.y1, v.y2, v.y3];
-    signed32(v.sum);
-    ceilings(&y, p);
-}
-
-// The line of plan r.
-fn line(survey: &[u8], plans: &[u8], r: u32, p: u8) {
-    if fetch_number(plans, r) == 0 {
-        let ts = fetch_links(plans, r);
-        let answer = judge(survey, ts);
-        let Answer::Plan(v) = answer else {
-            return;
+impl Head {
+    // The head of a list that has one.
+    fn of(list: &[u8]) -> Option<Head> {
+        let [_, _, c0, c1, s0, s1, s2, s3, _, p, ..] = list else {
+            return None;
         };
-        costs(v, p);
-        row(b" links", ts);
-        text(b"\n");
+        Some(Head {
+            plans: u16::from_le_bytes([*c0, *c1]),
+            solved: u32::from_le_bytes([*s0, *s1, *s2, *s3]),
+            ceilings: usize::from(*p),
+        })
     }
 }
 
-// `plans C solved Q`
-fn head(count: u16, solved: u32) {
-    text(b"plans ");
-    number(count as u64);
-    text(b" solved ");
-    number(solved as u64);
-    text(b"\n");
+impl fmt::Display for Head {
+    fn fmt<W: fmt::Write>(&self, f: &mut fmt::Formatter<W>) -> fmt::Result {
+        write!(f, "plans {} solved {}", self.plans, self.solved)
+    }
 }
 
-// The plans of a list.
-fn lines(survey: &[u8], plans: &[u8]) {
-    if HEAD_SIZE <= plans.len() {
-        let count = read_u16(plans, 2);
-        let p = plans[9];
-        head(count, read_u32(plans, 4));
-        for r in 0..count {
-            line(survey, plans, r as u32, p);
+// A plan of a list: its costs, of which those of the ceilings that are present are printed, and its links.
+#[derive(Clone, Copy)]
+struct Plan<'a> {
+    costs: Costs,
+    ceilings: usize,
+    links: &'a [u8],
+}
+
+impl<'a> Plan<'a> {
+    // Plan r of a survey's list, with the costs that the judge gives it.
+    fn fetched(survey: &[u8], list: &'a [u8], r: u32, ceilings: usize) -> Option<Plan<'a>> {
+        if fetch_number(list, r) != 0 {
+            return None;
+        }
+        let links = fetch_links(list, r);
+        let Ok(costs) = judge(survey, links) else {
+            return None;
+        };
+        Some(Plan {
+            costs,
+            ceilings,
+            links,
+        })
+    }
+}
+
+impl fmt::Display for Plan<'_> {
+    fn fmt<W: fmt::Write>(&self, f: &mut fmt::Formatter<W>) -> fmt::Result {
+        write!(f, "{}", self.costs.sum)?;
+        for y in self.costs.y.iter().take(self.ceilings) {
+            write!(f, " {y}")?;
+        }
+        write!(f, "{}", Row("links", self.links))
+    }
+}
+
+// The head of a survey's list and its plans, a line each.
+fn lines(survey: &[u8], list: &[u8], alloc: Global) -> Result<String, AllocError> {
+    let mut text = String::new(alloc);
+    if let Some(head) = Head::of(list) {
+        writeln!(text, "{head}")?;
+        for r in 0..u32::from(head.plans) {
+            if let Some(plan) = Plan::fetched(survey, list, r, head.ceilings) {
+                writeln!(text, "{plan}")?;
+            }
         }
     }
-}
-
-// The reply to a list call, and the plans of its list.
-fn reply(survey: &[u8], r: Status, plans: &[u8]) {
-    if r.number == 0 {
-        lines(survey, plans);
-    } else {
-        refusal(r.number, r.place);
-        text(b"\n");
-    }
+    Ok(text)
 }
 
 // The plans of a survey, or its refusal. The buffer has the most bytes that a list needs, and all positions may be solved.
-pub fn plan(survey: &[u8]) {
-    let mut plans = [0u8; MAX_NEED];
-    let r = list(survey, MAX_PLANS as u32, &mut plans);
-    reply(survey, r, &plans);
+pub fn plans(survey: &[u8], alloc: Global) -> Result<String, AllocError> {
+    let mut buffer = vec![in alloc; 0u8; MAX_NEED]?;
+    match list(survey, MAX_PLANS as u32, &mut buffer) {
+        Ok(()) => lines(survey, &buffer, alloc),
+        Err(refusal) => format!(in alloc; "{}\n", Refused(refusal)),
+    }
 }

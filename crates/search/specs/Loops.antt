@@ -1,10 +1,10 @@
 -- The search over all sets: what is left of a loop over them at a turn, and what it comes to.
-use Rattle.std.specs.Prelude.{ℕ, suc, ◌+◌, ◌-◌, ◌/◌, ◌%◌, ◌≤◌, ◌<◌, Bool, true, false, ◌≡◌, leb, length, take, drop}
+use Rattle.std.specs.Prelude.{Option, ℕ, suc, ◌+◌, ◌-◌, ◌/◌, ◌%◌, ◌≤◌, ◌<◌, Bool, true, false, ◌≡◌, leb, length, take, drop}
 use mathlib.Core.List.{List, [], ◌∷◌, map, ◌++◌, foldl, foldl-append}
 use mathlib.Core.List.Memᴰ
 use mathlib.Core.List.Memᴰ.{head as here}
 use mathlib.Core.List.Memᴰ.{tail as there}
-use Rattle.std.proofs.Common.{⊎_elim, ◌∙◌, add-one, arith, leb-true, length-drop, drop_of_length-le}
+use Rattle.std.proofs.Common.{⊎_elim, ◌∙◌, add-one, arith, leb-true, drop_of_length-le}
 use Rattle.std.proofs.Math.Path.{refl, sym, ap}
 use Rattle.std.proofs.lemmas.Bool.{not-false, not-true}
 use Rattle.std.proofs.Math.ListN.{get_or}
@@ -28,7 +28,6 @@ use Rattle.search_trials.specs.Sets.{higher, lower, pair, sets, singles, trials}
 use Rattle.search_trials.specs.Search.{Best, considered, offered, tried, tried_if}
 use Rattle.search_trials.specs.Stands.{grown_from}
 use Rattle.search_trials.specs.Rest.{drop-sublist, from_place, loses-more, loses_to, losing, rest_of}
-use Rattle.search_trials.specs.declared.rest.Rest.{Rest}
 use Rattle.search_trials.specs.Grows.{ring}
 use Rattle.search_trials.specs.Trials.{Joining, ring-tried, two-tried}
 use Rattle.search.specs.Begun.{Tryable, fitting}
@@ -37,17 +36,14 @@ pair-sum : (c : ℕ → ℕ) (x y : ℕ) → sum c (pair x y) ≡ c x + c y
 unfolding lower higher
 pair-sum c x y = by-test (leb x y) (λ k. rw k (omega arith)) (λ k. rw k (omega arith))
 
--- the links from a place on can be tried too; the first of them is the one at the place, and some are left before the end
-pub place-tryable : {ends sums l : List ℕ} (i : ℕ) → Tryable ends sums l → Tryable ends sums (take (length l - i) (drop i l))
+-- the links from a place on can be tried too
+pub place-tryable : {ends sums l : List ℕ} (i : ℕ) → Tryable ends sums l → Tryable ends sums (drop i l)
 place-tryable {sums = sums} {l} i v =
-    rw (from_place l i)
-    (record { order = sublist-in-order sums (drop-sublist l i) v.order; joining = λ e m. v.joining e (sublist-⊆ (drop-sublist l i) e m) })
+    record { order = sublist-in-order sums (drop-sublist l i) v.order; joining = λ e m. v.joining e (sublist-⊆ (drop-sublist l i) e m) }
 
-pub place-first : (l : List ℕ) (i : ℕ) → i < length l → get_or (take (length l - i) (drop i l)) 0 0 ≡ get_or l i 0
-place-first l i h = rw (from_place l i, drop-cons l i 0 h)
-
-pub place-some : (l : List ℕ) (i : ℕ) → i < length l → 0 < length (take (length l - i) (drop i l))
-place-some l i h = rw (from_place l i) (omega (arith, length-drop i l))
+-- a link and those behind it, as a part of a slice has them
+pub place-list : (l : List ℕ) (i : ℕ) → i < length l → get_or l i 0 ∷ take (length l - (i + 1)) (drop (i + 1) l) ≡ drop i l
+place-list l i h = rw (from_place l (i + 1), drop-cons l i 0 h, add-one i)
 
 -- the rest of links in rising order of cost
 sorted-drop : (c : ℕ → ℕ) (l : List ℕ) (i : ℕ) → Sorted orderℕ c l → Sorted orderℕ c (drop i l)
@@ -98,7 +94,7 @@ module _ (ends sums : List ℕ) (goal : ℕ) (base : List ℕ) where
   ones-end b w l i h e = rw (drop_of_length-le l h) at e
 
   -- where the set of the link at i loses, those behind it lose too
-  pub ones-lose : Sorted orderℕ (sum_at sums) base → (b w : Best) (l : List ℕ) (i : ℕ) (rest : Rest) (c : ℕ) → Sorted orderℕ (sum_at sums) l → i < length l
+  pub ones-lose : Sorted orderℕ (sum_at sums) base → (b w : Best) (l : List ℕ) (i : ℕ) (rest : Option ℕ) (c : ℕ) → Sorted orderℕ (sum_at sums) l → i < length l
       → rest ≡ rest_of sums base goal 1 → c ≡ sum_at sums (get_or l i 0) → loses_to rest c b.found b.sum ≡ true → tried_ones b l i ≡ w → b ≡ w
   unfolding tried_ones singles
   ones-lose by-cost b w l i rest c sorted h e f k q =
@@ -179,7 +175,7 @@ module _ (ends sums : List ℕ) (goal : ℕ) (ks patterns base : List ℕ) where
   pairs_end b w l i h e = rw (drop_of_length-le l h) at e
 
   -- where the set with the link at i loses, those behind it lose too
-  pub pairs-lose : Sorted orderℕ (sum_at sums) base → (b w : Best) (l : List ℕ) (i : ℕ) (rest : Rest) (c d : ℕ)
+  pub pairs-lose : Sorted orderℕ (sum_at sums) base → (b w : Best) (l : List ℕ) (i : ℕ) (rest : Option ℕ) (c d : ℕ)
       → Sorted orderℕ (sum_at sums) l → i < length l
       → rest ≡ rest_of sums base goal 2 → c ≡ sum_at sums (get_or l 0 0) → d ≡ sum_at sums (get_or l i 0) → loses_to rest (c + d) b.found b.sum ≡ true
       → with_pairs b l i ≡ w → b ≡ w

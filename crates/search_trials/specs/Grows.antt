@@ -24,7 +24,8 @@ use Rattle.network.specs.Yard.{ends_at}
 use Rattle.forest.specs.Groups.{Led, apart, apart-labels, apart-led, joined, joined-labels, joined-led}
 use Rattle.forest.specs.declared.Forest as groups
 use Rattle.kruskal.specs.Base.{kept}
-use Rattle.kruskal.specs.Grown.{Holds, Near, bare-holds, flags_of, grown-holds, with_flag}
+use Rattle.forest.specs.History.{Near}
+use Rattle.kruskal.specs.Grown.{Holds, bare-holds, flags_of, grown-holds, with_flag}
 use Rattle.kruskal.specs.Tree.{bare, linked}
 use Rattle.search_trials.specs.BaseAlone.{Kept}
 use Rattle.search_trials.specs.Marks.{flag-turn}
@@ -69,8 +70,8 @@ module _ (ends : List ℕ) where
   -- a base that was kept has no ring
   pub base-forest : (base : List ℕ) → Kept ends base → Near ends base → NoRing ends base
   base-forest base made near =
-      let f = kept-forest apart made.links apart-led (subst (Near ends) made.kept_of near) in
-      let g = subst (λ (L : Labelling). Forest L (map (ends_at ends) (kept ends apart made.links))) (fun_ext apart-labels) f in
+      let f = kept-forest apart base apart-led (subst (Near ends) made.kept_of near) in
+      let g = subst (λ (L : Labelling). Forest L (map (ends_at ends) (kept ends apart base))) (fun_ext apart-labels) f in
       subst (NoRing ends) (sym made.kept_of) g
 
 -- ---- the tree of a set

@@ -8,6 +8,8 @@ pub mod Search
 pub mod Stands
 -- the flags of a trial's links, as they are set one by one
 pub mod Marks
+-- what the base is has one proof at most
+pub mod Once
 -- the trial that takes the lead
 pub mod Chosen
 -- what a walk over links adds to a forest

@@ -1,12 +1,12 @@
 -- The flags of a trial's links, as a program sets them: those of the base one by one, then those of its exceptions.
-use Rattle.std.specs.Prelude.{ℕ, zero, suc, ◌+◌, ◌-◌, ◌≤◌, ◌<◌, Bool, true, false, cond, ◌&&◌, ◌≡◌, refl, eqb, ltb, length, get_or, replicate, set, take}
+use Rattle.std.specs.Prelude.{Option, Some, None, ℕ, zero, suc, ◌+◌, ◌≤◌, ◌<◌, Bool, true, false, cond, ◌&&◌, ◌≡◌, refl, eqb, length, get_or, replicate, set, take}
 use Rattle.std.proofs.Math.Bool.{not}
 use mathlib.Core.List.Memᴰ
 use mathlib.Core.List.Memᴰ.{head as here}
 use mathlib.Core.List.Memᴰ.{tail as there}
 use mathlib.Core.List.{List, [], ◌∷◌, ◌++◌, append-nil, foldl, foldl-append}
 use Rattle.std.proofs.Math.Logic.{⊎_elim}
-use Rattle.std.proofs.Common.{sym, ◌∙◌, subst, le_of_suc-le-suc, add-one, length-take-le, take_all, take-suc, ltb-false, ltb-true}
+use Rattle.std.proofs.Common.{sym, ◌∙◌, ne_eqb, subst, le_of_suc-le-suc, add-one, length-take-le, take_all, take-suc}
 use Rattle.std.proofs.Math.Path.{ap}
 use Rattle.std.proofs.Math.Decide.{ℕ_discrete}
 use native.Mathlib.Omega.{arith}
@@ -21,7 +21,9 @@ use Rattle.network.specs.Capacities.{links_held}
 use Rattle.spanning.specs.Places.{at_places}
 use Rattle.kruskal.specs.Grown.{with_flag, flags_of}
 use Rattle.search_trials.specs.Flags.{flag-member}
-use Rattle.search_trials.specs.Stands.{exceptions_of, links_by}
+use Rattle.search_trials.specs.Stands.{exceptions_of, links_by, place_of}
+use Rattle.search_trials.specs.declared.best.ExceptionSet.{ExceptionSet}
+use Rattle.search_trials.specs.declared.best.ExceptionSet.TheVariants.{Empty, One, Two}
 use Rattle.search_trials.specs.declared.best.Trial.{Trial}
 
 -- each link of a base has a flag, and none stands in it twice
@@ -29,10 +31,20 @@ pub record Distinct (base : List ℕ) : Type 0 where
   pub apart : Apart (λ x. x) base
   pub below : (e : ℕ) → e ∈ base → e < links_held
 
--- the exceptions of a trial have flags
+-- the exceptions of a set have flags
+abbrev pub SetFlagged : ExceptionSet → Type 0
+SetFlagged Empty = Unit {0}
+SetFlagged (One link) = link < links_held
+SetFlagged (Two link other) = (link < links_held) × (other < links_held)
+
+-- so do those of a trial
 pub record Flagged (t : Trial) : Type 0 where
-  pub link : t.link < links_held
-  pub other : t.other < links_held
+  pub set : SetFlagged t.set
+
+-- the link at a place stays in a base without the link at another place, if any
+abbrev pub stays : Option ℕ → ℕ → Bool
+stays None k = true
+stays (Some lost) k = not (eqb k lost)
 
 -- a base without the links at two places
 unfoldable pub without : ℕ → ℕ → List ℕ → List ℕ
@@ -121,60 +133,28 @@ module _ (lost lost2 : ℕ) (base : List ℕ) where
       → taken ≡ flags_of (without lost lost2 base)
   without_end k h e = rw (take_all k base h) at e
 
+-- a link of the base stays where it is not the one at the place
+pub stays-there : (base : List ℕ) (lost : Option ℕ) (k : ℕ) → k < length base → stays lost k ≡ not (eqb k (place_of base lost))
+stays-there base None k h = rw (ne_eqb k (length base) (λ q. omega arith))
+stays-there base (Some lost) k h = refl
+
 -- ---- and then the exceptions
 
--- the base's links that a trial keeps, and its first exception
-unfoldable pub with_first : List ℕ → Trial → List ℕ
-with_first base t = without t.lost t.lost2 base ++ take 1 (exceptions_of t)
+module _ (base : List ℕ) (t : Trial) {taken : List Bool} (e : taken ≡ flags_of (without (place_of base t.lost) (place_of base t.lost2) base)) where
+  -- the base's links that a trial keeps
+  abbrev rest : List ℕ
+  rest = without (place_of base t.lost) (place_of base t.lost2) base
 
--- none, one, or two
-pub exceptions-none : (t : Trial) → t.size ≤ 0 → exceptions_of t ≡ []
-unfolding exceptions_of
-exceptions-none t h = let e : t.size ≡ 0 = omega arith in rw e
+  pub none-set : t.set ≡ Empty → taken ≡ flags_of (links_by base t)
+  unfolding links_by exceptions_of without
+  none-set q = rw q e
 
-pub exceptions-one : (t : Trial) → 0 < t.size → t.size ≤ 1 → exceptions_of t ≡ t.link ∷ []
-unfolding exceptions_of
-exceptions-one t h k = let e : t.size ≡ 1 = omega arith in rw e
+  pub one-set : {a : ℕ} → t.set ≡ One a → set taken a true ≡ flags_of (links_by base t)
+  unfolding links_by exceptions_of without
+  one-set {a} q = rw (q, e) (flags-more rest a ∙ flags-swap rest (a ∷ []))
 
-pub exceptions-two : (t : Trial) → 1 < t.size → exceptions_of t ≡ t.link ∷ t.other ∷ []
-unfolding exceptions_of
-exceptions-two t h = go (t.size - 2) (omega arith)
-  where
-    go : (n : ℕ) → t.size ≡ suc (suc n) → exceptions_of t ≡ t.link ∷ t.other ∷ []
-    go n e = rw e
-
-exceptions-first : (t : Trial) → 0 < t.size → take 1 (exceptions_of t) ≡ t.link ∷ []
-exceptions-first t h = by-test (ltb 1 t.size)
-    (λ e. rw (exceptions-two t (ltb-true 1 t.size e)))
-    (λ e. rw (exceptions-one t h (ltb-false 1 t.size e)))
-
-exceptions-few : (t : Trial) → t.size ≤ 1 → take 1 (exceptions_of t) ≡ exceptions_of t
-exceptions-few t h = by-test (ltb 0 t.size)
-    (λ e. rw (exceptions-one t (ltb-true 0 t.size e) h))
-    (λ e. rw (exceptions-none t (ltb-false 0 t.size e)))
-
-module _ (base : List ℕ) (t : Trial) where
-  -- the first exception, where there is one
-  module _ {taken : List Bool} (e : taken ≡ flags_of (without t.lost t.lost2 base)) where
-    pub first-left : t.size ≤ 0 → taken ≡ flags_of (with_first base t)
-    unfolding with_first
-    first-left h = e ∙ rw (exceptions-none t h, append-nil (without t.lost t.lost2 base))
-
-    pub first-set : 0 < t.size → set taken t.link true ≡ flags_of (with_first base t)
-    unfolding with_first
-    first-set h = rw (e, exceptions-first t h) (flags-more (without t.lost t.lost2 base) t.link)
-
-  -- and the second one
-  module _ {taken : List Bool} (e : taken ≡ flags_of (with_first base t)) where
-    pub second-left : t.size ≤ 1 → taken ≡ flags_of (links_by base t)
-    unfolding with_first links_by without
-    second-left h = e ∙ rw (exceptions-few t h) (flags-swap (without t.lost t.lost2 base) (exceptions_of t))
-
-    pub second-set : 1 < t.size → set taken t.other true ≡ flags_of (links_by base t)
-    unfolding with_first links_by without
-    second-set h =
-        let w = without t.lost t.lost2 base in
-        rw (e, exceptions-two t h)
-        (flags-more (w ++ (t.link ∷ [])) t.other
-        ∙ ap flags_of (append_snoc w t.link (t.other ∷ []))
-        ∙ flags-swap w (t.link ∷ t.other ∷ []))
+  pub two-set : {a b : ℕ} → t.set ≡ Two a b → set (set taken a true) b true ≡ flags_of (links_by base t)
+  unfolding links_by exceptions_of without
+  two-set {a} {b} q =
+      rw (q, e, flags-more rest a)
+      (flags-more (rest ++ (a ∷ [])) b ∙ ap flags_of (append_snoc rest a (b ∷ [])) ∙ flags-swap rest (a ∷ b ∷ []))

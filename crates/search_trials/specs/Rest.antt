@@ -1,10 +1,10 @@
 -- Sets that cannot lead to a better tree: the base has too few links beside them, or even its cheapest cost too much. The base is in rising
 -- order of cost.
-use Rattle.std.specs.Prelude.{ℕ, zero, suc, ◌+◌, ◌-◌, ◌*◌, ◌≤◌, ◌<◌, Bool, true, false, cond, not, ◌&&◌, ◌||◌, ◌≡◌, eqb, ltb, drop, take}
+use Rattle.std.specs.Prelude.{Option, Some, None, IfSome, is_some, refl, ℕ, zero, suc, ◌+◌, ◌-◌, ◌*◌, ◌≤◌, ◌<◌, Bool, true, false, cond, ◌&&◌, ◌≡◌, eqb, ltb, drop, take}
 use mathlib.Core.List.{List, [], ◌∷◌, foldl}
 use mathlib.Core.List.Sublistᴰ
 use mathlib.Core.List.{Sublistᴰ}
-use Rattle.std.proofs.Common.{sym, ap, ap₂, ◌∙◌, arith, length-drop, take-append-drop, take_all}
+use Rattle.std.proofs.Common.{sym, ap, ◌∙◌, arith, length-drop, take-append-drop, take_all}
 use Rattle.std.proofs.Math.Nat.{mul-le-mul_right}
 use borrow.Author.Tests.{eqb-true, le-ltb, lt-ltb, ltb-true, ne_eqb}
 use Rattle.std.proofs.Math.ListN.{length}
@@ -20,40 +20,31 @@ use Rattle.network.specs.Yard.{sum_at}
 use Rattle.trees_costs.specs.Added.{Below, sum-le, sum_of}
 use Rattle.kruskal.specs.Tree.{Tree, Walkable, bare, linked}
 use Rattle.search_trials.specs.Growth.{grown-all, grown-few, grown-least, grown-more}
-use Rattle.search_trials.specs.Search.{Best, beats, offered, tried}
-use Rattle.search_trials.specs.Stands.{Keeps}
-use Rattle.search_trials.specs.declared.best.Lead.{Lead}
-use Rattle.search_trials.specs.declared.rest.Rest.{Rest}
+use Rattle.search_trials.specs.Search.{Best, beats, nothing, offered, tried}
+use Rattle.search_trials.specs.Stands.{best_by, sum_by}
+use Rattle.search_trials.specs.declared.best.Trial.{Trial}
 
--- what a tree of `goal` links takes of the base beside a set of `size` links
-unfoldable pub rest_of : List ℕ → List ℕ → ℕ → ℕ → Rest
-rest_of sums base goal size =
-    cond (ltb (length base) (goal - size)) (record { enough = false; least = 0 })
-    (record { enough = true; least = sum (sum_at sums) (take (goal - size) base) })
+-- what a tree of `goal` links takes of the base beside a set of `size` links, if the base has as many: the least that so many cost
+unfoldable pub rest_of : List ℕ → List ℕ → ℕ → ℕ → Option ℕ
+rest_of sums base goal size = cond (ltb (length base) (goal - size)) None (Some (sum (sum_at sums) (take (goal - size) base)))
 
 -- no tree with a set that costs `cost` is better than the best so far, if one was found, with its sum
-unfoldable pub loses_to : Rest → ℕ → Bool → ℕ → Bool
-loses_to rest cost found best = not rest.enough || (found && ltb best (cost + rest.least))
+abbrev pub loses_to : Option ℕ → ℕ → Bool → ℕ → Bool
+loses_to None cost found best = true
+loses_to (Some least) cost found best = found && ltb best (cost + least)
 
 -- a set that costs more loses too
-pub loses-more : (rest : Rest) (c d : ℕ) (found : Bool) (best : ℕ) → c ≤ d → loses_to rest c found best ≡ true → loses_to rest d found best ≡ true
-unfolding loses_to
-loses-more rest c d found best h e = go rest.enough found e
-  where
-    go : (a f : Bool) → not a || (f && ltb best (c + rest.least)) ≡ true → not a || (f && ltb best (d + rest.least)) ≡ true
-    go false f e = e
-    go true true e = lt-ltb best (d + rest.least) (omega (arith, ltb-true best (c + rest.least) e))
-    go true false e = e
+pub loses-more : (rest : Option ℕ) (c d : ℕ) (found : Bool) (best : ℕ) → c ≤ d → loses_to rest c found best ≡ true → loses_to rest d found best ≡ true
+loses-more None c d found best h e = refl
+loses-more (Some least) c d true best h e = lt-ltb best (d + least) (omega (arith, ltb-true best (c + least) e))
+loses-more (Some least) c d false best h e = e
 
--- the lead loses as the best tree does that it keeps
-pub lead-loses : {base : List ℕ} {b : Best} {c : Lead} → Keeps base b c → (rest : Rest) (cost : ℕ)
-    → loses_to rest cost c.found c.trial.sum ≡ loses_to rest cost b.found b.sum
-unfolding loses_to
-lead-loses {b = b} {c} kept rest cost =
-    by-test b.found
-    (λ f. ap₂ (λ (found : Bool) (best : ℕ). not rest.enough || (found && ltb best (cost + rest.least))) kept.found (kept.sum f))
-    (λ f. ap (λ (found : Bool). not rest.enough || (found && ltb c.trial.sum (cost + rest.least))) (kept.found ∙ f)
-    ∙ sym (ap (λ (found : Bool). not rest.enough || (found && ltb b.sum (cost + rest.least))) f))
+-- the lead loses as the best tree does that it stands for
+pub by-loses : (base : List ℕ) (c : Option Trial) (rest : Option ℕ) (cost : ℕ) → loses_to rest cost (is_some c) (sum_by c) ≡ true
+    → loses_to rest cost (best_by base c).found (best_by base c).sum ≡ true
+unfolding nothing
+by-loses base None rest cost e = e
+by-loses base (Some t) rest cost e = e
 
 -- ---- links of the base have costs in range
 
@@ -87,11 +78,11 @@ module _ (sums base : List ℕ) (walk : Walkable sums base) where
   pub behind-fits : (n : ℕ) → sum_of sums (drop n base) < 4294967296
   behind-fits n = omega (arith, parts sums base n, base-small)
 
-  pub least_fits : (goal size c : ℕ) → c ≤ 2 * sum_held → c + (rest_of sums base goal size).least < 4294967296
+  pub least_fits : (goal size c : ℕ) → c ≤ 2 * sum_held → IfSome (rest_of sums base goal size) (λ least. c + least < 4294967296)
   unfolding rest_of sum_of
   least_fits goal size c h =
       by-test (ltb (length base) (goal - size))
-      (λ e. rw e (omega arith))
+      (λ e. rw e tt)
       (λ e. rw e (omega (arith, parts sums base (goal - size), base-small)))
 
 -- what the links behind the first n cost is part of what the base costs, and the first n cost the rest of it
@@ -100,16 +91,16 @@ behind-part sums base n e = omega (arith, parts sums base n)
 
 -- the rest, by whether the base has enough links
 module _ (sums base : List ℕ) (goal size : ℕ) where
-  pub rest-few : length base < goal - size → record { enough = false; least = 0 } ≡ rest_of sums base goal size
+  pub rest-few : length base < goal - size → None ≡ rest_of sums base goal size
   unfolding rest_of
   rest-few h = rw (lt-ltb (length base) (goal - size) h)
 
   pub rest-enough : {total : ℕ} → total ≡ sum_of sums base → goal - size ≤ length base
-      → record { enough = true; least = total - sum_of sums (drop (goal - size) base) } ≡ rest_of sums base goal size
+      → Some (total - sum_of sums (drop (goal - size) base)) ≡ rest_of sums base goal size
   unfolding rest_of sum_of
   rest-enough {total} e h =
       let least : total - sum_of sums (drop (goal - size) base) ≡ sum_of sums (take (goal - size) base) = omega (arith, parts sums base (goal - size)) in
-      rw (le-ltb (length base) (goal - size) h) (ap (λ (k : ℕ). record { enough = true; least = k }) least)
+      rw (le-ltb (length base) (goal - size) h) (ap (λ (k : ℕ). Some k) least)
 
 -- ---- a set that loses
 
@@ -118,7 +109,7 @@ module _ (ends sums : List ℕ) (goal : ℕ) (base : List ℕ) (sorted : Sorted 
   no-better : (b : Best) (X : List ℕ) (t : Tree) → loses_to (rest_of sums base goal (length X)) (sum (sum_at sums) X) b.found b.sum ≡ true
       → t.count ≡ length X → t.sum ≡ sum (sum_at sums) X
       → eqb (foldl (linked ends sums) t base).count goal && beats (foldl (linked ends sums) t base) b ≡ false
-  unfolding loses_to rest_of beats
+  unfolding rest_of beats
   no-better b X t e n c = fails _ (λ k.
       let u = foldl (linked ends sums) t base in
       let count = eqb-true u.count goal (left (eqb u.count goal) _ k) in

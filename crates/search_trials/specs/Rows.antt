@@ -1,13 +1,13 @@
--- Rows of leaders: what is joined after each link of the base, and the first row in which two stations are.
-use Prim.Native.Nat.{ℕ, zero, suc, ◌+◌, ◌*◌, ◌<◌}
-use Rattle.std.specs.Prelude.{Bool, true, false, ◌&&◌, ◌||◌, ◌⊎◌, ◌≡◌, refl, eqb, drop}
+-- Groups one after another: what is joined after each link of the base, and the first place at which two stations are.
+use Prim.Native.Nat.{ℕ, zero, suc, ◌+◌, ◌≤◌, ◌<◌}
+use Rattle.std.specs.Prelude.{Option, None, Some, MatchOption, unwrap_or, Bool, true, false, ◌&&◌, ◌||◌, ◌⊎◌, ◌≡◌, refl, eqb}
 use Rattle.std.proofs.Math.Bool.{not-not, not}
 use mathlib.Core.List.Memᴰ
 use mathlib.Core.List.Memᴰ.{head as here}
 use mathlib.Core.List.Memᴰ.{tail as there}
-use mathlib.Core.List.{List, [], ◌∷◌, foldl, map}
-use Rattle.std.proofs.Common.{inl, inr, ⊎_elim, ◌∙◌, eq-eqb, eqb-true, ne_eqb, get_or-drop, get_or-take}
-use Rattle.std.proofs.Math.Path.{sym, ap, fun_ext}
+use mathlib.Core.List.{List, [], ◌∷◌}
+use Rattle.std.proofs.Common.{le_refl, inl, inr, ⊎_elim, ◌∙◌, eq-eqb, eqb-true}
+use Rattle.std.proofs.Math.Path.{sym, ap}
 use native.Mathlib.Omega.{arith}
 use Rattle.std.proofs.lemmas.Bool.{not-true}
 use Rattle.std.proofs.Math.ListN.{length, get_or, take}
@@ -17,49 +17,32 @@ use Rattle.order.specs.Lists.{◌⊆◌}
 use Rattle.order.proofs.Lists.{get_or_default}
 use Rattle.spanning.specs.Labelling.{Edge, Labelling, Linked, Same, crosses, merge}
 use Rattle.spanning.proofs.Labelling.{crosses-false, merge-joins, merge_keeps, same-crosses, same-merge}
-use Rattle.spanning.specs.LabelList.{label_of}
-use Rattle.spanning.specs.Tree.{EndsBelow, identity, merge_all}
-use Rattle.spanning.specs.Places.{first_place}
-use Rattle.spanning.proofs.Places.{first-same}
+use Rattle.spanning.specs.Tree.{EndsBelow, identity}
+use Rattle.spanning.specs.Places.{first_place, place_from}
+use Rattle.spanning.proofs.Places.{first-same, from_end, from_found, from_next, from_start}
 use Rattle.spanning.specs.Lost.{first_row, lost_one, lost_two, row_at}
 use Rattle.network.specs.Capacities.{stations_held}
 use Rattle.network.specs.Yard.{ends_at}
-use Rattle.forest.specs.Groups.{Led, apart, apart-labels, apart-led, joined, joined-labels, joined-led}
+use Rattle.forest.specs.Groups.{nobody}
 use Rattle.forest.specs.declared.Forest.{Forest}
-use Rattle.kruskal.specs.Base.{Recorded, groups_after}
-use Rattle.kruskal.specs.Grown.{Near}
+use Rattle.forest.specs.History.{Near, groups-labels, groups-led, groups_after}
+use Rattle.kruskal.specs.Base.{Recorded}
 
--- the leader of station v in row k
-abbrev pub leader_at : List ℕ → ℕ → ℕ → ℕ
-leader_at history k v = get_or history (k * stations_held + v) 0
+-- the leader of station v after link k
+abbrev pub leader_at : List Forest → ℕ → ℕ → ℕ
+leader_at history k v = get_or (get_or history k nobody).leader v 0
 
--- in row k the stations u and v are in one group
-unfoldable pub joined_at : List ℕ → ℕ → ℕ → ℕ → Bool
+-- there the stations u and v are in one group
+unfoldable pub joined_at : List Forest → ℕ → ℕ → ℕ → Bool
 joined_at history u v k = eqb (leader_at history k u) (leader_at history k v)
 
 -- a link joins the groups p and q: r and s are one group then
 unfoldable pub one_group : ℕ → ℕ → ℕ → ℕ → Bool
 one_group p q r s = (eqb r s || (eqb p r && eqb q s)) || (eqb p s && eqb q r)
 
--- in row k, and beside a link from a to b, the stations u and v are in one group
-unfoldable pub beside_at : List ℕ → ℕ → ℕ → ℕ → ℕ → ℕ → Bool
+-- there, and beside a link from a to b, the stations u and v are in one group
+unfoldable pub beside_at : List Forest → ℕ → ℕ → ℕ → ℕ → ℕ → Bool
 beside_at history a b u v k = one_group (leader_at history k a) (leader_at history k b) (leader_at history k u) (leader_at history k v)
-
--- ---- a row as the code reads it
-
-module _ (history : List ℕ) (u v k i j : ℕ) (at-u : i ≡ k * stations_held + u) (at-v : j ≡ k * stations_held + v) where
-  pub joined-here : get_or history i 0 ≡ get_or history j 0 → joined_at history u v k ≡ true
-  unfolding joined_at
-  joined-here e = rw (← at-u, ← at-v) (eq-eqb (get_or history i 0) (get_or history j 0) e)
-
-  pub joined-apart : (get_or history i 0 ≡ get_or history j 0 → ⊥) → joined_at history u v k ≡ false
-  unfolding joined_at
-  joined-apart n = rw (← at-u, ← at-v) (ne_eqb (get_or history i 0) (get_or history j 0) n)
-
-pub beside-here : (history : List ℕ) (a b u v k i : ℕ) → i ≡ k * stations_held
-    → beside_at history a b u v k ≡ one_group (get_or history (i + a) 0) (get_or history (i + b) 0) (get_or history (i + u) 0) (get_or history (i + v) 0)
-unfolding beside_at
-beside-here history a b u v k i e = rw e
 
 -- ---- one group is what a merge makes
 
@@ -112,44 +95,15 @@ take-among (suc n) [] e m = m
 take-among (suc n) (x ∷ l) e m = ⊎_elim (λ q. here q) (λ k. there (take-among n l e k)) (Memᴰ.cases_cons m)
 
 module _ (ends : List ℕ) where
-  -- the groups with the ends of a link joined
-  abbrev step : Forest → ℕ → Forest
-  step f e = joined f (ends_at ends e).a (ends_at ends e).b
-
-  after-led : (f : Forest) (l : List ℕ) → Led f → Near ends l → Led (foldl step f l)
-  after-led f [] led near = led
-  after-led f (e ∷ l) led near =
-      let w = near e (here refl) in
-      after-led (step f e) l (joined-led f (ends_at ends e).a (ends_at ends e).b led w.0 w.1) (λ x m. near x (there m))
-
-  after-labels : (f : Forest) (l : List ℕ) → Led f → Near ends l → label_of (foldl step f l).leader ≡ merge_all (label_of f.leader) (map (ends_at ends) l)
-  after-labels f [] led near = refl
-  after-labels f (e ∷ l) led near =
-      let w = near e (here refl) in
-      after-labels (step f e) l (joined-led f (ends_at ends e).a (ends_at ends e).b led w.0 w.1) (λ x m. near x (there m))
-      ∙ ap (λ (L : Labelling). merge_all L (map (ends_at ends) l)) (joined-labels f (ends_at ends e).a (ends_at ends e).b led w.0 w.1)
-
-  groups-led : (l : List ℕ) → Near ends l → Led (groups_after ends l)
-  unfolding groups_after
-  groups-led l near = after-led apart l apart-led near
-
-  groups-labels : (l : List ℕ) → Near ends l → label_of (groups_after ends l).leader ≡ merge_all identity (map (ends_at ends) l)
-  unfolding groups_after
-  groups-labels l near =
-      after-labels apart l apart-led near ∙ ap (λ (L : Labelling). merge_all L (map (ends_at ends) l)) (fun_ext apart-labels)
-
-  module _ (base history : List ℕ) (near : Near ends base) (rows : Recorded ends base history) where
+  module _ (base : List ℕ) (history : List Forest) (near : Near ends base) (rows : Recorded ends base history) where
     row_label : (k v : ℕ) → k < length base → v < stations_held → leader_at history k v ≡ row_at (ends_at ends) identity base k v
     unfolding row_at
     row_label k v h s =
         let l : List ℕ = take (k + 1) base in
         let some_near : Near ends l = λ e m. near e (take-among (k + 1) base e m) in
-        let led = groups-led l some_near in
-        sym (get_or-drop (k * stations_held) history v 0)
-        ∙ sym (get_or-take stations_held (drop (k * stations_held) history) v 0 s)
-        ∙ ap (λ (r : List ℕ). get_or r v 0) (rows.row k h)
-        ∙ get_or_default (groups_after ends l).leader v 0 v (omega (arith, led.stations.size))
-        ∙ ap (λ (L : Labelling). L v) (groups-labels l some_near)
+        let led = groups-led ends l some_near in
+        rw (rows.row k h)
+        (get_or_default (groups_after ends l).leader v 0 v (omega (arith, led.stations.size)) ∙ ap (λ (L : Labelling). L v) (groups-labels ends l some_near))
 
     -- the place that joins the ends of e
     pub place-one : (e : Edge) → EndsBelow stations_held e
@@ -171,3 +125,22 @@ module _ (ends : List ℕ) where
         let below : k < length base = omega arith in
         rw (row_label k e.a below w.0, row_label k e.b below w.1, row_label k f.a below u.0, row_label k f.b below u.1)
         (group-merge (row_at (ends_at ends) identity base k) e f))
+
+-- ---- the first place at which a test holds, as a search for it has it
+
+pub first-found : (p : ℕ → Bool) (n : ℕ) (r : Option ℕ) → MatchOption r ((k : ℕ) → k < n → p k ≡ false)
+    (λ i. (i < n) × (p i ≡ true) × ((k : ℕ) → k < i → p k ≡ false)) → unwrap_or r n ≡ first_place p 0 n
+first-found p n None h = sym (sym (from_start p n) ∙ passed n (le_refl n) ∙ from_end p n n (le_refl n))
+  where
+    passed : (k : ℕ) → k ≤ n → place_from p n 0 ≡ place_from p n k
+    passed zero g = refl
+    passed (suc k) g =
+        let e : k + 1 ≡ suc k = omega arith in
+        passed k (omega arith) ∙ (rw e at (from_next p n k (omega arith) (h k (omega arith))))
+first-found p n (Some i) h = sym (sym (from_start p n) ∙ passed i (le_refl i) ∙ from_found p n i h.0 h.1)
+  where
+    passed : (k : ℕ) → k ≤ i → place_from p n 0 ≡ place_from p n k
+    passed zero g = refl
+    passed (suc k) g =
+        let e : k + 1 ≡ suc k = omega arith in
+        passed k (omega arith) ∙ (rw e at (from_next p n k (omega (arith, h.0)) (h.2 k (omega arith))))

@@ -1,9 +1,9 @@
 -- Trials of one and of two exceptions: they take the base without what it loses, and stand for the trees that their sets lead to.
 use Prim.Native.Nat.{ℕ, ◌+◌, ◌-◌, ◌*◌, ◌≤◌, ◌<◌}
-use Rattle.std.specs.Prelude.{true, false, ◌≡◌, refl, get_or, length}
+use Rattle.std.specs.Prelude.{Option, None, true, false, ◌≡◌, refl, get_or, length}
 use mathlib.Core.List.{List, [], ◌∷◌, ◌++◌, map}
 use Rattle.std.proofs.Math.Path.{sym}
-use Rattle.std.proofs.Common.{◌∙◌, subst, mul-le-mul_right, length-append}
+use Rattle.std.proofs.Common.{◌∙◌, mul-le-mul_right, length-append}
 use native.Mathlib.Omega.{arith}
 use Rattle.order.specs.Perm.{sum}
 use Rattle.order.proofs.Perm.{perm-map, perm-sym, perm-⊆, sum-append, sum-perm}
@@ -19,14 +19,17 @@ use Rattle.spanning.specs.Lost.{lost_one, lost_two}
 use Rattle.spanning.proofs.Lost.{kept-one, kept-two, lost-apart}
 use Rattle.network.specs.Capacities.{links_held, stations_held, sum_held}
 use Rattle.network.specs.Yard.{ends_at, sum_at}
+use Rattle.forest.specs.History.{Near}
+use Rattle.forest.specs.declared.Forest.{Forest}
 use Rattle.kruskal.specs.Base.{Recorded}
-use Rattle.kruskal.specs.Grown.{Holds, Near}
+use Rattle.kruskal.specs.Grown.{Holds}
 use Rattle.kruskal.specs.Tree.{Columns, Tree, Usable, Walkable}
 use Rattle.search_trials.specs.BaseAlone.{Kept}
 use Rattle.search_trials.specs.Search.{Best, offered, tried}
 use Rattle.search_trials.specs.Marks.{Flagged}
 use Rattle.search_trials.specs.Sets.{pair}
-use Rattle.search_trials.specs.Stands.{Stands, exceptions_of, grown_from, links_by}
+use Rattle.search_trials.specs.Stands.{Stands, exceptions_of, grown_from, links_by, place_of}
+use Rattle.search_trials.specs.declared.best.ExceptionSet.TheVariants as set
 use Rattle.search_trials.specs.declared.best.Trial.{Trial}
 use Rattle.search_trials.specs.Grows.{base-forest, flags-perm, grown-set, one-near, one-whole, pair-near, pair-perm, pair-ring, pair-whole, ring}
 use Rattle.search_trials.specs.Grows.{tried-ring, tried-tree, two-whole}
@@ -45,8 +48,8 @@ pub lost-none : (sums base : List ℕ) (place : ℕ) → length base ≤ place �
 unfolding lost_at
 lost-none sums base place h = rw (weight-none (λ e. 1) base place h, weight-none (sum_at sums) base place h)
 
--- the base, which Kruskal's method kept, and the rows of its leaders
-pub record Ready (ends sums base history : List ℕ) : Type 0 where
+-- the base, which Kruskal's method kept, and the groups after each of its links
+pub record Ready (ends sums base : List ℕ) (history : List Forest) : Type 0 where
   pub columns : Columns ends sums
   pub walk : Walkable sums base
   pub near : Near ends base
@@ -71,13 +74,9 @@ pub record Alone (sums base : List ℕ) (t : Trial) : Type 0 where
 -- the trial t has one exception
 pub record One (ends sums base : List ℕ) (e : ℕ) (t : Trial) : Type 0 where
   pub stands : Stands base (grown_from ends sums base (e ∷ [])) t
-  pub link : t.link ≡ e
-  pub lost : t.lost ≡ lost_one (ends_at ends) identity base (ends_at ends e)
+  pub set : t.set ≡ set.One e
+  pub lost : place_of base t.lost ≡ lost_one (ends_at ends) identity base (ends_at ends e)
   pub flagged : Flagged t
-
--- its exception is its own link
-pub one-own : {ends sums base : List ℕ} {e : ℕ} {t : Trial} → One ends sums base e t → One ends sums base t.link t
-one-own {ends} {sums} {base} {t = t} o = subst (λ (x : ℕ). One ends sums base x t) (sym o.link) o
 
 -- ---- one exception
 
@@ -122,7 +121,7 @@ pub record Ranges (count sum cost : ℕ) (lost : Lost) : Type 0 where
   pub fewer : lost.count ≤ count + 1
   pub cheaper : lost.cost ≤ sum + cost
 
-module _ (ends sums base history : List ℕ) (ready : Ready ends sums base history) (e : ℕ) (j : Joining ends sums e) where
+module _ (ends sums base : List ℕ) (history : List Forest) (ready : Ready ends sums base history) (e : ℕ) (j : Joining ends sums e) where
   pub one-ranges : (t : Trial) (cost place : ℕ) (lost : Lost) → Alone sums base t → cost ≡ sum_at sums e → lost ≡ lost_at sums base place
       → Ranges t.count t.sum cost lost
   one-ranges t cost place lost alone c l =
@@ -134,10 +133,10 @@ module _ (ends sums base history : List ℕ) (ready : Ready ends sums base histo
       let total = alone.sum in
       record { counts = omega arith; sums = omega arith; fewer = rw l (omega arith); cheaper = rw l (omega arith) }
 
-  pub one-stands : (t : Trial) (cost place : ℕ) (lost : Lost) → Alone sums base t → cost ≡ sum_at sums e
-      → place ≡ lost_one (ends_at ends) identity base (ends_at ends e) → lost ≡ lost_at sums base place
+  pub one-stands : (t : Trial) (cost : ℕ) (place : Option ℕ) (lost : Lost) → Alone sums base t → cost ≡ sum_at sums e
+      → place_of base place ≡ lost_one (ends_at ends) identity base (ends_at ends e) → lost ≡ lost_at sums base (place_of base place)
       → One ends sums base e
-      (record { count = t.count + 1 - lost.count; sum = t.sum + cost - lost.cost; size = 1; link = e; other = 0; lost = place; lost2 = length base })
+      (record { count = t.count + 1 - lost.count; sum = t.sum + cost - lost.cost; set = set.One e; lost = place; lost2 = None })
   unfolding lost_at links_by exceptions_of
   one-stands t cost place lost alone c p l =
       let made = ready.made in
@@ -149,11 +148,11 @@ module _ (ends sums base history : List ℕ) (ready : Ready ends sums base histo
         stands = record {
           count = rw (l, p) (omega (arith, alone.count));
           sum = rw (l, p, c) (omega (arith, alone.sum));
-          flags = rw (two_past place (length base) base (omega arith), p) (sym holds.flags);
+          flags = rw (two_past (place_of base place) (length base) base (omega arith), p) (sym holds.flags);
         };
-        link = refl;
+        set = refl;
         lost = p;
-        flagged = record { link = joining-flag ready.columns j; other = omega arith };
+        flagged = record { set = joining-flag ready.columns j };
       }
 
 -- ---- two exceptions
@@ -220,7 +219,7 @@ module _ (ends sums base : List ℕ) (made : Kept ends base) (near : Near ends b
         one-sum ends sums base made near e j,
       )
 
-module _ (ends sums base history : List ℕ) (ready : Ready ends sums base history) (e f : ℕ) (j : Joining ends sums e) (k : Joining ends sums f)
+module _ (ends sums base : List ℕ) (history : List Forest) (ready : Ready ends sums base history) (e f : ℕ) (j : Joining ends sums e) (k : Joining ends sums f)
     (whole : ring ends e f ≡ false) where
   pub two-ranges : (t : Trial) (cost place : ℕ) (lost : Lost) → One ends sums base e t → cost ≡ sum_at sums f
       → place ≡ lost_two (ends_at ends) identity base (ends_at ends e) (ends_at ends f) → lost ≡ lost_at sums base place
@@ -241,10 +240,10 @@ module _ (ends sums base history : List ℕ) (ready : Ready ends sums base histo
       let most = two-sum ends sums base made near e f j k whole in
       record { counts = omega arith; sums = omega arith; fewer = rw (l, p) (omega arith); cheaper = rw (l, p) (omega arith) }
 
-  pub two-stands : (t : Trial) (cost place : ℕ) (lost : Lost) → One ends sums base e t → cost ≡ sum_at sums f
-      → place ≡ lost_two (ends_at ends) identity base (ends_at ends e) (ends_at ends f) → lost ≡ lost_at sums base place
+  pub two-stands : (t : Trial) (cost : ℕ) (place : Option ℕ) (lost : Lost) → One ends sums base e t → cost ≡ sum_at sums f
+      → place_of base place ≡ lost_two (ends_at ends) identity base (ends_at ends e) (ends_at ends f) → lost ≡ lost_at sums base (place_of base place)
       → Stands base (grown_from ends sums base (pair e f))
-      (record { count = t.count + 1 - lost.count; sum = t.sum + cost - lost.cost; size = 2; link = t.link; other = f; lost = t.lost; lost2 = place })
+      (record { count = t.count + 1 - lost.count; sum = t.sum + cost - lost.cost; set = set.Two e f; lost = t.lost; lost2 = place })
   unfolding lost_at links_by exceptions_of
   two-stands t cost place lost o c p l =
       let made = ready.made in
@@ -252,11 +251,11 @@ module _ (ends sums base history : List ℕ) (ready : Ready ends sums base histo
       let holds = two-holds ends sums base made near e f j k whole in
       let two = two-count ends sums base made near e f j k whole in
       let most = two-sum ends sums base made near e f j k whole in
-      let rest : List ℕ = at_places (other_two t.lost place) 0 base in
+      let rest : List ℕ = at_places (other_two (place_of base t.lost) (place_of base place)) 0 base in
       record {
         count = rw (l, p) (omega (arith, o.stands.count));
         sum = rw (l, p, c) (omega (arith, o.stands.sum));
-        flags = rw (p, o.link, o.lost) (flags-perm (e ∷ f ∷ []) (pair e f) _ (pair-perm e f) ∙ sym holds.flags);
+        flags = rw (p, o.lost) (flags-perm (e ∷ f ∷ []) (pair e f) _ (pair-perm e f) ∙ sym holds.flags);
       }
 
 -- ---- the sets as they are tried

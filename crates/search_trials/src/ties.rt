@@ -7,9 +7,9 @@ pub fn first_tree(a: &[bool], b: &[bool]) -> bool
     requires { length a.now ≡ length b.now }
     ensures { result ≡ first a.now b.now }
 {
-    for i in 0..a.len() {
-        if a[i] != b[i] {
-            return a[i];
+    for (i, &has) in a.iter().enumerate() {
+        if has != b[i] {
+            return has;
         }
     }
     false

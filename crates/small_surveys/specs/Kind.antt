@@ -32,7 +32,7 @@ use Rattle.network.specs.Writing.{survey_in, survey_of, unknown_kind, yard_bytes
 use Rattle.network.specs.WritingPromise.{OfBytes, Says}
 use Rattle.network.specs.SmallSurveys.{choices, links_in_order, small_bytes, small_figures, small_link_count, small_survey, small_count, small_yard}
 use Rattle.network.specs.SmallPromise.{ComesBefore, NumberOf, OfSmallKind, ZeroOrOne, choice_of, choice_order}
-use Rattle.network.specs.declared.Checked.TheVariants.{Fine}
+use Rattle.network.specs.Checked.{no_refusal}
 use Rattle.network.specs.declared.Layout.{Layout}
 use Rattle.survey_roundtrip.specs.Fields.{Fitting, survey-layout, survey-length}
 use Rattle.survey_roundtrip.specs.Former.{figures-survey}
@@ -54,7 +54,7 @@ all-legal : all is_legal choices ≡ true
 unfolding choices numbers_from bad_sum absent_costs bits_of
 all-legal = refl
 
-choice-legal : (x : Link) → x ∈ choices → (place : ℕ) → link_figures_checked small_yard x place ≡ Fine
+choice-legal : (x : Link) → x ∈ choices → (place : ℕ) → link_figures_checked small_yard x place ≡ no_refusal
 unfolding link_figures_checked refuse_if ◌or_else◌
 choice-legal x m place =
     let bits : List ℕ = bits_of w16 x.c1 ∷ bits_of w16 x.c2 ∷ [] in
@@ -117,7 +117,7 @@ module _ (q : ℕ) (h : q < small_count) where
   nth : (i : ℕ) → i < length links → get_or links i no_link ∈ choices
   nth i k = chosen _ (get_or-mem links i no_link k)
 
-  legal : figures_checked (small_figures q) ≡ Fine
+  legal : figures_checked (small_figures q) ≡ no_refusal
   unfolding figures_checked yard_figures_checked bad_ranks refuse_if ◌or_else◌
   legal =
       rw (links-many q h)
@@ -141,7 +141,7 @@ module _ (q : ℕ) (h : q < small_count) where
   unfolding small_survey layout_for row_where
   survey-size = survey-length l w (small_figures q) ∙ ap (λ (m : ℕ). 6 + m * 12) (links-many q h)
 
-  survey-fine : checked_of (small_survey q) ≡ Fine
+  survey-fine : checked_of (small_survey q) ≡ no_refusal
   unfolding small_survey
   survey-fine = reader-agrees l w (small_figures q) (λ _. record { each = λ i k _. fits i k }) ∙ legal
 
@@ -223,7 +223,7 @@ module _ (s : List ℕ) (small : OfSmallKind s) where
   written : Writable (layout_of s)
   written = rw (← (layout-known s 0x5944 small.kind known)) (writable-for 0x5944)
 
-  lawful : figures_checked f ≡ Fine
+  lawful : figures_checked f ≡ no_refusal
   lawful = figures-legal s small.bytes written small.accepted
 
   -- its yard

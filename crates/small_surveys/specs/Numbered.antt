@@ -90,13 +90,6 @@ module _ (b s : ℕ) (some : 0 < s) (q : ℕ) where
 abbrev pub shares : List ℕ
 shares = 144 ∷ 12 ∷ 1 ∷ []
 
--- an entry of three that are above 0
-pub entry-positive : (a b c i : ℕ) → i < 3 → 0 < a → 0 < b → 0 < c → 0 < get_or (a ∷ b ∷ c ∷ []) i 0
-entry-positive a b c zero h x y z = x
-entry-positive a b c (suc zero) h x y z = y
-entry-positive a b c (suc (suc zero)) h x y z = z
-entry-positive a b c (suc (suc (suc i))) h x y z = absurd (omega arith)
-
 share-at : (i : ℕ) → i < small_link_count → get_or shares i 0 ≡ share_of (small_link_count - suc i)
 share-at zero h = omega (arith, share-more 0, share-more 1)
 share-at (suc zero) h = omega (arith, share-more 0)

@@ -37,9 +37,10 @@ fn write_choices(out: &mut [u8], q: u32)
     ensures { out.new ≡ overwrite out.old plain.yard.size (chosen_records small_link_count q) }
 {
     let openings = OPENINGS;
+    // By places: a proof knows nothing of what a loop over `chunks_exact_mut` writes.
     let mut at = PLAIN.yard.size;
-    for i in 0..LINKS {
-        let choice = q / SHARES[i] % CHOICES;
+    for share in SHARES {
+        let choice = q / share % CHOICES;
         let opening = openings[(choice / SAME_ENDS) as usize];
         write_choice(out, at, opening, choice);
         at += PLAIN.link.size;

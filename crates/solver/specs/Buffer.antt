@@ -32,6 +32,11 @@ more-flags taken e h =
     (λ k. ltb-true e (length taken) k)
     (λ k. let none = rw (drop_of_length-le taken (ltb-false e (length taken) k)) at h in absurd (omega arith))
 
+-- behind the last flag no links are left
+pub none-left : (taken : List Bool) (e : ℕ) → length taken ≤ e → length (rising e (drop e taken)) ≡ 0
+unfolding rising
+none-left taken e h = rw (drop_of_length-le taken h)
+
 -- one turn: link e is written, and stays where its flag is set; so many links are left
 pub put-turn : (taken : List Bool) (out w : List ℕ) (n e t : ℕ) {b : Bool} → n < t → b ≡ get_or taken e false → n + length (rising e (drop e taken)) ≡ t
     → left taken out n e ≡ w

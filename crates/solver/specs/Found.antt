@@ -35,7 +35,8 @@ use Rattle.network.specs.NetworkFine.{NetworkFine}
 use Rattle.network.proofs.NetworkFine.{graph-sound}
 use Rattle.network.specs.Network.{Network}
 use Rattle.kruskal.specs.Tree.{bare, linked}
-use Rattle.kruskal.specs.Grown.{Holds, Near, bare-holds, grown-holds}
+use Rattle.forest.specs.History.{Near}
+use Rattle.kruskal.specs.Grown.{Holds, bare-holds, grown-holds}
 use Rattle.kruskal.specs.Tree.{Tree}
 use Rattle.search_trials.specs.Flags.{first, first-dictionary, flags-length, flags-rising, rising}
 use Rattle.exceptions.specs.Patterns.{admitted}

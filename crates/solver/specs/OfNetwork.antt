@@ -1,5 +1,5 @@
 -- The best tree of a network, put together from what the search is given.
-use Rattle.std.specs.Prelude.{ℕ, zero, suc, ◌<◌, Bool, List, ◌∷◌, ◌≡◌, refl, ℤ, length, replicate, take}
+use Rattle.std.specs.Prelude.{Option, ℕ, zero, suc, ◌<◌, Bool, List, ◌∷◌, ◌≡◌, refl, ℤ, length, replicate, take}
 use Rattle.std.proofs.Common.{ap, arith}
 use Rattle.order.specs.Lists.{◌∈◌}
 use Rattle.network.proofs.Resting.{working-apart, working-few, working-mem}
@@ -12,7 +12,6 @@ use Rattle.kruskal.specs.Base.{Joinable}
 use Rattle.exceptions.specs.OfNetwork.{net_patterns}
 use Rattle.search_trials.specs.Search.{Best, best_of}
 use Rattle.solver.specs.Assembled.{Reports}
-use Rattle.solver.specs.declared.by_patterns.Found.{Found}
 
 -- the usable links of a network by cost
 abbrev pub order_of : Network → List ℕ
@@ -23,7 +22,7 @@ unfoldable pub net_best : Network → List ℤ → Best
 net_best net bs = best_of net.ends net.sums (tree_size net) (ranks net) (net_patterns net bs) (order_of net)
 
 -- what reports the best tree of the search, by the figures that the code has, reports the best tree of the network
-pub assembled-network : (net : Network) (bs : List ℤ) (t : ℕ) (patterns order : List ℕ) (r : Found) (taken : List Bool) → t ≡ tree_size net
+pub assembled-network : (net : Network) (bs : List ℤ) (t : ℕ) (patterns order : List ℕ) (r : Option ℕ) (taken : List Bool) → t ≡ tree_size net
     → patterns ≡ net_patterns net bs → order ≡ order_of net → Reports (best_of net.ends net.sums t (ranks net) patterns order) r taken
     → Reports (net_best net bs) r taken
 unfolding net_best

@@ -13,5 +13,5 @@ pub mod of_network;
 // Its links in the tree buffer.
 pub mod links;
 
-// Its costs, or 14.
+// Its costs, or that nothing fits.
 pub mod question;

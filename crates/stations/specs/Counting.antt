@@ -1,15 +1,15 @@
 -- The working stations counted one after another: after j stations, what is left of the bits are those from j on.
 use Rattle.std.specs.Prelude.{ℕ, suc, ◌+◌, ◌/◌, ◌%◌, ◌^◌, ◌≤◌, ◌≡◌, Bool, cond, [], ◌∷◌, ◌++◌, eqb}
 use Rattle.std.proofs.Math.Path.{refl, ap}
-use Rattle.std.proofs.Common.{sym, ◌∙◌, div-one, pow-suc, zero-add, add-one, arith, length-append}
+use Rattle.std.proofs.Common.{◌∙◌, div-one, pow-suc, zero-add, add-one, arith, length-append}
 use Rattle.std.proofs.Math.Bool.{true, false}
-use Rattle.std.proofs.Math.Nat.{div-div-eq-div-mul, pow-zero, zero-div}
+use Rattle.std.proofs.Math.Nat.{div-div-eq-div-mul, pow-zero}
 use Rattle.std.proofs.Math.ListN.{length}
 use mir.Val.{bool_byte}
 use Rattle.order.specs.Lists.{filter, numbers_from}
 use Rattle.order.proofs.Lists.{filter-append}
 use Rattle.order.proofs.Sorted.{numbers_more}
-use Rattle.network.proofs.Resting.{all-counted, working-few}
+use Rattle.network.proofs.Resting.{working-few}
 use Rattle.network.specs.Yard.{working, works}
 
 module _ (rest j : ℕ) where
@@ -53,9 +53,5 @@ module _ {rest j count above : ℕ} (c : Counted rest j count above) where
   counted-few = omega (arith, c.counts, working-few j rest)
 
   -- all stations are seen
-  pub counted-all : {n : ℕ} → j ≡ n → (count ≡ length (working n rest)) × (above ≡ rest / 2 ^ n)
-  counted-all q = (c.counts ∙ ap (λ (k : ℕ). length (working k rest)) q, c.left ∙ ap (λ (k : ℕ). rest / 2 ^ k) q)
-
--- no bit is set: all stations work
-pub none_rest : (n rest : ℕ) → rest ≡ 0 → (n ≡ length (working n rest)) × (0 ≡ rest / 2 ^ n)
-none_rest n rest e = rw e (sym (all-counted n), sym (zero-div (2 ^ n)))
+  pub counted-all : {n : ℕ} → j ≡ n → count ≡ length (working n rest)
+  counted-all q = c.counts ∙ ap (λ (k : ℕ). length (working k rest)) q

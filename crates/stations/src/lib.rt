@@ -6,13 +6,6 @@ ghost use Rattle.network.specs.Capacities.{links_held, stations_held};
 ghost use Rattle.network.specs.Yard.{ends_at, joins_working, working, works};
 ghost use Rattle.stations.specs.Stations.{Stations};
 
-// The working stations: how many there are, and the bits at and above the number of stations, as a number.
-#[derive(Drop)]
-pub struct Working {
-    pub count: u8,
-    pub above: u32,
-}
-
 // Whether station j works.
 fn station_works(rest: u32, j: u8) -> bool
     requires { j < stations_held }
@@ -29,11 +22,11 @@ pub fn joins_working(rest: u32, a: u8, b: u8) -> bool
     station_works(rest, a) & station_works(rest, b)
 }
 
-// The station at an index of the ends; 0 past the last.
+// The station at an index of the ends, two for each link in one column, as figures come in from C; 0 past the last, as the definition reads it.
 pub fn station_at(ends: &[u8], i: usize) -> u8
     ensures { result ≡ get_or ends.now i 0 }
 {
-    if i < ends.len() { ends[i] } else { 0 }
+    ends.get(i).copied().unwrap_or(0)
 }
 
 // Whether a link is usable, by the ends of all links.
@@ -49,18 +42,26 @@ pub fn is_usable(rest: u32, ends: &[u8], link: usize) -> bool
     joins_working(rest, a, b)
 }
 
-// The working ones of n stations.
-pub fn count_working(n: u8, rest: u32) -> Working
-    ensures { (result.count ≡ length (working n rest)) × (result.above ≡ rest / 2 ^ n) }
+// How many of n stations work.
+pub fn count_working(n: u8, rest: u32) -> u8
+    ensures { result ≡ length (working n rest) }
 {
     if rest == 0 {
-        return Working { count: n, above: 0 };
+        return n;
     }
+    // A loop: of 0..n, filtered and counted, the proof search did not find the count.
     let mut count: u8 = 0;
-    let mut above = rest;
-    for j in 0..n {
-        count += (above % 2 == 0) as u8;
-        above /= 2;
+    let mut bits = rest;
+    for _ in 0..n {
+        count += (bits % 2 == 0) as u8;
+        bits /= 2;
     }
-    Working { count, above }
+    count
+}
+
+// The bits of the stations at rest at and above n, as a number.
+pub fn rest_above(n: u8, rest: u32) -> u32
+    ensures { result ≡ rest / 2 ^ n }
+{
+    rest.checked_shr(n as u32).unwrap_or(0)
 }

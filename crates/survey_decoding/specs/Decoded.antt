@@ -1,22 +1,18 @@
 -- A survey is decoded into a shape and into columns that are lent: its own columns stand at their fronts.
-use Rattle.std.specs.Prelude.{ℕ, ◌+◌, ◌-◌, ◌*◌, ◌≤◌, ◌<◌, cond, List, ◌≡◌, refl, ltb, ℤ, drop, length, take}
-use Rattle.std.proofs.Common.{sym, ◌∙◌, arith, lt-ltb, length-drop, ext_get_or, get_or-drop, get_or-take, length-take-le, take-take}
-use Rattle.network.specs.Accepted.{Priced, Whole}
-use Rattle.network.specs.Bytes.{byte_at}
+use Rattle.std.specs.Prelude.{ℕ, ◌-◌, ◌*◌, ◌≤◌, List, ◌≡◌, refl, ℤ, drop, length, take}
+use Rattle.std.proofs.Common.{sym, ◌∙◌, take-take}
+use Rattle.network.specs.Accepted.{Priced}
 use Rattle.network.specs.Capacities.{ceilings_held}
 use Rattle.network.specs.Network.{Network}
 use Rattle.network.specs.Shaped.{net_of}
 use Rattle.network.specs.Survey.{ceilings_in, costs_in, ends_in, network_with, ranks_at, ranks_in, rest_in, stations_in, sums_in, working_in}
-use Rattle.network.specs.Tabulate.{tabulate}
-use Rattle.network.proofs.Tabulate.{tabulate-at, tabulate-length}
 use Rattle.network.specs.Yard.{tree_size}
 use Rattle.network.specs.declared.Layout.{Layout}
 use Rattle.network.specs.declared.Shape.{Shape}
 use Rattle.survey_decoding.specs.Columns.{HasCosts}
 
--- a survey of m links that has a network, and columns with room for its own
+-- what a survey of m whole link records must have besides for a network, and columns with room for its own
 pub record Decodable (s : List ℕ) (l : Layout) (m : ℕ) (ends sums : List ℕ) (costs : List ℤ) : Type 0 where
-  pub whole : Whole s l m
   pub priced : Priced s l m
   pub some-station : 1 ≤ length (working_in l s)
   pub held : HasCosts l (ceilings_in s)
@@ -39,23 +35,6 @@ pub record Decoded (net : Network) (shape : Shape) (ends sums : List ℕ) (costs
 -- the shape of a survey with m links, whose ranks are handed on as ks
 abbrev pub shape_in : Layout → List ℕ → ℕ → List ℕ → Shape
 shape_in l s m ks = record { n = stations_in s; p = ceilings_in s; k = ks; rest = rest_in l s; m = m; t = length (working_in l s) - 1 }
-
--- the rank of ceiling i, of p present ones; 0 where it is absent
-unfoldable pub rank_in : List ℕ → ℕ → ℕ → ℕ
-rank_in s p i = cond (ltb i p) (byte_at s (ranks_at + i)) 0
-
--- the ranks of all ceilings that are held begin with those of a survey
-pub ranks-front : (s : List ℕ) (p : ℕ) → p ≤ ceilings_held → ranks_at + p ≤ length s
-    → take p (tabulate (rank_in s p) ceilings_held) ≡ take p (drop ranks_at s)
-unfolding rank_in
-ranks-front s p few room =
-    let all = tabulate-length (rank_in s p) ceilings_held in
-    let size = length-take-le p (tabulate (rank_in s p) ceilings_held) (omega arith) in
-    let same = length-take-le p (drop ranks_at s) (omega (arith, length-drop ranks_at s)) in
-    ext_get_or 0 (take p (tabulate (rank_in s p) ceilings_held)) (take p (drop ranks_at s)) (size ∙ sym same)
-    (λ i h. let present : i < p = omega arith in
-    get_or-take p (tabulate (rank_in s p) ceilings_held) i 0 present ∙ tabulate-at (rank_in s p) ceilings_held i (omega arith) 0
-    ∙ rw (lt-ltb i p present) (sym (get_or-take p (drop ranks_at s) i 0 present ∙ get_or-drop ranks_at s i 0)))
 
 -- with the columns of a survey at the fronts, and its ranks at the front of ks, its shape and the lent columns say its network
 pub decoded : (s : List ℕ) (l : Layout) (m : ℕ) {ks ends sums : List ℕ} {costs : List ℤ} → ceilings_in s ≤ l.slots → length ks ≡ ceilings_held

@@ -1,50 +1,71 @@
-// The ends and the ceiling costs that a survey's link records say, as columns.
-ghost use Rattle.std.specs.Prelude.{◌≡◌, ◌+◌, ◌*◌, ◌≤◌, length, take};
-ghost use Rattle.network.specs.Survey.{ceiling_in, costs_in, ends_in};
-ghost use Rattle.network.specs.Accepted.{Whole};
+// The figures that a survey's link records say, as columns: ends, sum costs, which are raised, and ceiling costs.
+ghost use Rattle.std.specs.Prelude.{false, ℕ, ◌≡◌, ◌+◌, ◌*◌, ◌≤◌, ◌<◌, get_or, length, take};
+ghost use Rattle.network.specs.Survey.{ceiling_in, costs_in, ends_in, sums_in};
+ghost use Rattle.network.specs.Survey as spec;
+ghost use Rattle.network.specs.Refusals.{bad_sum};
+ghost use Rattle.network.specs.Accepted.{Priced};
 ghost use Rattle.survey_decoding.specs.Columns.{HasCosts};
 
-use encoding::signed::read_i16;
-use network::Layout;
-use survey_layout::fields::{COSTS, ENDS};
-use survey_layout::layout::link_start;
+use network::capacities::RAISE;
+use survey_layout::records::Records;
 
-// The ends of the m links, two for each, at the front of a column.
-pub fn decode_ends(s: &[u8], l: Layout, m: usize, ends: &mut [u8])
-    requires { Whole s.now l m × (2 * m ≤ length ends.old) }
-    ensures { take (2 * m) ends.new ≡ ends_in l s.now m }
+// Fills a column with a figure of each link.
+fn fill_column<T: Copy, F: Fn(usize) -> T>(column: &mut [T], figure: F)
+    requires { (i : ℕ) → i < length column.old → F.pre figure i }
+    ensures { (i : ℕ) (d : T) → i < length column.new → F.post figure i (get_or column.new i d) }
 {
-    let mut i = 0;
-    while i < m {
-        let at = link_start(s, l, m, i);
-        ends[2 * i] = s[at + ENDS];
-        ends[2 * i + 1] = s[at + ENDS + 1];
-        i += 1;
+    for (i, x) in column.iter_mut().enumerate() {
+        *x = figure(i);
     }
 }
 
-// The costs of the m links by a ceiling.
-fn decode_ceiling(s: &[u8], l: Layout, m: usize, ceiling: usize, column: &mut [i16])
-    requires { Whole s.now l m × HasCosts l (ceiling + 1) × (length column.old ≡ m) }
-    ensures { column.new ≡ ceiling_in l s.now m ceiling }
+// The ends of the links, two for each, at the front of a column.
+pub fn decode_ends(records: Records, ends: &mut [u8])
+    requires { 2 * records.m ≤ length ends.old }
+    ensures { take (2 * records.entry.m) ends.new ≡ ends_in records.entry.layout records.entry.bytes.now records.entry.m }
 {
-    let mut e = 0;
-    while e < m {
-        let at = link_start(s, l, m, e);
-        column[e] = read_i16(s, at + COSTS + 2 * ceiling);
-        e += 1;
+    // By the link's number: a proof knows nothing of what a loop over `chunks_exact_mut` writes.
+    for i in 0..records.m {
+        let (first, second) = records.link(i).ends();
+        ends[2 * i] = first;
+        ends[2 * i + 1] = second;
     }
 }
 
-// The costs of the m links by the first p ceilings, one ceiling after the other, at the front of a column.
-pub fn decode_costs(s: &[u8], l: Layout, m: usize, p: usize, costs: &mut [i16])
-    requires { Whole s.now l m × HasCosts l p × (p * m ≤ length costs.old) }
-    ensures { take (p * m) costs.new ≡ costs_in l s.now m p }
+// A sum cost in its range, raised so that it is not below 0.
+fn raised(sum: i32) -> u32
+    requires { bad_sum sum ≡ false }
+    ensures { result ≡ spec.raised sum }
 {
+    (sum + RAISE) as u32
+}
+
+// The raised sum costs of the links, at the front of a column.
+pub fn decode_sums(records: Records, sums: &mut [u32])
+    requires { Priced records.bytes.now records.layout records.m × (records.m ≤ length sums.old) }
+    ensures { take records.entry.m sums.new ≡ sums_in records.entry.layout records.entry.bytes.now records.entry.m }
+{
+    fill_column(&mut sums[..records.m], |i| raised(records.link(i).sum()));
+}
+
+// The costs of the links by a ceiling.
+fn decode_ceiling(records: Records, ceiling: usize, column: &mut [i16])
+    requires { HasCosts records.layout (ceiling + 1) × (length column.old ≡ records.m) }
+    ensures { column.new ≡ ceiling_in records.entry.layout records.entry.bytes.now records.entry.m ceiling }
+{
+    fill_column(column, |i| records.link(i).cost(ceiling));
+}
+
+// The costs of the links by the first p ceilings, one ceiling after the other, at the front of a column.
+pub fn decode_costs(records: Records, p: usize, costs: &mut [i16])
+    requires { HasCosts records.layout p × (p * records.m ≤ length costs.old) }
+    ensures { take (p * records.entry.m) costs.new ≡ costs_in records.entry.layout records.entry.bytes.now records.entry.m p }
+{
+    // By its place: a proof knows nothing of what a loop over `chunks_exact_mut` writes.
     let mut from = 0;
     for i in 0..p {
-        let to = from + m;
-        decode_ceiling(s, l, m, i, &mut costs[from..to]);
+        let to = from + records.m;
+        decode_ceiling(records, i, &mut costs[from..to]);
         from = to;
     }
 }

@@ -1,2 +1,2 @@
--- the loop over a table of layouts
+-- a table of layouts, searched
 pub mod Rows

@@ -1,33 +1,22 @@
--- A loop over a table of layouts, which looks for the first row that passes a test.
-use Rattle.std.specs.Prelude.{ℕ, ◌+◌, ◌≤◌, ◌<◌, Bool, true, false, List, ◌∷◌, ◌≡◌, drop, get_or, length}
-use Rattle.std.proofs.Common.{add-one, drop_of_length-le, drop-cons}
+-- The layout that a table has for a survey: its first row that passes a test, or else the old one.
+use Rattle.std.specs.Prelude.{Bool, true, false, cond, ℕ, List, [], ◌∷◌, ◌≡◌, refl}
+use Rattle.std.specs.Option.{unwrap_or}
+use Rattle.std.specs.List.{find}
+use Rattle.std.specs.Prelude.{Some}
 use Rattle.network.specs.Survey.{layout_of, plain, row_where}
 use Rattle.network.specs.Layouts.{Roomy}
 use Rattle.network.proofs.Layouts.{layout-roomy}
 use Rattle.network.specs.declared.Layout.{Layout}
 
--- the row that the test finds, once the first i rows are looked at
-unfoldable pub from_row : (Layout → Bool) → List Layout → ℕ → Layout
-from_row p ls i = row_where p (drop i ls)
-
-module _ (p : Layout → Bool) (ls : List Layout) (i : ℕ) (d : Layout) (h : i < length ls) where
-  row_next : drop i ls ≡ get_or ls i d ∷ drop (i + 1) ls
-  row_next = rw (add-one i) (drop-cons ls i d h)
-
-  -- the row that passes
-  pub row-found : {r : Layout} → from_row p ls i ≡ r → p (get_or ls i d) ≡ true → get_or ls i d ≡ r
-  unfolding from_row row_where
-  row-found e q = rw (row_next, q) at e
-
-  -- a row more that does not
-  pub row-missed : {r : Layout} → from_row p ls i ≡ r → p (get_or ls i d) ≡ false → from_row p ls (i + 1) ≡ r
-  unfolding from_row row_where
-  row-missed e q = rw (row_next, q) at e
-
--- none is left
-pub row-none : (p : Layout → Bool) (ls : List Layout) (i : ℕ) {r : Layout} → length ls ≤ i → from_row p ls i ≡ r → plain ≡ r
-unfolding from_row row_where
-row-none p ls i h e = rw (drop_of_length-le ls h) at e
+-- a search through the rows of a table finds it
+pub row-found : (p : Layout → Bool) (ls : List Layout) → unwrap_or (find p ls) plain ≡ row_where p ls
+unfolding row_where
+row-found p [] = refl
+row-found p (l ∷ ls) = pick (p l) (row-found p ls)
+  where
+    pick : (b : Bool) → unwrap_or (find p ls) plain ≡ row_where p ls → unwrap_or (cond b (Some l) (find p ls)) plain ≡ cond b l (row_where p ls)
+    pick true e = refl
+    pick false e = e
 
 -- a layout that is found has its room
 pub found-roomy : (s : List ℕ) (l : Layout) → l ≡ layout_of s → (l ≡ layout_of s) × Roomy l

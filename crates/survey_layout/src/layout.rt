@@ -1,8 +1,8 @@
-// The layouts of surveys, and where the records of a survey stand.
-ghost use Rattle.std.specs.Prelude.{◌≡◌, ◌+◌, ◌≤◌, ◌<◌, length};
-ghost use Rattle.network.specs.Survey.{layout_of, link_size, link_start};
+// The layouts of surveys, the one that a survey has, and the rule of lengths.
+ghost use Rattle.std.specs.Prelude.{◌≡◌, ◌≤◌, ◌<◌, length};
+ghost use Rattle.std.specs.List.{find};
+ghost use Rattle.network.specs.Survey.{layout_of, opens};
 ghost use Rattle.network.specs.Refusals.{bad_length};
-ghost use Rattle.network.specs.Accepted.{Whole};
 ghost use Rattle.network.specs.Layouts.{Roomy};
 
 use encoding::numbers::mark_at;
@@ -28,8 +28,8 @@ pub const PLAIN: Layout = Layout {
     },
     fewest: 0,
     slots: NARROW_SLOTS as u8,
-    count: 0,
-    rest: 0,
+    count: None,
+    rest: None,
     link: NARROW_LINK,
 };
 
@@ -41,8 +41,8 @@ pub const WITH_COUNT: Layout = Layout {
     },
     fewest: 0,
     slots: NARROW_SLOTS as u8,
-    count: (YARD_FIELDS + NARROW_SLOTS) as u8,
-    rest: 0,
+    count: Some((YARD_FIELDS + NARROW_SLOTS) as u8),
+    rest: None,
     link: NARROW_LINK,
 };
 
@@ -54,8 +54,8 @@ const WITH_REST: Layout = Layout {
     },
     fewest: 0,
     slots: NARROW_SLOTS as u8,
-    count: (YARD_FIELDS + NARROW_SLOTS) as u8,
-    rest: (YARD_FIELDS + NARROW_SLOTS + 1) as u8,
+    count: Some((YARD_FIELDS + NARROW_SLOTS) as u8),
+    rest: Some((YARD_FIELDS + NARROW_SLOTS + 1) as u8),
     link: NARROW_LINK,
 };
 
@@ -67,50 +67,37 @@ const TRIPLE: Layout = Layout {
     },
     fewest: WIDE_SLOTS as u8,
     slots: WIDE_SLOTS as u8,
-    count: (YARD_FIELDS + WIDE_SLOTS) as u8,
-    rest: (YARD_FIELDS + WIDE_SLOTS + 1) as u8,
+    count: Some((YARD_FIELDS + WIDE_SLOTS) as u8),
+    rest: Some((YARD_FIELDS + WIDE_SLOTS + 1) as u8),
     link: WIDE_LINK,
 };
 
 // The layouts that are known, a row for each mark of a yard record.
 const LAYOUTS: [Layout; 4] = [PLAIN, WITH_COUNT, WITH_REST, TRIPLE];
 
-// The layout of a survey; where no known mark opens it, the old one.
+// The first of some layouts whose mark opens a survey.
+fn find_opening(s: &[u8], layouts: &[Layout]) -> Option<Layout>
+    requires { 2 ≤ length s.now }
+    ensures { result ≡ find (opens s.now) layouts.now }
+{
+    layouts.iter().find(|l| mark_at(s, 0, l.yard.mark)).copied()
+}
+
+// The layout of a survey; where no known mark opens it, the plain one.
 pub fn layout_of(s: &[u8]) -> Layout
     ensures { (result ≡ layout_of s.now) × Roomy result }
 {
     if s.len() < 2 {
         return PLAIN;
     }
-    for i in 0..LAYOUTS.len() {
-        let row = LAYOUTS[i];
-        let mark = row.yard.mark;
-        if mark_at(s, 0, mark) {
-            return row;
-        }
-    }
-    PLAIN
+    find_opening(s, &LAYOUTS).unwrap_or(PLAIN)
 }
 
-// Whether a survey's length is no yard record with whole link records after it.
+// Whether a survey's length is no yard record with whole link records after it. A flag, as document 01 states the rule: the count of links is one line
+// where it is needed.
 pub fn bad_length(l: Layout, len: usize) -> bool
     requires { 0 < l.link.size }
     ensures { result ≡ bad_length l len }
 {
-    let first = l.yard.size;
-    let size = l.link.size;
-    if len < first {
-        return true;
-    }
-    (len - first) % size != 0
-}
-
-// Where link i of a survey with m links starts: its record lies inside.
-pub fn link_start(s: &[u8], l: Layout, m: usize, i: usize) -> usize
-    requires { Whole s.now l m × (i < m) }
-    ensures { (result ≡ link_start l i) × (result + link_size l.slots ≤ length s.now) }
-{
-    let first = l.yard.size;
-    let size = l.link.size;
-    first + i * size
+    len < l.yard.size || (len - l.yard.size) % l.link.size != 0
 }

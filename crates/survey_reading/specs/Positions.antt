@@ -3,7 +3,7 @@ use Prim.Native.Nat.{ℕ, suc, ◌+◌, ◌*◌, ◌^◌, ◌≤◌, ◌<◌}
 use Rattle.std.specs.Prelude.{Bool, false, ◌≡◌, ltb, ℤ, drop, replicate, take}
 use mathlib.Core.List.{List, [], ◌∷◌, ◌++◌}
 use Rattle.std.proofs.Math.Path.{refl, sym, ap, ap₂}
-use Rattle.std.proofs.Common.{◌∙◌, le_trans, mul_assoc, mul-le-mul, pow-suc, arith, le-ltb}
+use Rattle.std.proofs.Common.{◌∙◌, le_trans, mul_assoc, mul-le-mul, mul-le-mul_right, suc-mul, drop-drop, pow-suc, arith, le-ltb}
 use Rattle.std.proofs.Math.Nat.{mul_comm, pow-le-pow_left, pow-le-pow_right}
 use Rattle.std.proofs.Math.Numerals.{add-one}
 use Rattle.std.proofs.Math.ListN.{length, length-drop}
@@ -35,11 +35,15 @@ pub record Countable (shape : Shape) (ends : List ℕ) (costs : List ℤ) : Type
 unfoldable pub too_many : Shape → List ℕ → List ℤ → Bool
 too_many shape ends costs = ltb max_plans (product (ceiling_values (usable_at shape.rest ends) shape.p shape.m costs))
 
+-- the links of a survey, to the power of its ceilings, are not too many
+pub power-fits : (m p : ℕ) → m ≤ links_held → p ≤ ceilings_held → m ^ p ≤ links_held ^ ceilings_held
+power-fits m p few below = le_trans (pow-le-pow_left few p) (pow-le-pow_right {n = links_held} (omega arith) below)
+
 -- m, to a power below that of the ceilings held, times m
-pub power_small : (m i : ℕ) → m ≤ links_held → i < ceilings_held → m ^ i * m ≤ links_held ^ ceilings_held
+power_small : (m i : ℕ) → m ≤ links_held → i < ceilings_held → m ^ i * m ≤ links_held ^ ceilings_held
 power_small m i few below =
     let one : m ^ i * m ≡ m ^ suc i = sym (pow-suc m i) in
-    rw one (le_trans (pow-le-pow_left few (suc i)) (pow-le-pow_right {n = links_held} (omega arith) below))
+    rw one (power-fits m (suc i) few below)
 
 -- p ceilings of m links have at most m positions to the power of p
 values-power : (rest : ℕ) (ends : List ℕ) (p m : ℕ) (costs : List ℤ) → product (ceiling_values (usable_at rest ends) p m costs) ≤ m ^ p
@@ -72,20 +76,27 @@ module _ (u : ℕ → Bool) (m : ℕ) (costs : List ℤ) where
       product-snoc [] l = mul_comm (length l) 1
       product-snoc (k ∷ ls) l = ap (λ (n : ℕ). length k * n) (product-snoc ls l) ∙ sym (mul_assoc (length k) (product ls) (length l))
 
-  -- the same by code that finds the different values of a column of `width` costs from `at` on
-  pub product-turn : (i at width c : ℕ) (new : List ℤ) {total : ℕ} → total ≡ product (ceiling_values u i m costs) → at ≡ i * m → width ≡ m
-      → at + m ≤ length costs → length new ≡ m → let column = take width (drop at costs) in
-      (c ≤ length column) × (take c new ≡ falling_to u (cost_at column) (length column))
+  -- the same by code that finds the different values of its column
+  pub product-turn : (i c : ℕ) (column new : List ℤ) {total : ℕ} → total ≡ product (ceiling_values u i m costs) → column ≡ take m (drop (i * m) costs)
+      → i * m + m ≤ length costs → length new ≡ m → (c ≤ length column) × (take c new ≡ falling_to u (cost_at column) (length column))
       → (c ≤ m) × (total * c ≡ product (ceiling_values u (i + 1) m costs))
   unfolding column_values
-  product-turn i at width c new {total} e f w room size found =
+  product-turn i c column new {total} e f room size found =
       let long = length-take-le m (drop (i * m) costs) (omega (arith, length-drop (i * m) costs)) in
       let there : (c ≤ length (ceiling_part m costs i)) × (take c new ≡ falling_to u (cost_at (ceiling_part m costs i)) (length (ceiling_part m costs i))) =
-      rw (f, w) at found in
+      rw f at found in
       let few : c ≤ m = omega (arith, there.0) in
       let values = there.1 ∙ ap (falling_to u (cost_at (ceiling_part m costs i))) long in
       let count : c ≡ length (column_values u m costs i) = sym (length-take-le c new (omega arith)) ∙ ap length values in
       (few, ap₂ ◌*◌ e count ∙ sym (product-more i))
+
+  -- the part of the next ceiling lies inside
+  pub next-part : (p i : ℕ) → length costs ≡ p * m → i < p → i * m + m ≤ length costs
+  next-part p i size h = omega (arith, mul-le-mul_right m h, suc-mul i m)
+
+  -- and the costs behind it are those of the ceilings after it
+  pub next-left : (i : ℕ) → drop m (drop (i * m) costs) ≡ drop ((i + 1) * m) costs
+  next-left i = drop-drop m (i * m) costs ∙ ap (λ (k : ℕ). drop k costs) (omega (arith, suc-mul i m, add-one i))
 
 -- a product of so many ceilings, times one more number of values, is not too large
 pub product_small : (rest : ℕ) (ends : List ℕ) (m : ℕ) (costs : List ℤ) (i c : ℕ) {total : ℕ}

@@ -6,65 +6,49 @@ ghost use Rattle.survey_reading.specs.Survey.{Lent, SurveyRead};
 
 use crate::positions::too_many_positions;
 use crate::rules::check_records;
-use network::capacities::CEILINGS_HELD;
-use network::{Checked, Layout, Shape};
+use network::{Layout, Net, Refusal, Rule};
 use survey_decoding::decode::decode;
 use survey_layout::layout::layout_of;
 use survey_rules::checks::refuse_if;
 
-// A survey that was read: what its check found, and where that is nothing the shape of its yard.
-#[derive(Drop)]
-pub struct Survey {
-    pub checked: Checked,
-    pub shape: Shape,
-}
-
-// What stands for the shape of a survey that is refused, where none is looked at.
-fn no_shape() -> Shape {
-    Shape {
-        n: 0,
-        p: 0,
-        k: [0u8; CEILINGS_HELD],
-        rest: 0,
-        m: 0,
-        t: 0,
-    }
-}
-
-// Reads a survey in a layout: its check, and its shape and columns where it is not refused.
-fn read_with(s: &[u8], l: Layout, ends: &mut [u8], sums: &mut [u32], costs: &mut [i16]) -> Survey
+// Reads a survey in a layout.
+fn read_with<'a>(
+    s: &[u8],
+    l: Layout,
+    ends: &'a mut [u8],
+    sums: &'a mut [u32],
+    costs: &'a mut [i16],
+) -> Result<Net<'a>, Refusal>
     requires { Roomy l × Lent ends.old sums.old costs.old }
-    ensures { SurveyRead (checked_with l s.now) (network_with l s.now (link_count l s.now)) result
-        ends.new sums.new costs.new }
+    ensures { SurveyRead (checked_with l s.now) (network_with l s.now (link_count l s.now)) result }
 {
-    let records = check_records(s, l);
-    match records {
-        Checked::Refused(_) => {
-            let shape = no_shape();
-            Survey {
-                checked: records,
-                shape,
-            }
-        }
-        Checked::Fine => {
-            let first = l.yard.size;
-            let size = l.link.size;
-            let m = (s.len() - first) / size;
-            let shape = decode(s, l, m, ends, sums, costs);
-            let cost_count = shape.p as usize * m;
-            let too_many = too_many_positions(shape, &ends[..2 * m], &costs[..cost_count]);
-            Survey {
-                checked: refuse_if(too_many, 19, 0),
-                shape,
-            }
-        }
-    }
+    let records = check_records(s, l)?;
+    let shape = decode(records, ends, sums, costs);
+    let m = shape.m;
+    let ends = &ends[..2 * m];
+    let costs = &costs[..shape.p as usize * m];
+    refuse_if(
+        too_many_positions(shape, ends, costs),
+        Rule::TooManyPositions,
+        0,
+    )?;
+    Ok(Net {
+        shape,
+        ends,
+        sums: &sums[..m],
+        costs,
+    })
 }
 
-// Reads a survey: its first refusal, or the shape of its yard, with its columns at the fronts of those that are lent.
-pub fn read_survey(s: &[u8], ends: &mut [u8], sums: &mut [u32], costs: &mut [i16]) -> Survey
+// Reads a survey: its first refusal, or its network, whose columns go to the fronts of those that are lent.
+pub fn read_survey<'a>(
+    s: &[u8],
+    ends: &'a mut [u8],
+    sums: &'a mut [u32],
+    costs: &'a mut [i16],
+) -> Result<Net<'a>, Refusal>
     requires { Lent ends.old sums.old costs.old }
-    ensures { SurveyRead (checked_of s.now) (network_of s.now) result ends.new sums.new costs.new }
+    ensures { SurveyRead (checked_of s.now) (network_of s.now) result }
 {
     read_with(s, layout_of(s), ends, sums, costs)
 }

@@ -1,28 +1,34 @@
 // The rules that a survey's records must keep, in document 01's order: its length, the yard record, the link records.
-ghost use Rattle.std.specs.Prelude.{◌≡◌};
+ghost use Rattle.std.specs.Prelude.{◌≡◌, Err, MatchResult};
 ghost use Rattle.network.specs.Layouts.{Roomy};
 ghost use Rattle.network.specs.Refusals.{records_checked};
+ghost use Rattle.survey_reading.specs.Survey.{RecordsRead};
 
-use network::{Checked, Layout};
+use network::{Layout, Refusal, Rule};
 use survey_layout::layout::bad_length;
-use survey_rules::checks::refuse_if;
+use survey_layout::records::{Records, YardRecord};
 use survey_rules::link_records::check_links;
 use survey_rules::yard_record::check_yard;
 
-// The records of a survey in a layout: nothing, or their first refusal.
-pub(crate) fn check_records(s: &[u8], l: Layout) -> Checked
+// The records of a survey in a layout, or their first refusal.
+pub(crate) fn check_records<'a>(s: &'a [u8], l: Layout) -> Result<Records<'a>, Refusal>
     requires { Roomy l }
-    ensures { result ≡ records_checked l s.now }
+    ensures { MatchResult result (RecordsRead s.now l) (λ r. records_checked l s.now ≡ Err r) }
 {
     if bad_length(l, s.len()) {
-        return refuse_if(true, 1, 0);
+        return Err(Refusal::of(Rule::BadLength));
     }
-    let first = l.yard.size;
-    let size = l.link.size;
-    let m = (s.len() - first) / size;
-    let yard = check_yard(s, l, m);
-    match yard {
-        Checked::Refused(_) => yard,
-        Checked::Fine => check_links(s, l, m),
-    }
+    let m = (s.len() - l.yard.size) / l.link.size;
+    let yard = YardRecord {
+        bytes: s,
+        layout: l,
+    };
+    check_yard(yard, m)?;
+    let records = Records {
+        bytes: s,
+        layout: l,
+        m,
+    };
+    check_links(records)?;
+    Ok(records)
 }

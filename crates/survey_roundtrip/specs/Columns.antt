@@ -2,16 +2,14 @@
 use Rattle.std.specs.Prelude.{false, ◌≡◌, refl, ℕ, zero, suc, ◌+◌, ◌*◌, ◌≤◌, ◌<◌, leb, ltb, ℤ, pos, take}
 use Rattle.std.proofs.Math.Bool.{and-false}
 use mathlib.Core.List.{List, ◌∷◌, map}
-use Rattle.std.proofs.Common.{⊎_elim, ap₂, ◌∙◌, eq-or-lt_of_le, arith, of_z, to_z}
+use Rattle.std.proofs.Common.{⊎_elim, ap₂, ◌∙◌, eq-or-lt_of_le, arith}
 use Rattle.std.proofs.Math.Path.{sym, ap, subst}
 use Rattle.std.proofs.Math.Nat.{zero-add}
 use borrow.Author.Tests.{lt-leb, ltb-false, ltb-true}
 use Rattle.std.proofs.Math.ListN.{get_or, length, length-map}
 use Rattle.std.proofs.Math.Seq.{get_or-take, length-take-le}
-use Rattle.std.specs.Int.{w16, w32}
-use Rattle.std.proofs.lemmas.Int.{to_z-of_z}
 use Rattle.order.specs.Lists.{numbers_from}
-use Rattle.order.proofs.Lists.{get_or_default, get_or_map}
+use Rattle.order.proofs.Lists.{get_or_map}
 use Rattle.order.specs.Test.{by-test}
 use Rattle.order.proofs.Sorted.{number_at, numbers-length}
 use Rattle.network.specs.Limits.{max_links}
@@ -20,25 +18,26 @@ use Rattle.network.proofs.Column.{column-at, column-length}
 use Rattle.network.specs.Checked.{first_refusal, ◌or_else◌}
 use Rattle.network.proofs.CheckedLaws.{first_found, first_more}
 use Rattle.network.specs.Writing.{Link, figures_from, lacks_cost, link_figures_checked, link_from, links_figures_checked, no_link, no_station, sum_from}
-use Rattle.network.specs.declared.Checked.{Checked}
-use Rattle.network.specs.declared.Checked.TheVariants.{Fine, Refused}
-use Rattle.network.specs.declared.Refusal.{Refusal}
+use Rattle.network.specs.Checked.{Checked}
+use Rattle.std.specs.Prelude.{Ok, Err}
+use Rattle.network.specs.Checked.{no_refusal}
+use Rattle.network.specs.declared.refusals.Refusal.{Refusal}
 use Rattle.network.specs.declared.YardFigures.{YardFigures}
 use Rattle.survey_roundtrip.specs.Fields.{Fitting, Met}
 
 -- the first refusal of checks that agree up to it
-pub first-agree : (f g : ℕ → Checked) (m : ℕ) → ((i : ℕ) → i < m → first_refusal g i ≡ Fine → f i ≡ g i) → first_refusal f m ≡ first_refusal g m
+pub first-agree : (f g : ℕ → Checked) (m : ℕ) → ((i : ℕ) → i < m → first_refusal g i ≡ no_refusal → f i ≡ g i) → first_refusal f m ≡ first_refusal g m
 unfolding first_refusal ◌or_else◌
 first-agree f g zero e = refl
 first-agree f g (suc m) e =
     ap (λ (c : Checked). c or_else f m) (first-agree f g m (λ i h. e i (omega arith))) ∙ next (first_refusal g m) (e m (omega arith))
   where
-    next : (c : Checked) → (c ≡ Fine → f m ≡ g m) → c or_else f m ≡ c or_else g m
-    next Fine q = q refl
-    next (Refused r) q = refl
+    next : (c : Checked) → (c ≡ no_refusal → f m ≡ g m) → c or_else f m ≡ c or_else g m
+    next (Ok u) q = q refl
+    next (Err r) q = refl
 
 -- a refusal is not nothing
-pub refused-fine : {r : Refusal} {c : Checked} → c ≡ Refused r → c ≡ Fine → ⊥
+pub refused-fine : {r : Refusal} {c : Checked} → c ≡ Err r → c ≡ no_refusal → ⊥
 refused-fine e q = let z : ◌≡◌ {A = ℕ} 0 1 = cc in omega arith
 
 -- columns with both ends and both ceiling costs for each link, and no more links than a survey may have
@@ -93,7 +92,7 @@ module _ (y : YardFigures) (ends : List ℕ) (sums costs : List ℤ) where
   links-checked = ap (links_figures_checked y links) link-many ∙ links-to (length sums) (omega arith)
 
   -- links of the columns that fit are links of the figures that fit
-  met : ((i : ℕ) → i < length sums → columns_checked i ≡ Fine → Fitting (link_of i)) → Met (figures_from y ends sums costs)
+  met : ((i : ℕ) → i < length sums → columns_checked i ≡ no_refusal → Fitting (link_of i)) → Met (figures_from y ends sums costs)
   unfolding figures_from
   met fits =
       record {
@@ -112,7 +111,7 @@ module _ (y : YardFigures) (ends : List ℕ) (sums costs : List ℤ) where
     met_all fits = met (λ i h e. subst Fitting (sym (whole i h)) (fits i h))
 
     -- where link k is refused, and the links up to it fit
-    pub met-found : (k : ℕ) (r : Refusal) → columns_checked k ≡ Fine → link_figures_checked y (link_of k) (k + 1) ≡ Refused r
+    pub met-found : (k : ℕ) (r : Refusal) → columns_checked k ≡ no_refusal → link_figures_checked y (link_of k) (k + 1) ≡ Err r
         → ((i : ℕ) → i < k + 1 → Fitting (link_from 0 ends sums costs i)) → Met (figures_from y ends sums costs)
     unfolding columns_checked
     met-found k r so_far found fits =
@@ -123,46 +122,23 @@ module _ (y : YardFigures) (ends : List ℕ) (sums costs : List ℤ) where
 
 -- ---- a loop over the links
 
--- link i as the code reads it
-abbrev pub link_read : List ℕ → List ℤ → List ℤ → ℕ → Link
-link_read ends sums costs i =
-    record {
-      first = get_or ends (2 * i) 0;
-      second = get_or ends (2 * i + 1) 0;
-      sum = to_z w32 (of_z w32 (get_or sums i (pos 0)));
-      c1 = to_z w16 (of_z w16 (get_or costs (2 * i) (pos 0)));
-      c2 = to_z w16 (of_z w16 (get_or costs (2 * i + 1) (pos 0)));
-    }
-
 module _ (ends : List ℕ) (sums costs : List ℤ) (full : Full ends sums costs) (i : ℕ) (h : i < length sums) (fits : Fitting (link_from 0 ends sums costs i)) where
-  -- it is link i
-  pub link-read : link_read ends sums costs i ≡ link_from 0 ends sums costs i
-  link-read =
-      λ k.
-      record {
-        first = get_or_default ends (2 * i) 0 no_station (omega (arith, full.all-ends)) k;
-        second = get_or_default ends (2 * i + 1) 0 no_station (omega (arith, full.all-ends)) k;
-        sum = to_z-of_z w32 (get_or sums i (pos 0)) fits.sum k;
-        c1 = to_z-of_z w16 (get_or costs (2 * i) (pos 0)) fits.c1 k;
-        c2 = to_z-of_z w16 (get_or costs (2 * i + 1) (pos 0)) fits.c2 k;
-      }
-
   -- one link more that fits
   pub fits_more : ((j : ℕ) → j < i → Fitting (link_from 0 ends sums costs j)) → (j : ℕ) → j < i + 1 → Fitting (link_from 0 ends sums costs j)
   fits_more before j less = ⊎_elim (λ (e : j ≡ i). rw e fits) (λ (l : j < i). before j l) (eq-or-lt_of_le (omega arith))
 
-  module _ (y : YardFigures) {c : Checked} (q : c ≡ link_figures_checked y (link_read ends sums costs i) (i + 1))
-      (so_far : columns_checked y ends sums costs i ≡ Fine) where
+  module _ (y : YardFigures) {c : Checked} (q : c ≡ link_figures_checked y (link_from 0 ends sums costs i) (i + 1))
+      (so_far : columns_checked y ends sums costs i ≡ no_refusal) where
     checked : c ≡ link_figures_checked y (link_from y.p ends sums costs i) (i + 1)
-    checked = q ∙ ap (λ (x : Link). link_figures_checked y x (i + 1)) (link-read ∙ sym (whole y ends sums costs full i h))
+    checked = q ∙ ap (λ (x : Link). link_figures_checked y x (i + 1)) (sym (whole y ends sums costs full i h))
 
     -- a link more that is not refused
-    pub columns-more : c ≡ Fine → columns_checked y ends sums costs (i + 1) ≡ Fine
+    pub columns-more : c ≡ no_refusal → columns_checked y ends sums costs (i + 1) ≡ no_refusal
     unfolding columns_checked
     columns-more e = first_more _ i so_far (sym checked ∙ e)
 
     -- the first that is
-    pub columns-found : (r : Refusal) → c ≡ Refused r → ((j : ℕ) → j < i → Fitting (link_from 0 ends sums costs j))
+    pub columns-found : (r : Refusal) → c ≡ Err r → ((j : ℕ) → j < i → Fitting (link_from 0 ends sums costs j))
         → (c ≡ columns_checked y ends sums costs (length sums)) × Met (figures_from y ends sums costs)
     unfolding columns_checked
     columns-found r e before = (

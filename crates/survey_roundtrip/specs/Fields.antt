@@ -23,7 +23,7 @@ use Rattle.network.specs.PlanList.{join}
 use Rattle.network.specs.Moved.{Moved}
 use Rattle.network.proofs.Moved.{moved-mark, moved_on, moved-u16, moved-u32}
 use Rattle.network.specs.Writing.{Figures, Link, link_bytes, links_figures_checked, no_link, survey_in, yard_bytes}
-use Rattle.network.specs.declared.Checked.TheVariants.{Fine}
+use Rattle.network.specs.Checked.{no_refusal}
 use Rattle.network.specs.declared.Layout.{Layout}
 use Rattle.network.specs.declared.YardFigures.{YardFigures}
 use Rattle.encoding.specs.RoundTrip.{u16-bytes, u32-bytes}
@@ -55,7 +55,7 @@ pub record Fitting (x : Link) : Type 0 where
 -- Each link before which none is refused fits its bytes. That an entry of a column is a number of its type is known of entries that are read, and links
 -- after the first that is refused are not.
 pub record Met (f : Figures) : Type 0 where
-  pub each : (i : ℕ) → i < length f.links → links_figures_checked f.yard f.links i ≡ Fine → Fitting (get_or f.links i no_link)
+  pub each : (i : ℕ) → i < length f.links → links_figures_checked f.yard f.links i ≡ no_refusal → Fitting (get_or f.links i no_link)
 
 -- a link record with this mark and these figures stands at an index
 pub record LinkHeld (s : List ℕ) (at : ℕ) (mark : List ℕ) (x : Link) : Type 0 where

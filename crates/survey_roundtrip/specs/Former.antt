@@ -16,7 +16,7 @@ use Rattle.order.proofs.Sorted.{numbers-length}
 use Rattle.order.specs.Test.{by-test, left}
 use Rattle.order.proofs.Test.{right}
 use Rattle.network.specs.Bytes.{byte_at, little_endian, mark_at, signed}
-use Rattle.network.specs.Survey.{count_in, has_count, layout_of, link_count, link_start}
+use Rattle.network.specs.Survey.{count_at, count_in, has_count, layout_of, link_count, link_start}
 use Rattle.network.specs.PlanList.{join}
 use Rattle.network.specs.Moved.{Moved}
 use Rattle.network.proofs.Moved.{moved-mark, moved_on, moved-u16, moved-u32}
@@ -119,7 +119,7 @@ module _ (s : List ℕ) (l : Layout) (w : Writable l) (fine : RecordsFine s l) (
   with-count : has_count l ≡ true → yard_bytes l (figures_in l s).yard m ≡ take l.yard.size s
   unfolding numbers_from
   with-count e =
-      let at : l.count ≡ 6 = w.counted ∙ ap (λ (b : Bool). cond b written_yard 0) e in
+      let at : count_at l ≡ 6 = w.counted ∙ ap (λ (b : Bool). cond b written_yard 0) e in
       let written : byte_at s 6 ≡ m = ap (byte_at s) (sym at) ∙ counted e in
       let byte : m % 256 ≡ byte_at s 6 = omega (arith, written, fine.yard.few-links) in
       yard-by (byte_at s 6 ∷ []) 7 (ap (λ (b : Bool). cond b (little_endian 1 m) []) e ∙ ap (λ (x : ℕ). x ∷ []) byte)

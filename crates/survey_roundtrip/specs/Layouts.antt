@@ -5,7 +5,7 @@ use Rattle.std.proofs.lemmas.Bool.{not-false}
 use Rattle.order.specs.Every.{◌▸◌, done}
 use Rattle.order.proofs.Every.{every}
 use Rattle.order.specs.Test.{clash}
-use Rattle.network.specs.Survey.{has_count, layout_of, link_size, narrow_slots, plain, rest_in, row_where, triple, with_count, with_rest, yard_size}
+use Rattle.network.specs.Survey.{count_at, has_count, has_rest, layout_of, link_size, narrow_slots, plain, rest_in, row_where, triple, with_count, with_rest, yard_size}
 use Rattle.network.proofs.Layouts.{layout-has, row_has}
 use Rattle.network.specs.Writing.{is_of_kind, kind_of, layout_for, unknown_kind, writable}
 use Rattle.network.specs.WritingPromise.{Known}
@@ -25,8 +25,8 @@ pub record Writable (l : Layout) : Type 0 where
   pub slots : l.slots ≡ narrow_slots
   pub marked : length l.yard.mark ≡ 2
   pub size : l.yard.size ≡ written_yard + cond (has_count l) 1 0
-  pub counted : l.count ≡ cond (has_count l) written_yard 0
-  pub awake : l.rest ≡ 0
+  pub counted : count_at l ≡ cond (has_count l) written_yard 0
+  pub awake : has_rest l ≡ false
   pub link-marked : length l.link.mark ≡ 2
   pub link-size : l.link.size ≡ written_link
   pub read : layout_of l.yard.mark ≡ l
@@ -49,7 +49,7 @@ unfolding layout_of row_where
 plain-writable =
     record { fewest = refl; slots = refl; marked = refl; size = refl; counted = refl; awake = refl; link-marked = refl; link-size = refl; read = refl }
 
-counted-writable : Writable with_count
+pub counted-writable : Writable with_count
 unfolding layout_of row_where
 counted-writable =
     record { fewest = refl; slots = refl; marked = refl; size = refl; counted = refl; awake = refl; link-marked = refl; link-size = refl; read = refl }

@@ -6,7 +6,7 @@ use Rattle.network.specs.Refusals.{checked_of}
 use Rattle.network.proofs.Accepted.{accepted-records}
 use Rattle.network.specs.Writing.{figures_checked, figures_in, figures_of, no_link}
 use Rattle.network.specs.WritingPromise.{OfBytes}
-use Rattle.network.specs.declared.Checked.TheVariants.{Fine}
+use Rattle.network.specs.Checked.{no_refusal}
 use Rattle.network.specs.declared.Layout.{Layout}
 use Rattle.encoding.specs.SignedRoundTrip.{fits-i16, fits-i32}
 use Rattle.survey_roundtrip.specs.Layouts.{Writable}
@@ -25,7 +25,7 @@ module _ (s : List ℕ) (bytes : OfBytes s) where
       (record { sum = fits-i32 s bytes.each (at + 4); c1 = short (at + 8 + 2 * 0); c2 = short (at + 8 + 2 * 1) })
 
   -- the writer declines none of them
-  pub figures-legal : Writable (layout_of s) → checked_of s ≡ Fine → figures_checked (figures_of s) ≡ Fine
+  pub figures-legal : Writable (layout_of s) → checked_of s ≡ no_refusal → figures_checked (figures_of s) ≡ no_refusal
   figures-legal w e =
       let l = layout_of s in
       sym (reader-agrees l w (figures_of s) (λ _. record { each = λ i h _. figures-fit l i h }))

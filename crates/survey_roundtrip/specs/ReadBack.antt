@@ -26,8 +26,11 @@ use Rattle.network.specs.Refusals.{outside, records_checked, yard_checked}
 use Rattle.network.proofs.Resting.{all-counted}
 use Rattle.network.specs.Writing.{Figures, Link, figures_checked, figures_in, figures_of, link_figures_checked, link_in, links_figures_checked, no_link}
 use Rattle.network.specs.Writing.{survey_in, yard_figures_checked}
-use Rattle.network.specs.declared.Checked.{Checked}
-use Rattle.network.specs.declared.Checked.TheVariants.{Fine, Refused}
+use Rattle.network.specs.Checked.{Checked}
+use Rattle.std.specs.Prelude.{Ok, Err}
+use Rattle.network.specs.Checked.{no_refusal}
+use Rattle.network.specs.declared.refusals.Rule.{Rule}
+use Rattle.network.specs.declared.refusals.Rule.TheVariants.{BadCeilings, BadRanks, BadRest, BadStations, TooManyLinks, TooManyPositions, WrongLinkCount}
 use Rattle.network.specs.declared.Layout.{Layout}
 use Rattle.survey_roundtrip.specs.Layouts.{Writable, none-at-rest, written_link}
 use Rattle.survey_roundtrip.specs.Columns.{first-agree}
@@ -36,10 +39,10 @@ use Rattle.survey_roundtrip.specs.Fields.{Fitting, Met, costs-are, link-held, su
 -- ---- the order of the refusals
 
 -- a check that finds nothing wherever those before it find nothing does not show
-no_more : (before : Checked) (bad : Bool) (number place : ℕ) → (before ≡ Fine → bad ≡ false) → before or_else refuse_if bad number place ≡ before
+no_more : (before : Checked) (bad : Bool) (rule : Rule) (place : ℕ) → (before ≡ no_refusal → bad ≡ false) → before or_else refuse_if bad rule place ≡ before
 unfolding refuse_if ◌or_else◌
-no_more (Refused r) bad number place e = refl
-no_more Fine bad number place e = rw (e refl)
+no_more (Err r) bad rule place e = refl
+no_more (Ok u) bad rule place e = rw (e refl)
 
 -- with no station at rest some station works
 none_rest : (n : ℕ) → 1 ≤ n → bad_rest n 0 ≡ false
@@ -47,7 +50,7 @@ unfolding bad_rest
 none_rest n h = rw (zero-div (2 ^ n), all-counted n) (ne_eqb n 0 (λ e. omega arith))
 
 -- where nothing is refused, nothing is among the first checks
-first_part : (f : ℕ → Checked) (m : ℕ) → first_refusal f m ≡ Fine → (i : ℕ) → i ≤ m → first_refusal f i ≡ Fine
+first_part : (f : ℕ → Checked) (m : ℕ) → first_refusal f m ≡ no_refusal → (i : ℕ) → i ≤ m → first_refusal f i ≡ no_refusal
 unfolding first_refusal
 first_part f zero e i h = let none : i ≡ 0 = omega arith in rw none
 first_part f (suc m) e i h =
@@ -84,12 +87,12 @@ module _ (l : Layout) (w : Writable l) (f : Figures) where
 
   -- the checks of stations and of the number of links
   abbrev first : Checked
-  first = refuse_if (outside f.yard.n 1 max_stations) 3 0 or_else refuse_if (ltb max_links m) 4 0
+  first = refuse_if (outside f.yard.n 1 max_stations) BadStations 0 or_else refuse_if (ltb max_links m) TooManyLinks 0
 
-  few-links : first ≡ Fine → m ≤ max_links
+  few-links : first ≡ no_refusal → m ≤ max_links
   few-links e = ltb-false max_links m (refuse-fine _ _ _ (fine-both _ _ e).1)
 
-  some-station : first ≡ Fine → 1 ≤ f.yard.n
+  some-station : first ≡ no_refusal → 1 ≤ f.yard.n
   some-station e = ltb-false _ _ (or-false _ _ (refuse-fine _ _ _ (fine-both _ _ e).0)).0
 
   -- no number of ceilings is too small
@@ -102,9 +105,9 @@ module _ (l : Layout) (w : Writable l) (f : Figures) where
       let held = yard-held l w f in
       let y = f.yard in
       rw (held.marked, held.stations, held.ceilings, held.ranks, none-at-rest l w s, all-counted y.n, right-ceilings y.p)
-      (ap (λ (c : Checked). c or_else refuse_if (ltb narrow_slots y.p) 5 0 or_else refuse_if (bad_ranks y.n y.p (y.k1 ∷ y.k2 ∷ [])) 6 0)
-      (ap (λ (c : Checked). c or_else refuse_if (bad_rest y.n 0) 18 0) (no_more first (bad_count s l m) 15 0 (λ e. held.count (few-links e)))
-      ∙ no_more first (bad_rest y.n 0) 18 0 (λ e. none_rest y.n (some-station e))))
+      (ap (λ (c : Checked). c or_else refuse_if (ltb narrow_slots y.p) BadCeilings 0 or_else refuse_if (bad_ranks y.n y.p (y.k1 ∷ y.k2 ∷ [])) BadRanks 0)
+      (ap (λ (c : Checked). c or_else refuse_if (bad_rest y.n 0) BadRest 0) (no_more first (bad_count s l m) WrongLinkCount 0 (λ e. held.count (few-links e)))
+      ∙ no_more first (bad_rest y.n 0) BadRest 0 (λ e. none_rest y.n (some-station e))))
 
   -- the bytes of link record i get what its figures get
   link-agrees : (i : ℕ) → i < m → Fitting (get_or f.links i no_link)
@@ -117,9 +120,9 @@ module _ (l : Layout) (w : Writable l) (f : Figures) where
       let costs = ap (λ (k : ℕ). cost_bits k s (link_start l i)) w.slots ∙ costs-are held in
       rw (held.marked, yard.stations, yard.ceilings, held.first, held.second, costs) (rw (held.sum, to_z-of_z w32 x.sum fits.sum))
 
-  module _ (met : yard_figures_checked f.yard m ≡ Fine → Met f) where
+  module _ (met : yard_figures_checked f.yard m ≡ no_refusal → Met f) where
     -- the reader's verdict on the links, once the yard is not refused
-    links-agree : yard_figures_checked f.yard m ≡ Fine → links_checked s l m ≡ links_figures_checked f.yard f.links m
+    links-agree : yard_figures_checked f.yard m ≡ no_refusal → links_checked s l m ≡ links_figures_checked f.yard f.links m
     links-agree yard = first-agree _ _ m (λ i h so_far. link-agrees i h ((met yard).each i h so_far))
 
     -- the reader's verdict on the records is that on the figures
@@ -127,10 +130,10 @@ module _ (l : Layout) (w : Writable l) (f : Figures) where
     unfolding records_checked figures_checked refuse_if ◌or_else◌
     records-agree = rw (right-length, link-count, yard-agrees) (go (yard_figures_checked f.yard m) links-agree)
       where
-        go : (c : Checked) → (c ≡ Fine → links_checked s l m ≡ links_figures_checked f.yard f.links m)
+        go : (c : Checked) → (c ≡ no_refusal → links_checked s l m ≡ links_figures_checked f.yard f.links m)
             → c or_else links_checked s l m ≡ c or_else links_figures_checked f.yard f.links m
-        go Fine e = e refl
-        go (Refused r) e = refl
+        go (Ok u) e = e refl
+        go (Err r) e = refl
 
     -- and so is that on the survey: two ceilings never make too many positions
     pub reader-agrees : checked_of s ≡ figures_checked f
@@ -138,7 +141,7 @@ module _ (l : Layout) (w : Writable l) (f : Figures) where
     reader-agrees =
         let layout = survey-layout l w f in
         let roomy : Roomy l = rw (← layout) (layout-roomy s) in
-        rw layout (no_more (records_checked l s) _ 19 0 (λ e. narrow-few s l (records-fine s l roomy e) w.slots) ∙ records-agree)
+        rw layout (no_more (records_checked l s) _ TooManyPositions 0 (λ e. narrow-few s l (records-fine s l roomy e) w.slots) ∙ records-agree)
 
   module _ (fits : (i : ℕ) → i < m → Fitting (get_or f.links i no_link)) where
     -- the figures of link record i are read back
@@ -173,7 +176,7 @@ module _ (l : Layout) (w : Writable l) (f : Figures) where
         })
 
   -- where nothing is refused, all links fit
-  pub legal-fit : figures_checked f ≡ Fine → (yard_figures_checked f.yard m ≡ Fine → Met f) → (i : ℕ) → i < m → Fitting (get_or f.links i no_link)
+  pub legal-fit : figures_checked f ≡ no_refusal → (yard_figures_checked f.yard m ≡ no_refusal → Met f) → (i : ℕ) → i < m → Fitting (get_or f.links i no_link)
   unfolding figures_checked
   legal-fit e met i h =
       let both = fine-both _ _ e in

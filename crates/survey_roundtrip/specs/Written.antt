@@ -1,13 +1,13 @@
 -- Writes one after the other that make a link record, a yard record, the link records of columns, and a survey.
-use Rattle.std.specs.Prelude.{Bool, ◌≡◌, ℤ, drop}
+use Rattle.std.specs.Prelude.{Bool, ◌≡◌, ℤ, drop, Option, Some, None, is_some}
+use Rattle.std.specs.Option.{unwrap_or}
 use Rattle.std.proofs.Math.Bool.{true, false, cond}
 use mathlib.Core.List.{List, [], ◌∷◌, ◌++◌, map, append_assoc, append-nil, map-map}
 use Rattle.std.proofs.Math.Path.{refl, sym, ap}
 use Rattle.std.proofs.Common.{◌∙◌, add-zero, zero-add, add-one}
-use Prim.Native.Nat.{ℕ, zero, suc, ◌+◌, ◌*◌, ◌%◌, ◌≤◌, ◌<◌}
+use Prim.Native.Nat.{ℕ, zero, suc, ◌+◌, ◌*◌, ◌%◌, ◌≤◌}
 use native.Mathlib.Omega.{arith}
 use Rattle.std.proofs.Math.ListN.{length, length-append}
-use borrow.Author.Tests.{le-ltb, lt-ltb}
 use Rattle.std.specs.Int.{w16, w32}
 use Rattle.order.specs.Lists.{numbers_from}
 use Rattle.network.specs.Bytes.{bits_of, little_endian}
@@ -67,24 +67,24 @@ fields-written (a ∷ b ∷ c ∷ mark) d y two e₁ e₂ e₃ e₄ e₅ = absur
 module _ (l : Layout) (w : Writable l) (y : YardFigures) (m : ℕ) (few : m ≤ max_links) (d : List ℕ) {o : List ℕ}
     (e : o ≡ overwrite d 0 (field_bytes l.yard.mark y)) where
   -- the fields and the link count behind them
-  pub yard-counted : 0 < l.count → {o' : List ℕ} → o' ≡ overwrite o l.count (m ∷ []) → o' ≡ overwrite d 0 (yard_bytes l y m)
+  pub yard-counted : (at : ℕ) → l.count ≡ Some at → {o' : List ℕ} → o' ≡ overwrite o at (m ∷ []) → o' ≡ overwrite d 0 (yard_bytes l y m)
   unfolding yard_bytes
-  yard-counted h q =
-      let has : has_count l ≡ true = lt-ltb 0 l.count h in
-      let at : l.count ≡ written_yard = w.counted ∙ ap (λ (b : Bool). cond b written_yard 0) has in
+  yard-counted at h q =
+      let has : has_count l ≡ true = ap is_some h in
+      let place : at ≡ written_yard = ap (λ (o : Option ℕ). unwrap_or o 0) (sym h) ∙ w.counted ∙ ap (λ (b : Bool). cond b written_yard 0) has in
       let size = length-append l.yard.mark (y.n ∷ y.p ∷ y.k1 ∷ y.k2 ∷ []) in
       let byte : m ≡ m % 256 = omega arith in
       let fields : List ℕ = y.n ∷ y.p ∷ y.k1 ∷ y.k2 ∷ [] in
-      overwrite-chain d 0 (field_bytes l.yard.mark y) l.count (m ∷ []) q e (omega (arith, w.marked)) (omega arith)
+      overwrite-chain d 0 (field_bytes l.yard.mark y) at (m ∷ []) q e (omega (arith, w.marked)) (omega arith)
       ∙ ap (overwrite d 0)
       (append_assoc l.yard.mark fields (m ∷ [])
       ∙ ap (λ (r : List ℕ). l.yard.mark ++ (fields ++ r)) (ap (λ (x : ℕ). x ∷ []) byte ∙ ap (λ (b : Bool). cond b (little_endian 1 m) []) (sym has)))
 
   -- the fields alone, where there is none
-  pub yard-uncounted : l.count ≤ 0 → o ≡ overwrite d 0 (yard_bytes l y m)
+  pub yard-uncounted : l.count ≡ None → o ≡ overwrite d 0 (yard_bytes l y m)
   unfolding yard_bytes
   yard-uncounted h =
-      let has : has_count l ≡ false = le-ltb 0 l.count h in
+      let has : has_count l ≡ false = ap is_some h in
       e ∙ ap (λ (b : Bool). overwrite d 0 (l.yard.mark ++ (y.n ∷ y.p ∷ y.k1 ∷ y.k2 ∷ cond b (little_endian 1 m) []))) (sym has)
 
 -- ---- all link records

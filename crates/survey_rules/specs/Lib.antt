@@ -4,3 +4,5 @@ pub mod Tried
 pub mod Absent
 -- the costs of absent ceilings, read from a link record
 pub mod Read
+-- the fields that a yard record has in some layouts alone
+pub mod Given

@@ -1,6 +1,8 @@
 -- The costs of absent ceilings, read from the link record at an index one after the other.
-use Rattle.std.specs.Prelude.{ℕ, ◌+◌, ◌≤◌, ◌<◌, true, false, List, ◌≡◌, get_or, length}
-use Rattle.std.proofs.Common.{◌∙◌, sym}
+use Rattle.std.specs.Prelude.{ℕ, zero, suc, ◌+◌, ◌-◌, ◌≤◌, ◌<◌, Bool, true, false, not, ◌||◌, eqb, List, ◌≡◌, get_or, length}
+use Rattle.std.specs.List.{list_any, range_with_len}
+use Rattle.std.proofs.Common.{◌∙◌, sym, refl, arith}
+use borrow.Author.Tests.{eqb-true, eqb-false}
 use Rattle.network.specs.Refusals.{absent_costs}
 use Rattle.network.specs.Survey.{cost_bits, cost_bits_in}
 use Rattle.network.proofs.Tabulate.{tabulate-at, tabulate-length}
@@ -27,3 +29,17 @@ module _ (slots : ℕ) (s : List ℕ) (at : ℕ) where
     -- none is left
     pub read_none : slots ≤ j → absent_costs j (cost_bits slots s at) ≡ false
     read_none h = absent_none _ j (rw bits-length h)
+
+  -- the costs that are read one after the other from ceiling p on
+  pub read-any : (p : ℕ) → list_any (λ j. not (eqb (cost_bits_in s at j) 0)) (range_with_len p (slots - p)) ≡ absent_costs p (cost_bits slots s at)
+  read-any p = go (slots - p) p (omega arith)
+    where
+      go : (n j : ℕ) → n ≡ slots - j → list_any (λ i. not (eqb (cost_bits_in s at i) 0)) (range_with_len j n) ≡ absent_costs j (cost_bits slots s at)
+      go zero j e = sym (read_none j (omega arith))
+      go (suc n) j e = pick (eqb (cost_bits_in s at j) 0) refl (go n (j + 1) (omega arith))
+        where
+          pick : (b : Bool) → eqb (cost_bits_in s at j) 0 ≡ b
+              → list_any (λ i. not (eqb (cost_bits_in s at i) 0)) (range_with_len (j + 1) n) ≡ absent_costs (j + 1) (cost_bits slots s at)
+              → not b || list_any (λ i. not (eqb (cost_bits_in s at i) 0)) (range_with_len (j + 1) n) ≡ absent_costs j (cost_bits slots s at)
+          pick true q ih = ih ∙ sym (read-turn j (omega arith) refl (eqb-true _ _ q))
+          pick false q ih = sym (read_found j (omega arith) refl (eqb-false _ _ q))

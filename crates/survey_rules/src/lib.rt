@@ -1,7 +1,7 @@
 // The rules that the records of a survey must keep: numbers 2 to 8, 15 and 18, in their order.
 #![tactic(auto)]
 
-// A number outside its range, and the first refusal of several checks.
+// A number outside its range, and the refusal by a rule.
 pub mod checks;
 
 // The rule of ranks, number 6.

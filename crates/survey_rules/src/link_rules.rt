@@ -15,17 +15,12 @@ pub fn bad_ends(n: u8, a: u8, b: u8) -> bool
 pub fn absent_costs(p: u8, bits: &[u16]) -> bool
     ensures { result ≡ absent_costs p bits.now }
 {
-    for j in p as usize..bits.len() {
-        if bits[j] != 0 {
-            return true;
-        }
-    }
-    false
+    bits.iter().skip(p as usize).any(|b| *b != 0)
 }
 
 // Whether a sum cost is outside its range.
 pub fn bad_sum(s: i32) -> bool
     ensures { result ≡ bad_sum s }
 {
-    (s < MIN_SUM) | (MAX_SUM < s)
+    !(MIN_SUM..=MAX_SUM).contains(&s)
 }

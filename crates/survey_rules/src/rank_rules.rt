@@ -8,22 +8,18 @@ use network::limits::{MAX_RANK, MAX_SLACK};
 use ranks::slack_of;
 
 // Whether k is against the rule of ceiling j, of p present ones, with n working stations.
-fn bad_rank(n: u8, p: u8, j: u8, k: u8) -> bool
+fn bad_rank(n: u8, p: u8, j: usize, k: u8) -> bool
     ensures { result ≡ bad_rank n p j k }
 {
-    ((j < p) & (is_outside(k, 1, MAX_RANK) | (n <= k))) | ((p <= j) & (k != 0))
+    let present = p as usize;
+    ((j < present) & (is_outside(k, 1, MAX_RANK) | (n <= k))) | ((present <= j) & (k != 0))
 }
 
 // Whether one of the ranks ks is against the rule of its ceiling.
 fn any_bad_rank(n: u8, p: u8, ks: &[u8]) -> bool
-    requires { length ks.now ≤ max_ceilings }
     ensures { result ≡ any_bad_rank n p 0 ks.now }
 {
-    let mut bad = false;
-    for j in 0..ks.len() {
-        bad = bad | bad_rank(n, p, j as u8, ks[j]);
-    }
-    bad
+    ks.iter().enumerate().any(|(j, k)| bad_rank(n, p, j, *k))
 }
 
 // Whether a rank is against its rule, or the ranks have more above 1 than is allowed.

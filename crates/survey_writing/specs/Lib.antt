@@ -1,8 +1,8 @@
 -- the layout that is found
 pub mod Found
--- the rules of a yard's figures, one after the other
-pub mod Yard
--- the loop over the links
-pub mod Links
+-- the figures of a survey and of a link
+pub mod Figures
+-- columns made full
+pub mod Padded
 -- what is left of writing once the yard is not refused
 pub mod Filled

@@ -4,6 +4,9 @@
 // The kinds of yard records that are written, and their layouts.
 pub mod kinds;
 
+// The figures of a survey and of a link.
+pub mod survey;
+
 // Short columns made full.
 pub mod padding;
 
@@ -13,5 +16,5 @@ pub mod figures;
 // A yard record and a link record, written.
 pub mod records;
 
-// 7, 8 or 17, or the whole survey.
+// The whole survey, or the refusal for bad ends, bad costs or a short output.
 pub mod writer;

@@ -5,55 +5,46 @@ ghost use Rattle.network.specs.Writing.{link_bytes, yard_bytes};
 ghost use Rattle.buffers.specs.Overwrite.{overwrite};
 ghost use Rattle.survey_roundtrip.specs.Layouts.{Writable, written_link, written_yard};
 ghost use Rattle.survey_roundtrip.specs.Written.{field_bytes};
+ghost use Rattle.survey_writing.specs.Figures.{link_of};
 
+use crate::survey::LinkFigures;
 use buffers::copies::copy_in;
 use encoding::writes::{write_i16, write_i32, write_u8};
 use network::{Layout, YardFigures};
 use survey_layout::fields::{CEILINGS, COSTS, ENDS, RANKS, STATIONS, SUM};
 
 // Writes a yard record without a link count at the front.
-fn write_fields(out: &mut [u8], mark: [u8; 2], y: YardFigures)
+fn write_fields(out: &mut [u8], mark: [u8; 2], yard: YardFigures)
     requires { written_yard ≤ length out.old }
-    ensures { out.new ≡ overwrite out.old 0 (field_bytes mark y) }
+    ensures { out.new ≡ overwrite out.old 0 (field_bytes mark yard) }
 {
     copy_in(out, 0, &mark);
-    write_u8(out, STATIONS, y.n);
-    write_u8(out, CEILINGS, y.p);
-    write_u8(out, RANKS, y.k1);
-    write_u8(out, RANKS + 1, y.k2);
+    write_u8(out, STATIONS, yard.n);
+    write_u8(out, CEILINGS, yard.p);
+    write_u8(out, RANKS, yard.k1);
+    write_u8(out, RANKS + 1, yard.k2);
 }
 
 // Writes the yard record of a survey with m links at the front.
-pub fn write_yard(out: &mut [u8], l: Layout, y: YardFigures, m: usize)
+pub fn write_yard(out: &mut [u8], l: Layout, yard: YardFigures, m: usize)
     requires { Writable l × (l.yard.size ≤ length out.old) × (m ≤ max_links) }
-    ensures { out.new ≡ overwrite out.old 0 (yard_bytes l y m) }
+    ensures { out.new ≡ overwrite out.old 0 (yard_bytes l yard m) }
 {
-    let mark = l.yard.mark;
-    let count = l.count as usize;
-    write_fields(out, mark, y);
-    if 0 < count {
-        write_u8(out, count, m as u8);
+    write_fields(out, l.yard.mark, yard);
+    if let Some(count) = l.count {
+        write_u8(out, count as usize, m as u8);
     }
 }
 
-// Writes the record of a link with ends a and b.
-pub fn write_link(
-    out: &mut [u8],
-    at: usize,
-    mark: [u8; 2],
-    a: u8,
-    b: u8,
-    sum: i32,
-    c1: i16,
-    c2: i16,
-)
+// Writes the record of a link.
+pub fn write_link(out: &mut [u8], at: usize, mark: [u8; 2], link: LinkFigures)
     requires { at + written_link ≤ length out.old }
-    ensures { out.new ≡ overwrite out.old at (link_bytes mark (record { first = a; second = b; sum = sum; c1 = c1; c2 = c2 })) }
+    ensures { out.new ≡ overwrite out.old at (link_bytes mark (link_of link)) }
 {
     copy_in(out, at, &mark);
-    write_u8(out, at + ENDS, a);
-    write_u8(out, at + ENDS + 1, b);
-    write_i32(out, at + SUM, sum);
-    write_i16(out, at + COSTS, c1);
-    write_i16(out, at + COSTS + 2, c2);
+    write_u8(out, at + ENDS, link.first);
+    write_u8(out, at + ENDS + 1, link.second);
+    write_i32(out, at + SUM, link.sum);
+    write_i16(out, at + COSTS, link.c1);
+    write_i16(out, at + COSTS + 2, link.c2);
 }

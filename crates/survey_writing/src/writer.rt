@@ -1,90 +1,54 @@
 // A survey written from full columns of figures into a lent buffer.
 ghost use Rattle.std.specs.Prelude.{◌≡◌, ◌+◌, ◌*◌, ◌≤◌, length};
-ghost use Rattle.network.specs.Writing.{figures_from, survey_at_front, survey_in};
+ghost use Rattle.network.specs.Writing.{survey_at_front, survey_in};
 ghost use Rattle.buffers.specs.Overwrite.{overwrite};
-ghost use Rattle.survey_roundtrip.specs.Columns.{Full};
 ghost use Rattle.survey_roundtrip.specs.Fields.{Met};
 ghost use Rattle.survey_roundtrip.specs.Layouts.{Writable, written_link};
 ghost use Rattle.survey_roundtrip.specs.Written.{records_to};
-ghost use Rattle.survey_writing.specs.Filled.{full_after, full_status};
+ghost use Rattle.survey_writing.specs.Figures.{figures_of};
+ghost use Rattle.survey_writing.specs.Filled.{full_after, full_checked};
 
 use crate::figures::check_links;
 use crate::records::{write_link, write_yard};
-use network::{Checked, Layout, Status, YardFigures};
+use crate::survey::SurveyFigures;
+use network::{Layout, Refusal, Rule};
+use survey_rules::checks::refuse_if;
 
 // Writes the records of all links behind the yard record.
-fn write_links(out: &mut [u8], l: Layout, ends: &[u8], sums: &[i32], costs: &[i16])
-    requires { Writable l × Full ends.now sums.now costs.now × (l.yard.size + length sums.now * written_link ≤ length out.old) }
+fn write_links(out: &mut [u8], l: Layout, f: SurveyFigures)
+    requires { Writable l × (l.yard.size + length f.sums.now * written_link ≤ length out.old) }
     ensures { out.new
         ≡ overwrite out.old l.yard.size
-        (records_to l.link.mark ends.now sums.now costs.now (length sums.now)) }
+        (records_to l.link.mark f.entry.ends.now f.entry.sums.now f.entry.costs.now (length f.entry.sums.now)) }
 {
-    let mark = l.link.mark;
-    let size = l.link.size;
+    // By places: a proof knows nothing of what a loop over `chunks_exact_mut` writes.
     let mut at = l.yard.size;
-    let mut i = 0;
-    while i < sums.len() {
-        let a = ends[2 * i];
-        let b = ends[2 * i + 1];
-        let c1 = costs[2 * i];
-        let c2 = costs[2 * i + 1];
-        write_link(out, at, mark, a, b, sums[i], c1, c2);
-        at += size;
-        i += 1;
+    for i in 0..f.sums.len() {
+        write_link(out, at, l.link.mark, f.link(i));
+        at += l.link.size;
     }
 }
 
 // Writes the survey of the figures at the front.
-fn write_records(
-    out: &mut [u8],
-    l: Layout,
-    y: YardFigures,
-    ends: &[u8],
-    sums: &[i32],
-    costs: &[i16],
-)
-    requires { Writable l × Full ends.now sums.now costs.now × (l.yard.size + length sums.now * written_link ≤ length out.old) }
+fn write_records(out: &mut [u8], l: Layout, f: SurveyFigures)
+    requires { Writable l × (l.yard.size + length f.sums.now * written_link ≤ length out.old) }
     ensures { out.new
-        ≡ survey_at_front (survey_in l (figures_from y ends.now sums.now costs.now)) out.old }
+        ≡ survey_at_front (survey_in l (figures_of f.entry)) out.old }
 {
-    write_yard(out, l, y, sums.len());
-    write_links(out, l, ends, sums, costs);
+    write_yard(out, l, f.yard, f.sums.len());
+    write_links(out, l, f);
 }
 
 // Writes the survey of the figures, if no link is refused and the output is no shorter.
-pub fn write_full(
-    l: Layout,
-    y: YardFigures,
-    ends: &[u8],
-    sums: &[i32],
-    costs: &[i16],
-    out: &mut [u8],
-) -> Status
-    requires { Writable l × Full ends.now sums.now costs.now }
-    ensures reply { result ≡ full_status l (figures_from y ends.now sums.now costs.now) (length out.old) }
-    ensures leaves { out.new ≡ full_after l (figures_from y ends.now sums.now costs.now) out.old }
-    ensures met { Met (figures_from y ends.now sums.now costs.now) }
+pub fn write_full(l: Layout, f: SurveyFigures, out: &mut [u8]) -> Result<(), Refusal>
+    requires { Writable l }
+    ensures reply { result ≡ full_checked l (figures_of f.entry) (length out.old) }
+    ensures leaves { out.new ≡ full_after l (figures_of f.entry) out.old }
+    ensures met { Met (figures_of f.entry) }
 {
-    let checked = check_links(y, ends, sums, costs);
-    match checked {
-        Checked::Refused(refusal) => Status {
-            number: refusal.number,
-            place: refusal.place,
-        },
-        Checked::Fine => {
-            let first = l.yard.size;
-            let size = l.link.size;
-            if out.len() < first + sums.len() * size {
-                return Status {
-                    number: 17,
-                    place: 0,
-                };
-            }
-            write_records(out, l, y, ends, sums, costs);
-            Status {
-                number: 0,
-                place: 0,
-            }
-        }
-    }
+    check_links(f)?;
+    let size = l.yard.size + f.sums.len() * l.link.size;
+    refuse_if(out.len() < size, Rule::ShortOutput, 0)?;
+    write_records(out, l, f);
+    Ok(())
 }

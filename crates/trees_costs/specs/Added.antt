@@ -30,9 +30,6 @@ below_at {l = l} k i h = k.below (get_or l i 0) (get_or-mem l i 0 h)
 
 module _ (sums l : List ℕ) where
   -- the sum so far and what is left
-  pub sum-start : 0 + sum_of sums (drop 0 l) ≡ sum_of sums l
-  sum-start = omega arith
-
   pub sum-turn : (i s : ℕ) {r w : ℕ} → s + sum_of sums (drop i l) ≡ w → r ≡ sum_at sums (get_or l i 0) → i < length l → s + r + sum_of sums (drop (i + 1) l) ≡ w
   unfolding sum_of
   sum-turn i s e q h = rw (add-one, q) (let e' = rw (drop-cons l i 0 h) at e in omega arith)

@@ -1,8 +1,8 @@
 -- The costs of a list of links: what the code computes of the columns is what the network's definitions say.
-use Prim.Native.Nat.{ℕ, zero, suc, ◌+◌, ◌-◌, ◌*◌, ◌≤◌, ◌<◌}
+use Prim.Native.Nat.{ℕ, zero, suc, ◌+◌, ◌*◌, ◌≤◌, ◌<◌}
 use Rattle.std.specs.Prelude.{◌≡◌, refl, true, ◌&&◌, List, [], ◌∷◌, map, eqb, ltb, pos, drop, get_or, length, replicate, set, take}
 use Rattle.std.proofs.Math.Path.{sym}
-use Rattle.std.proofs.Common.{◌∙◌, suc-mul, length-drop, length-take, ext_get_or, get_or-take}
+use Rattle.std.proofs.Common.{◌∙◌, add-one, suc-mul, drop-drop, ext_get_or, get_or-take}
 use Rattle.std.proofs.Math.Nat.{mul-le-mul_right, zero-add}
 use native.Mathlib.Omega.{arith}
 use borrow.Author.Tests.{eqb-true, ltb-false, ltb-true}
@@ -31,7 +31,7 @@ use Rattle.network.specs.Yard.{ceiling_costs, ceiling_part, ends, graph, is_tree
 use Rattle.network.specs.declared.Costs.{Costs}
 use Rattle.network.specs.declared.Shape.{Shape}
 use Rattle.trees_costs.specs.Added.{Below, lowered_sum, sum-le, sum_of}
-use Rattle.trees_costs.specs.Ceiling.{CeilingFine, ceiling_of}
+use Rattle.trees_costs.specs.Ceiling.{ceiling_of}
 
 -- ---- definitions
 
@@ -64,17 +64,20 @@ pub record Priceable (shape : Shape) (costs : List ℤ) (ts : List ℕ) (raised 
 
 -- ---- the loop over the ceilings
 
+-- the columns of the ceilings after ceiling i
+pub columns-turn : (m : ℕ) (costs : List ℤ) (i : ℕ) {columns : List ℤ} → columns ≡ drop (i * m) costs → drop m columns ≡ drop ((i + 1) * m) costs
+columns-turn m costs i e = let n : (i + 1) * m ≡ i * m + m = omega (arith, add-one i, suc-mul i m) in rw (e, n) (drop-drop m (i * m) costs)
+
 module _ (m : ℕ) (ks : List ℕ) (costs : List ℤ) (ts : List ℕ) where
   pub ceilings-none : replicate ceilings_held (pos 0) ≡ ceilings_to m ks costs ts 0
   unfolding ceilings_to
   ceilings-none = sym (column-none ceilings_held (pos 0) _)
 
-  pub ceilings-turn : (i from to : ℕ) {l : List ℤ} {x : ℤ} → l ≡ ceilings_to m ks costs ts i → from ≡ i * m → to ≡ from + m
-      → x ≡ ceiling_of (take (to - from) (drop from costs)) (get_or ks i 0) ts → set l i x ≡ ceilings_to m ks costs ts (i + 1)
+  pub ceilings-turn : (i : ℕ) {l columns : List ℤ} {k : ℕ} {x : ℤ} → l ≡ ceilings_to m ks costs ts i → columns ≡ drop (i * m) costs → k ≡ get_or ks i 0
+      → x ≡ ceiling_of (take m columns) k ts → set l i x ≡ ceilings_to m ks costs ts (i + 1)
   unfolding ceilings_to
-  ceilings-turn i from to e f g q =
-      let n : i * m + m - i * m ≡ m = omega arith in
-      rw (e, q, g, f, n) (sym (column-more ceilings_held (pos 0) (λ j. ceiling_of (ceiling_part m costs j) (get_or ks j 0) ts) i))
+  ceilings-turn i e f r q =
+      rw (e, q, f, r) (sym (column-more ceilings_held (pos 0) (λ j. ceiling_of (ceiling_part m costs j) (get_or ks j 0) ts) i))
 
 module _ (shape : Shape) (costs : List ℤ) (ts : List ℕ) where
   pub ceilings-end : (i : ℕ) {l : List ℤ} → l ≡ ceilings_to shape.m shape.k costs ts i → i ≡ shape.p → l ≡ ceilings_by shape costs ts
@@ -85,24 +88,6 @@ module _ (shape : Shape) (costs : List ℤ) (ts : List ℕ) where
   ceilings-full : length (ceilings_by shape costs ts) ≡ ceilings_held
   unfolding ceilings_by ceilings_to
   ceilings-full = column-length ceilings_held (pos 0) _ shape.p
-
-  -- ceiling i at its turn: its part lies inside, and its rank is one of the links'
-  module _ (fine : Ceiled shape costs ts) (i from to : ℕ) (h : i < shape.p) (e : from ≡ i * shape.m) (f : to ≡ from + shape.m) where
-    pub part-inside : to ≤ length costs
-    part-inside = omega (arith, fine.size, mul-le-mul_right shape.m h, suc-mul i shape.m)
-
-    pub part-fine : CeilingFine (take (to - from) (drop from costs)) (get_or shape.k i 0) ts
-    part-fine =
-        let inside = part-inside in
-        record {
-          figures = record {
-            known = record {
-              below = λ c k. let b = fine.known.below c k in omega (arith, length-take (to - from) (drop from costs), length-drop from costs);
-            };
-            few = fine.few;
-          };
-          rank = fine.rank i h;
-        }
 
 -- ---- of a network
 

@@ -11,8 +11,7 @@ pub fn sum_at(sums: &[u32], link: u8) -> u32
     requires { link < length sums.now }
     ensures { result ≡ sum_at sums.now link }
 {
-    let number = link as usize;
-    sums[number]
+    sums[link as usize]
 }
 
 // The raised sum costs of the links, added up.
@@ -20,9 +19,10 @@ pub fn sum_of(sums: &[u32], links: &[u8]) -> u32
     requires { Below (length sums.now) links.now × (sum_of sums.now links.now < 4294967296) }
     ensures { result ≡ sum_of sums.now links.now }
 {
+    // A loop: for map and sum, the call's facts that each link has a sum cost and that the sum fits did not close by search.
     let mut sum = 0;
-    for i in 0..links.len() {
-        sum += sum_at(sums, links[i]);
+    for &link in links {
+        sum += sum_at(sums, link);
     }
     sum
 }

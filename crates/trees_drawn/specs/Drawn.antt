@@ -1,6 +1,6 @@
 -- A list of links gone through one by one: each is to be above the one before, below m, usable, and to join two groups. With t links that is a tree.
 use Prim.Native.Nat.{ℕ, ◌+◌, ◌-◌, ◌≤◌, ◌<◌}
-use Rattle.std.specs.Prelude.{◌≡◌, Bool, true, false, ◌&&◌, leb, ltb, ℤ, drop, get_or, length}
+use Rattle.std.specs.Prelude.{◌≡◌, Bool, true, false, ◌&&◌, Some, None, leb, ltb, ℤ, drop, get_or, length}
 use Rattle.std.proofs.Math.Path.{refl, sym, ap, fun_ext}
 use Rattle.std.proofs.Common.{◌∙◌, eq-eqb, ne_eqb, drop_of_length-le, drop-cons}
 use Rattle.std.proofs.Math.Bool.{and-false}
@@ -28,19 +28,19 @@ use Rattle.network.specs.Shaped.{Plannable}
 use Rattle.network.specs.Yard.{ends_at, usable_at, working}
 use Rattle.network.specs.declared.Shape.{Shape}
 use Rattle.stations.specs.Stations.{Stations, plannable-stations}
-use Rattle.trees_drawn.specs.Drawing.{drawing, drawing-led}
+use Rattle.trees_drawn.specs.Drawing.{drawing, drawing-led, drawing-none, drawing-some, keeps, with_link}
 use Rattle.trees_drawn.specs.declared.drawing.Drawn.{Drawn}
 
 -- ---- definitions
 
--- whether all is fine after the links ts too
+-- whether each of the links ts keeps to the rules, after the links so far and those before it
 unfoldable pub draws_from : ℕ → List ℕ → ℕ → Drawn → List ℕ → Bool
-draws_from rest ends m d [] = d.fine
-draws_from rest ends m d (c ∷ ts) = draws_from rest ends m (drawing rest ends m d c) ts
+draws_from rest ends m d [] = true
+draws_from rest ends m d (c ∷ ts) = keeps rest ends m d c && draws_from rest ends m (with_link ends d c) ts
 
 -- no link yet
 abbrev pub blank : Drawn
-blank = record { groups = apart; low = 0; fine = true }
+blank = record { groups = apart; low = 0 }
 
 -- whether the links rise below m, and each is usable and joins two groups
 unfoldable pub draws_forest : ℕ → List ℕ → ℕ → List ℕ → Bool
@@ -49,29 +49,33 @@ draws_forest rest ends m ts = draws_from rest ends m blank ts
 -- ---- the loop: what is left to draw
 
 module _ (rest : ℕ) (ends : List ℕ) (m : ℕ) where
+  -- the next link keeps to the rules
   pub draws-turn : (l : List ℕ) (i : ℕ) (d : Drawn) {r : Drawn} {w : Bool} → draws_from rest ends m d (drop i l) ≡ w
-      → r ≡ drawing rest ends m d (get_or l i 0) → i < length l → draws_from rest ends m r (drop (i + 1) l) ≡ w
+      → Some r ≡ drawing rest ends m d (get_or l i 0) → i < length l → draws_from rest ends m r (drop (i + 1) l) ≡ w
   unfolding draws_from
-  draws-turn l i d e q h = rw (q, add-one) (rw (drop-cons l i 0 h) at e)
+  draws-turn l i d e q h =
+      let k = drawing-some rest ends m d (get_or l i 0) q in
+      rw (k.1, add-one) (rw (drop-cons l i 0 h, k.0) at e)
 
-  pub draws-end : (l : List ℕ) (i : ℕ) (d : Drawn) {w : Bool} → draws_from rest ends m d (drop i l) ≡ w → length l ≤ i → d.fine ≡ w
+  -- or it breaks one
+  pub draws-fault : (l : List ℕ) (i : ℕ) (d : Drawn) {w : Bool} → draws_from rest ends m d (drop i l) ≡ w
+      → None ≡ drawing rest ends m d (get_or l i 0) → i < length l → false ≡ w
+  unfolding draws_from
+  draws-fault l i d e q h = rw (drop-cons l i 0 h, drawing-none rest ends m d (get_or l i 0) q) at e
+
+  -- all links are gone through
+  pub draws-end : (l : List ℕ) (i : ℕ) (d : Drawn) {w : Bool} → draws_from rest ends m d (drop i l) ≡ w → length l ≤ i → true ≡ w
   unfolding draws_from
   draws-end l i d e h = rw (drop_of_length-le l h) at e
 
   -- ---- what it means
 
-  -- a fault stays
-  draws-fault : (d : Drawn) (ts : List ℕ) → d.fine ≡ false → draws_from rest ends m d ts ≡ false
-  unfolding draws_from drawing
-  draws-fault d [] e = e
-  draws-fault d (c ∷ ts) e = draws-fault (drawing rest ends m d c) ts (rw e)
-
   module _ (within : (c : ℕ) → EndsBelow stations_held (ends_at ends c)) where
-    draws-from : (d : Drawn) (ts : List ℕ) → Led d.groups → d.fine ≡ true → draws_from rest ends m d ts
+    draws-from : (d : Drawn) (ts : List ℕ) → Led d.groups → draws_from rest ends m d ts
         ≡ is_rising_in d.low m ts && (all (usable_at rest ends) ts && is_forest (label_of d.groups.leader) (map (ends_at ends) ts))
-    unfolding draws_from drawing is_forest
-    draws-from d [] led e = e
-    draws-from d (c ∷ ts) led e =
+    unfolding draws_from with_link is_forest
+    draws-from d [] led = refl
+    draws-from d (c ∷ ts) led =
         let L = label_of d.groups.leader in
         by-test (leb d.low c)
         (λ low. by-test (ltb c m)
@@ -79,18 +83,19 @@ module _ (rest : ℕ) (ends : List ℕ) (m : ℕ) where
         (λ used. by-test (crosses L (ends_at ends c))
         (λ cross.
         let w = within c in
-        draws-from (drawing rest ends m d c) ts (drawing-led rest ends m d c w led) (rw (e, low, known, used, cross))
-        ∙ rw (low, known, used, cross, add-one, joined-labels d.groups _ _ led w.0 w.1))
-        (λ cross. draws-fault (drawing rest ends m d c) ts (rw (e, low, known, used, cross)) ∙ rw (cross, and-false, and-false)))
-        (λ used. draws-fault (drawing rest ends m d c) ts (rw (e, low, known, used)) ∙ rw (used, and-false)))
-        (λ known. draws-fault (drawing rest ends m d c) ts (rw (e, low, known)) ∙ rw (low, known)))
-        (λ low. draws-fault (drawing rest ends m d c) ts (rw (e, low)) ∙ rw low)
+        rw (low, known, used, cross)
+        (draws-from (with_link ends d c) ts (drawing-led ends d c w led)
+        ∙ rw (add-one, joined-labels d.groups _ _ led w.0 w.1)))
+        (λ cross. rw (low, known, used, cross, and-false, and-false)))
+        (λ used. rw (low, known, used, and-false)))
+        (λ known. rw (low, known)))
+        (λ low. rw low)
 
     draws-forest : (ts : List ℕ)
         → draws_forest rest ends m ts ≡ is_rising_in 0 m ts && (all (usable_at rest ends) ts && is_forest identity (map (ends_at ends) ts))
     unfolding draws_forest
     draws-forest ts =
-        draws-from blank ts apart-led refl
+        draws-from blank ts apart-led
         ∙ ap (λ (L : ℕ → ℕ). is_rising_in 0 m ts && (all (usable_at rest ends) ts && is_forest L (map (ends_at ends) ts))) (fun_ext apart-labels)
 
 -- as many rising usable links as a tree has are a tree where they have no ring

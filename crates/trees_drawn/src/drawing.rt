@@ -7,16 +7,15 @@ ghost use Rattle.trees_drawn.specs.Drawing.{drawing};
 use forest::Forest;
 use stations::{joins_working, station_at};
 
-// The links so far: the groups that they join, the least number that the next one may have, and whether each of them kept to the rules.
-#[derive(Drop)]
+// The links so far: the groups that they join, and the least number that the next one may have.
+#[derive(Clone, Copy)]
 pub struct Drawn {
     pub groups: Forest,
     pub low: usize,
-    pub fine: bool,
 }
 
-// One link more: it is to be above the one before, one of the m links, usable, and to join two groups.
-pub fn draw(drawn: Drawn, rest: u32, ends: &[u8], m: usize, link: u8) -> Drawn
+// One link more, if it is above the one before, one of the m links, usable, and joins two groups.
+pub fn draw(drawn: Drawn, rest: u32, ends: &[u8], m: usize, link: u8) -> Option<Drawn>
     requires { Stations ends.now × Led drawn.groups }
     ensures { result ≡ drawing rest ends.now m drawn link }
 {
@@ -27,11 +26,13 @@ pub fn draw(drawn: Drawn, rest: u32, ends: &[u8], m: usize, link: u8) -> Drawn
     let groups = drawn.groups;
     let new = groups.find(a);
     let old = groups.find(b);
-    let low = drawn.low;
-    let keeps = (low <= number) & ((number < m) & (usable & (new != old)));
-    Drawn {
-        groups: groups.join(new, old),
-        low: number + 1,
-        fine: drawn.fine & keeps,
+    let keeps = (drawn.low <= number) & (number < m) & usable & (new != old);
+    if keeps {
+        Some(Drawn {
+            groups: groups.join(new, old),
+            low: number + 1,
+        })
+    } else {
+        None
     }
 }

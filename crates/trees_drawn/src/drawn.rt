@@ -17,23 +17,21 @@ fn draws_forest(rest: u32, ends: &[u8], m: usize, links: &[u8]) -> bool
     let mut drawn = Drawn {
         groups: Forest::new(),
         low: 0,
-        fine: true,
     };
-    for i in 0..links.len() {
-        drawn = draw(drawn, rest, ends, m, links[i]);
+    for &link in links {
+        let Some(more) = draw(drawn, rest, ends, m, link) else {
+            return false;
+        };
+        drawn = more;
     }
-    drawn.fine
+    true
 }
 
-// Whether the links are a tree, written rising.
+// Whether the links are a tree, written rising. The shape and the ends apart: it asks less than a network does.
 pub fn is_tree(shape: Shape, ends: &[u8], links: &[u8]) -> bool
     requires { Drawable shape ends.now }
     ensures { result ≡ is_listed (ends_at ends.now) (working shape.n shape.rest) shape.m
         (usable_at shape.rest ends.now) links.now }
 {
-    if links.len() == shape.t as usize {
-        draws_forest(shape.rest, ends, shape.m, links)
-    } else {
-        false
-    }
+    links.len() == shape.t as usize && draws_forest(shape.rest, ends, shape.m, links)
 }

@@ -1,15 +1,14 @@
 -- Where the search through the trees of a yard stands: the links that are taken, the groups after each of them, and the link that is looked at next.
-use Rattle.std.specs.Prelude.{Bool, true, false, ◌&&◌, not, ◌⊎◌, ◌≡◌, ℕ, zero, suc, ◌+◌, ◌*◌, ◌-◌, ◌^◌, ◌≤◌, ◌<◌, eqb, ℤ}
+use Rattle.std.specs.Prelude.{Bool, true, false, ◌&&◌, ◌⊎◌, ◌≡◌, ℕ, zero, suc, ◌+◌, ◌*◌, ◌-◌, ◌^◌, ◌≤◌, ◌<◌, ℤ}
 use mathlib.Core.List.Memᴰ
 use mathlib.Core.List.Memᴰ.{head as here}
 use mathlib.Core.List.{List, [], ◌∷◌, ◌++◌, map}
-use Rattle.std.proofs.Common.{inl, inr, ◌∙◌, subst, add-one, take-suc, take-suc-set}
+use Rattle.std.proofs.Common.{inl, inr, le-leb, lt-ltb, ◌∙◌, subst, add-one, take-suc, take-suc-set}
 use Rattle.std.proofs.Math.Path.{refl, sym, ap, ap₂, subst⁻¹}
 use Rattle.std.proofs.Math.Nat.{pow-le-pow_right, sub-zero}
 use native.Mathlib.Omega.{arith}
-use Rattle.std.proofs.Math.ListN.{get_or, length, set, take}
-use Rattle.std.proofs.Math.Seq.{get_or-set_same, length-take-le, take-set-le}
-use Rattle.order.specs.Test.{clash}
+use Rattle.std.proofs.Math.ListN.{get_or, length, length-set, set, take}
+use Rattle.std.proofs.Math.Seq.{length-take-le}
 use Rattle.order.specs.Lists.{◌∈◌}
 use Rattle.spanning.proofs.Branches.{branches-all, come-back, come-empty, come-left, come-none, come-taken, come-whole, fewer-back, fewer-left, fewer-taken}
 use Rattle.spanning.specs.Branches.{steps_to_come, takes, to_come}
@@ -24,11 +23,13 @@ use Rattle.network.proofs.Resting.{joins-within, working-apart, working-few}
 use Rattle.network.specs.Shaped.{Plannable}
 use Rattle.network.specs.Yard.{ends_at, usable_at, working}
 use Rattle.network.specs.declared.Shape.{Shape}
-use Rattle.buffers.specs.Overwrite.{overwrite}
-use Rattle.forest.specs.Groups.{Led, joined, leaders-joined, leaders-test}
-use Rattle.forest.specs.History.{Recorded, groups-labels, groups-led, groups-more, groups-recorded, groups_after, groups_in, recorded-fewer, recorded_more}
+use Rattle.forest.specs.Groups.{Led, joined}
+use Rattle.forest.specs.History.{groups-labels, groups-led, groups-more, groups_after}
 use Rattle.forest.specs.declared.Forest.{Forest}
+use Rattle.trees_drawn.specs.Drawing.{keeps, with_link}
 use Rattle.trees_drawn.specs.Drawn.{Drawable, drawable}
+use Rattle.trees_drawn.specs.declared.drawing.Drawn.{Drawn}
+use Rattle.trees_enumeration.specs.History.{Recorded, groups-recorded, groups_at, recorded-fewer, recorded_more}
 
 -- all trees of a shape and its ends, in dictionary order
 abbrev pub trees_in : Shape → List ℕ → List (List ℕ)
@@ -51,22 +52,28 @@ growable {shape} can =
       small = omega (arith, can.tree, can.fine.few-stations, working-few shape.n shape.rest);
     }
 
--- arrays for the links of a tree, and for a row of leaders for each of them
-pub record Lent (shape : Shape) (links history : List ℕ) : Type 0 where
+-- arrays with room for the links of a tree, and for the groups after each of them
+pub record Roomy (shape : Shape) (links : List ℕ) (history : List Forest) : Type 0 where
   pub room : shape.t ≤ length links
-  pub rows : shape.t * stations_held ≤ length history
+  pub rows : shape.t ≤ length history
 
--- the first `taken` of the links are taken, fewer than a tree has, with the groups after each of them in rows, and `link` is looked at next
-pub record Standing (m t : ℕ) (ends : List ℕ) (taken link : ℕ) (links history : List ℕ) : Type 0 where
-  pub fewer : taken ≤ t - 1
+-- as many as any network needs
+pub roomy : {shape : Shape} {ends links : List ℕ} {history : List Forest} → Growable shape ends → length links ≡ tree_held → length history ≡ tree_held
+    → Roomy shape links history
+roomy can e f = record { room = omega (arith, can.small, e); rows = omega (arith, can.small, f) }
+
+-- the first `taken` of the links are taken, no more than a tree has, with the groups after each of them, and `link` is looked at next
+pub record Standing (m t : ℕ) (ends : List ℕ) (taken link : ℕ) (links : List ℕ) (history : List Forest) : Type 0 where
+  pub fewer : taken ≤ t
   pub inside : link ≤ m
   pub known : (c : ℕ) → c ∈ take taken links → c < m
   pub rows : Recorded ends (take taken links) history
 
--- the first t of the links are a tree, with the groups after each but the last in rows
-pub record Whole (shape : Shape) (ends links history : List ℕ) : Type 0 where
-  pub known : (c : ℕ) → c ∈ take shape.t links → c < shape.m
-  pub rows : Recorded ends (take (shape.t - 1) links) history
+-- those that are taken are a tree
+pub record Whole (shape : Shape) (ends : List ℕ) (taken : ℕ) (links : List ℕ) (history : List Forest) : Type 0 where
+  pub all : taken ≡ shape.t
+  pub known : (c : ℕ) → c ∈ take taken links → c < shape.m
+  pub rows : Recorded ends (take taken links) history
 
 -- the trees that are still to come from a branch on
 unfoldable pub coming : ℕ → ℕ → ℕ → List ℕ → ℕ → ℕ → List ℕ → List (List ℕ)
@@ -79,35 +86,6 @@ later_by (suc k) shape ends links = coming shape.rest shape.m shape.t ends k (su
 
 unfoldable pub later : Shape → List ℕ → List ℕ → List (List ℕ)
 later shape ends links = later_by shape.t shape ends links
-
--- the trees from the one that is the first t of the links on, where there is one
-unfoldable pub ahead : Shape → List ℕ → Bool → List ℕ → List (List ℕ)
-ahead shape ends true links = take shape.t links ∷ later shape ends links
-ahead shape ends false links = []
-
--- a search through some trees has come to the first of them, or has found that there is none
-pub record Reached (shape : Shape) (ends : List ℕ) (all : List (List ℕ)) (found : Bool) (links history : List ℕ) : Type 0 where
-  pub trees : all ≡ ahead shape ends found links
-  pub whole : found ≡ true → Whole shape ends links history
-
--- the same trees, found from elsewhere on
-pub reached-from : {shape : Shape} {ends : List ℕ} {from all : List (List ℕ)} {found : Bool} {links history : List ℕ} → all ≡ from
-    → Reached shape ends all found links history → Reached shape ends from found links history
-reached-from e r = record { trees = sym e ∙ r.trees; whole = r.whole }
-
--- what is ahead of a tree that was found, of the next, and of none
-module _ (shape : Shape) (ends links : List ℕ) {found : Bool} where
-  pub ahead_more : found ≡ true → ahead shape ends found links ≡ take shape.t links ∷ later shape ends links
-  unfolding ahead
-  ahead_more e = rw e
-
-  pub ahead-next : {found' : Bool} {links' history' : List ℕ} → found ≡ true → Reached shape ends (later shape ends links) found' links' history'
-      → ahead shape ends found links ≡ take shape.t links ∷ ahead shape ends found' links'
-  ahead-next e r = ahead_more e ∙ ap (λ (l : List (List ℕ)). take shape.t links ∷ l) r.trees
-
-  pub ahead_none : found ≡ false → ahead shape ends found links ≡ []
-  unfolding ahead
-  ahead_none e = rw e
 
 -- of at most 12 links there are no more trees than sets of links
 pub trees-limit : (shape : Shape) (ends : List ℕ) → shape.m ≤ max_enumerated → length (trees_in shape ends) ≤ 2 ^ max_enumerated
@@ -131,6 +109,10 @@ last_taken : (l : List ℕ) (k : ℕ) → 0 < k → k ≤ length l → take k l 
 last_taken l zero h g = absurd (omega arith)
 last_taken l (suc k) h g = let e : suc k - 1 ≡ k = omega arith in rw e (take-suc l k 0 (omega arith))
 
+pub later-none : (shape : Shape) (ends links : List ℕ) → shape.t ≡ 0 → later shape ends links ≡ []
+unfolding later later_by
+later-none shape ends links e = rw e
+
 pub later-coming : (shape : Shape) (ends links : List ℕ) → 0 < shape.t
     → coming shape.rest shape.m shape.t ends (shape.t - 1) (get_or links (shape.t - 1) 0 + 1) links ≡ later shape ends links
 unfolding later later_by
@@ -139,6 +121,11 @@ later-coming shape ends links some = go shape.t some
     go : (t : ℕ) → 0 < t → coming shape.rest shape.m shape.t ends (t - 1) (get_or links (t - 1) 0 + 1) links ≡ later_by t shape ends links
     go zero h = absurd (omega arith)
     go (suc k) h = let e : suc k - 1 ≡ k = omega arith in rw (e, add-one)
+
+-- a tree as one that a branch with links to come leaves
+pub whole-left : {shape : Shape} {ends : List ℕ} {taken : ℕ} {links : List ℕ} {history : List Forest} → Whole shape ends taken links history
+    → Standing shape.m shape.t ends taken shape.m links history
+whole-left w = let all = w.all in record { fewer = omega arith; inside = omega arith; known = w.known; rows = w.rows }
 
 module _ (shape : Shape) (ends : List ℕ) (can : Growable shape ends) where
   abbrev within : (c : ℕ) → EndsBelow stations_held (ends_at ends c)
@@ -154,38 +141,11 @@ module _ (shape : Shape) (ends : List ℕ) (can : Growable shape ends) where
       (working-apart shape.n shape.rest)
       (λ c h u. let w = d.within c h in joins-within shape.n shape.rest (ends_at ends c) w.0 w.1 u))
 
-  pub standing-none : (links history : List ℕ) → Standing shape.m shape.t ends 0 0 links history
-  standing-none links history =
-      record {
-        fewer = omega arith;
-        inside = omega arith;
-        known = λ c m. elim m [ ];
-        rows = record { room = omega arith; row = λ k h. absurd (omega arith) };
-      }
-
   -- the trees to come, by what is taken
   abbrev come : List ℕ → ℕ → List (List ℕ)
   come ts k = to_come (ends_at ends) (usable_at shape.rest ends) identity shape.m shape.t ts k
 
-  module _ {links history : List ℕ} (lent : Lent shape links history) where
-    -- from a tree on: its last link is left instead
-    pub whole-standing : 0 < shape.t → Whole shape ends links history → Standing shape.m shape.t ends (shape.t - 1) (get_or links (shape.t - 1) 0 + 1) links history
-    whole-standing some w =
-        let c = get_or links (shape.t - 1) 0 in
-        let l : take shape.t links ≡ take (shape.t - 1) links ++ (c ∷ []) = last_taken links shape.t some lent.room in
-        let below = w.known c (subst⁻¹ (λ (ts : List ℕ). c ∈ ts) l (Memᴰ.append_right (take (shape.t - 1) links) (here refl))) in
-        record {
-          fewer = omega arith;
-          inside = omega arith;
-          known = λ b m. w.known b (subst⁻¹ (λ (ts : List ℕ). b ∈ ts) l (Memᴰ.append_left (c ∷ []) m));
-          rows = w.rows;
-        }
-
-    -- a tree without links is the only one
-    pub later-none : shape.t ≡ 0 → Reached shape ends (later shape ends links) false links history
-    unfolding later later_by ahead
-    later-none e = record { trees = rw e; whole = λ q. clash q refl }
-
+  module _ {links : List ℕ} {history : List Forest} (lent : Roomy shape links history) where
     module _ {taken link : ℕ} (at : Standing shape.m shape.t ends taken link links history) where
       -- how many are taken
       count : length (take taken links) ≡ taken
@@ -194,41 +154,36 @@ module _ (shape : Shape) (ends : List ℕ) (can : Growable shape ends) where
       near : (e : ℕ) → e ∈ take taken links → EndsBelow stations_held (ends_at ends e)
       near e m = within e
 
-      -- the groups that the last row has are those after all that are taken
-      pub groups-here : groups_in history taken ≡ groups_after ends (take taken links)
-      groups-here = ap (groups_in history) (sym count) ∙ groups-recorded ends (take taken links) history at.rows
+      -- the last groups are those after all that are taken
+      pub groups-here : groups_at history taken ≡ groups_after ends (take taken links)
+      groups-here = ap (groups_at history) (sym count) ∙ groups-recorded ends (take taken links) history at.rows
 
       pub led-here : {f : Forest} → f ≡ groups_after ends (take taken links) → Led f
       led-here is = subst⁻¹ Led is (groups-led ends (take taken links) near)
 
-      pub rows-here : taken * stations_held ≤ length history
-      rows-here = omega (arith, lent.rows, at.fewer)
+      -- as many are taken as a tree has
+      pub whole : shape.t ≤ taken → Whole shape ends taken links history
+      whole h = record { all = omega (arith, at.fewer); known = at.known; rows = at.rows }
 
-      -- no links are a tree
-      pub reached-empty : shape.t ≤ taken → Reached shape ends (coming shape.rest shape.m shape.t ends taken link links) true links history
-      unfolding coming ahead later later_by
-      reached-empty h =
-          let none : taken ≡ 0 = omega (arith, at.fewer) in
-          let size : shape.t ≡ 0 = omega (arith, at.fewer) in
-          let all : shape.t ≡ taken = omega arith in
-          let rows : shape.t - 1 ≡ taken = omega arith in
-          record {
-            trees = rw (none, size) (come-empty (ends_at ends) (usable_at shape.rest ends) identity shape.m link);
-            whole = λ q. record { known = λ c m. at.known c (subst (λ (n : ℕ). c ∈ take n links) all m); rows = rw rows at.rows };
-          }
+      pub whole-coming : shape.t ≤ taken → coming shape.rest shape.m shape.t ends taken link links ≡ take shape.t links ∷ later shape ends links
+      unfolding coming later later_by
+      whole-coming h = let all : taken ≡ shape.t = omega (arith, at.fewer) in rw all (go shape.t refl)
+        where
+          go : (t : ℕ) → t ≡ shape.t → come (take t links) link ≡ take t links ∷ later_by t shape ends links
+          go zero e = rw (← e) (come-empty (ends_at ends) (usable_at shape.rest ends) identity shape.m link)
+          go (suc k) e =
+              let l : take (suc k) links ≡ take k links ++ (get_or links k 0 ∷ []) = take-suc links k 0 (omega (arith, lent.room)) in
+              let size : length (take k links) ≡ k = length-take-le k links (omega (arith, lent.room)) in
+              rw l (come-whole (ends_at ends) (usable_at shape.rest ends) identity shape.m shape.t (take k links) (get_or links k 0) link (omega arith))
 
       -- too few links are left, and none is taken
-      pub reached-none : shape.m - link < shape.t - taken → taken ≡ 0 → Reached shape ends (coming shape.rest shape.m shape.t ends taken link links) false links history
-      unfolding coming ahead
-      reached-none few e =
-          record {
-            trees = ap (λ (n : ℕ). come (take n links) link) e
-                ∙ come-none (ends_at ends) (usable_at shape.rest ends) identity shape.m shape.t link (omega arith);
-            whole = λ q. clash q refl;
-          }
+      pub none-coming : shape.m - link < shape.t - taken → taken ≡ 0 → coming shape.rest shape.m shape.t ends taken link links ≡ []
+      unfolding coming
+      none-coming few e =
+          ap (λ (n : ℕ). come (take n links) link) e ∙ come-none (ends_at ends) (usable_at shape.rest ends) identity shape.m shape.t link (omega arith)
 
-      -- too few links are left: the last one taken is left instead
-      module _ (few : shape.m - link < shape.t - taken) (some : 0 < taken) where
+      -- the last link taken is left instead
+      module _ (some : 0 < taken) where
         -- that one
         abbrev last : ℕ
         last = get_or links (taken - 1) 0
@@ -246,9 +201,9 @@ module _ (shape : Shape) (ends : List ℕ) (can : Growable shape ends) where
               rows = recorded-fewer ends (take (taken - 1) links) last history (subst (λ (ts : List ℕ). Recorded ends ts history) parted at.rows);
             }
 
-        pub back-coming : coming shape.rest shape.m shape.t ends taken link links ≡ coming shape.rest shape.m shape.t ends (taken - 1) (last + 1) links
+        pub back-coming : shape.m - link < shape.t - taken → coming shape.rest shape.m shape.t ends taken link links ≡ coming shape.rest shape.m shape.t ends (taken - 1) (last + 1) links
         unfolding coming
-        back-coming =
+        back-coming few =
             let fewer : length (take (taken - 1) links) ≡ taken - 1 = length-take-le (taken - 1) links (omega (arith, at.fewer, lent.room)) in
             ap (λ (ts : List ℕ). come ts link) parted
             ∙ come-back (ends_at ends) (usable_at shape.rest ends) identity shape.m shape.t (take (taken - 1) links) last link (omega arith)
@@ -266,14 +221,16 @@ module _ (shape : Shape) (ends : List ℕ) (can : Growable shape ends) where
         link-known = omega (arith, at.inside)
 
         -- the test of a link, as the program makes it
-        pub test-takes : (f : Forest) → f ≡ groups_after ends (take taken links) → {u : Bool} {new old : ℕ} → u ≡ usable_at shape.rest ends link
-            → new ≡ label_of f.leader (ends_at ends link).a → old ≡ label_of f.leader (ends_at ends link).b
-            → u && not (eqb new old) ≡ takes (ends_at ends) (usable_at shape.rest ends) (merge_all identity (map (ends_at ends) (take taken links))) link
+        pub test-takes : (f : Forest) → f ≡ groups_after ends (take taken links)
+            → keeps shape.rest ends shape.m (record { groups = f; low = link }) link
+            ≡ takes (ends_at ends) (usable_at shape.rest ends) (merge_all identity (map (ends_at ends) (take taken links))) link
         unfolding takes
-        test-takes f is u p q =
-            ap₂ (λ (a b : Bool). a && b) u
-            (leaders-test f _ _ p q
-            ∙ ap (λ (L : Labelling). crosses L (ends_at ends link)) (ap (λ (g : Forest). label_of g.leader) is ∙ groups-labels ends (take taken links) near))
+        test-takes f is =
+            let low = le-leb link link (omega arith) in
+            let known = lt-ltb link shape.m link-known in
+            rw (low, known)
+            (ap (λ (L : Labelling). usable_at shape.rest ends link && crosses L (ends_at ends link))
+            (ap (λ (g : Forest). label_of g.leader) is ∙ groups-labels ends (take taken links) near))
 
         abbrev taking : Bool
         taking = takes (ends_at ends) (usable_at shape.rest ends) (merge_all identity (map (ends_at ends) (take taken links))) link
@@ -305,14 +262,12 @@ module _ (shape : Shape) (ends : List ℕ) (can : Growable shape ends) where
               ∙ ap₂ come (sym more) (sym (add-one link))
 
           -- the groups with it, as the program joins them
-          pub more-groups : {f f' : Forest} {new old : ℕ} → f ≡ groups_after ends (take taken links) → new ≡ label_of f.leader (ends_at ends link).a
-              → old ≡ label_of f.leader (ends_at ends link).b → f' ≡ joined f new old → f' ≡ groups_after ends (take (taken + 1) (set links taken link))
-          more-groups {f} is p q e =
-              let a = (ends_at ends link).a in
-              let b = (ends_at ends link).b in
-              e
-              ∙ leaders-joined f a b p q (led-here is)
-              ∙ ap (λ (g : Forest). joined g a b) is
+          pub more-groups : (f : Forest) → f ≡ groups_after ends (take taken links) → {d : Drawn} → d ≡ with_link ends (record { groups = f; low = link }) link
+              → d.groups ≡ groups_after ends (take (taken + 1) (set links taken link))
+          unfolding with_link
+          more-groups f is q =
+              ap (λ (d : Drawn). d.groups) q
+              ∙ ap (λ (g : Forest). joined g (ends_at ends link).a (ends_at ends link).b) is
               ∙ sym (groups-more ends (take taken links) link)
               ∙ ap (groups_after ends) (sym more)
 
@@ -323,48 +278,27 @@ module _ (shape : Shape) (ends : List ℕ) (can : Growable shape ends) where
               go (inl k) = at.known c k
               go (inr k) = let e = Memᴰ.eq_of_singleton k in omega (arith, link-known)
 
-          -- and makes a tree
-          pub reached-whole : taken + 1 ≡ shape.t → Reached shape ends (coming shape.rest shape.m shape.t ends taken link links) true (set links taken link) history
-          unfolding ahead coming
-          reached-whole full =
-              let new = set links taken link in
-              let whole : take shape.t new ≡ take taken links ++ (link ∷ []) = ap (λ (n : ℕ). take n new) (sym full) ∙ more in
-              let behind : shape.t - 1 ≡ taken = omega arith in
-              let kept : take taken new ≡ take taken links = take-set-le taken links taken link (omega arith) in
-              let own : get_or new taken 0 ≡ link = get_or-set_same links taken link 0 (omega (arith, lent.room)) in
-              let rest : later shape ends new ≡ come (take taken links) (suc link) =
-              sym (later-coming shape ends new (omega arith))
-              ∙ ap (λ (n : ℕ). coming shape.rest shape.m shape.t ends n (get_or new n 0 + 1) new) behind
-              ∙ ap₂ (λ (ts : List ℕ) (c : ℕ). come ts (c + 1)) kept own
-              ∙ ap (come (take taken links)) (add-one link) in
-              record {
-                trees = more-coming
-                    ∙ ap (λ (ts : List ℕ). come ts (link + 1)) more
-                    ∙ come-whole (ends_at ends) (usable_at shape.rest ends) identity shape.m shape.t (take taken links) link (link + 1)
-                    (omega (arith, count))
-                    ∙ ap₂ (λ (ts : List ℕ) (l : List (List ℕ)). ts ∷ l) (sym whole) (sym rest);
-                whole = λ q. record {
-                  known = λ c m. more-known c (subst⁻¹ (λ (n : ℕ). c ∈ take n new) full m);
-                  rows = subst⁻¹ (λ (n : ℕ). Recorded ends (take n new) history) behind (subst⁻¹ (λ (ts : List ℕ). Recorded ends ts history) kept at.rows);
-                };
-              }
+          -- the groups after it stand behind the others
+          module _ {links' : List ℕ} {history' : List Forest} {f : Forest} (groups : f ≡ groups_after ends (take (taken + 1) (set links taken link)))
+              (put : links' ≡ set links taken link) (put_groups : history' ≡ set history taken f) where
+            pub taken-roomy : Roomy shape links' history'
+            taken-roomy =
+                rw (put, put_groups) (record {
+                  room = omega (arith, lent.room, length-set links taken link);
+                  rows = omega (arith, lent.rows, length-set history taken f);
+                })
 
-          -- or is one of more
-          module _ (part : ¬ (taken + 1 ≡ shape.t)) {history' leader : List ℕ} (row : leader ≡ (groups_after ends (take (taken + 1) (set links taken link))).leader)
-              (size : length leader ≡ stations_held) (put : history' ≡ overwrite history (taken * stations_held) leader) where
-            pub taken-standing : Standing shape.m shape.t ends (taken + 1) (link + 1) (set links taken link) history'
+            pub taken-standing : Standing shape.m shape.t ends (taken + 1) (link + 1) links' history'
             taken-standing =
-                let known : leader ≡ (groups_after ends (take taken links ++ (link ∷ []))).leader = row ∙ ap (λ (ts : List ℕ). (groups_after ends ts).leader) more in
-                let fits : (length (take taken links) + 1) * stations_held ≤ length history = omega (arith, count, lent.rows) in
-                record {
+                let known : f ≡ groups_after ends (take taken links ++ (link ∷ [])) = groups ∙ ap (groups_after ends) more in
+                let fits : length (take taken links) + 1 ≤ length history = omega (arith, count, lent.rows, room) in
+                rw (put, put_groups) (record {
                   fewer = omega arith;
                   inside = omega (arith, link-known);
                   known = more-known;
-                  rows = subst⁻¹ (λ (ts : List ℕ). Recorded ends ts history') more
-                      (subst⁻¹ (λ (h : List ℕ). Recorded ends (take taken links ++ (link ∷ [])) h) put
-                      (subst (λ (n : ℕ). Recorded ends (take taken links ++ (link ∷ [])) (overwrite history (n * stations_held) leader)) count
-                      (recorded_more link at.rows size fits known)));
-                }
+                  rows = subst⁻¹ (λ (ts : List ℕ). Recorded ends ts (set history taken f)) more
+                      (subst (λ (n : ℕ). Recorded ends (take taken links ++ (link ∷ [])) (set history n f)) count (recorded_more link at.rows fits known));
+                })
 
           pub taken-less : steps_from shape.m (taken + 1) (link + 1) (set links taken link) < steps_from shape.m taken link links
           unfolding steps_from

@@ -1,4 +1,10 @@
 -- where the search through the trees stands, and what is still to come
 pub mod Growing
+-- the groups after each link that it has taken
+pub mod History
+-- the links that it has taken
+pub mod Taken
+-- the trees from one that was found on
+pub mod Enumerated
 -- tree r handed out
 pub mod Numbering

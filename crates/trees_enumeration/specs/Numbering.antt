@@ -1,5 +1,5 @@
 -- Tree r of a network handed out where the tree buffer is long enough, and the loop that goes on to it.
-use Rattle.std.specs.Prelude.{true, List, [], ◌∷◌, ◌≡◌, ℕ, ◌+◌, ◌-◌, ◌≤◌, ◌<◌, leb, drop, get_or, length}
+use Rattle.std.specs.Prelude.{true, Ok, Err, List, [], ◌∷◌, ◌≡◌, ℕ, ◌+◌, ◌-◌, ◌≤◌, ◌<◌, leb, drop, get_or, length}
 use Rattle.std.proofs.Math.Option.{some}
 use Rattle.std.proofs.Common.{sym, ap, ◌∙◌, add-zero, zero-add, arith, length-drop, drop-drop, get_or-drop}
 use borrow.Author.Tests.{le-leb, lt-leb}
@@ -8,24 +8,21 @@ use Rattle.spanning.proofs.Listing.{is_listed-iff}
 use Rattle.network.specs.Network.{Network}
 use Rattle.network.specs.Yard.{ends, is_tree, stations, trees, usable}
 use Rattle.network.specs.PlanList.{costs_of}
-use Rattle.network.specs.Checked.{refuse_if}
-use Rattle.network.specs.Calls.{apart, if_fine, tree_with}
+use Rattle.network.specs.Checked.{Answer, Checked, refuse_if}
+use Rattle.network.specs.Calls.{if_fine, tree_with}
 use Rattle.network.specs.EveryTree.{tree_at, tree_count}
-use Rattle.network.specs.declared.Answer.{Answer}
-use Rattle.network.specs.declared.Answer.TheVariants.{Plan, Refused as Answer-as-Refused}
-use Rattle.network.specs.declared.Checked.{Checked}
-use Rattle.network.specs.declared.Checked.TheVariants.{Fine, Refused}
-use Rattle.network.specs.declared.PlanCosts.{PlanCosts}
+use Rattle.network.specs.declared.Costs.{Costs}
+use Rattle.network.specs.declared.refusals.Rule.TheVariants.{NoSuchPlan}
 use Rattle.buffers.specs.Overwrite.{overwrite}
 
 -- 13: r is not below the number of trees
 abbrev pub number_checked : Network → ℕ → Checked
-number_checked net r = refuse_if (leb (tree_count net) r) 13 0
+number_checked net r = refuse_if (leb (tree_count net) r) NoSuchPlan 0
 
 -- a tree's costs, or a refusal
 unfoldable pub answer_by : Checked → Network → List ℕ → Answer
-answer_by Fine net ts = Plan (apart (costs_of net ts))
-answer_by (Refused x) net ts = Answer-as-Refused x
+answer_by (Ok u) net ts = Ok (costs_of net ts)
+answer_by (Err x) net ts = Err x
 
 -- tree r's costs, or 13
 unfoldable pub numbered_by : Network → ℕ → Answer
@@ -64,12 +61,12 @@ module _ (net : Network) (r : ℕ) where
 
   -- there is none
   pub not_there : (tree : List ℕ) → tree_count net ≤ r
-      → (Answer-as-Refused (record { number = 13; place = 0 }) ≡ numbered_by net r) × (tree ≡ numbered_after net r tree)
+      → (Err (record { rule = NoSuchPlan; place = 0 }) ≡ numbered_by net r) × (tree ≡ numbered_after net r tree)
   unfolding numbered_by numbered_after answer_by if_fine refuse_if
   not_there tree h = let e = le-leb (tree_count net) r h in (rw e, rw e)
 
   -- it is handed out
-  pub handed : (tree left ts : List ℕ) (v : PlanCosts) → r < tree_count net → ts ≡ tree_at net r → v ≡ apart (costs_of net ts) → left ≡ overwrite tree 0 ts
-      → (Plan v ≡ numbered_by net r) × (left ≡ numbered_after net r tree)
+  pub handed : (tree left ts : List ℕ) (v : Costs) → r < tree_count net → ts ≡ tree_at net r → v ≡ costs_of net ts → left ≡ overwrite tree 0 ts
+      → (Ok v ≡ numbered_by net r) × (left ≡ numbered_after net r tree)
   unfolding numbered_by numbered_after answer_by if_fine tree_with refuse_if overwrite
   handed tree left ts v h is e f = let t = lt-leb (tree_count net) r h in (rw (t, e, is), rw (t, f, is, zero-add))

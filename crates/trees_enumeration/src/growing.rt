@@ -1,79 +1,69 @@
 // The trees of a yard one after another: links are gone through in order, and each that is usable and joins two groups is first taken and later left.
-ghost use Rattle.trees_enumeration.specs.Growing.{Growable, Lent, Reached, Standing, Whole, coming, later, trees_in};
+ghost use Rattle.std.specs.Prelude.{◌≡◌};
+ghost use Rattle.trees_enumeration.specs.Growing.{Growable, Standing, Whole, coming, trees_in};
 
-use buffers::copies::copy_in;
-use forest::groups_after;
+use crate::taken::Taken;
 use network::Shape;
-use network::capacities::STATIONS_HELD;
-use stations::is_usable;
+use trees_drawn::drawing::{Drawn, draw};
 
-// Goes on from a branch to its first tree, and says whether there is one. The branch has taken the first `taken` of `links`, the groups after each of
-// them stand in `history`, and it looks at `link` next. Where too few links are left, the last one taken is left instead.
-fn grow(
-    shape: Shape,
-    ends: &[u8],
-    from: usize,
-    next: usize,
-    links: &mut [u8],
-    history: &mut [u8],
-) -> bool
-    requires { Growable shape ends.now × Lent shape links.old history.old × Standing shape.m shape.t ends.now from next links.old history.old }
-    ensures { Reached shape ends.now (coming shape.rest shape.m shape.t ends.now from next links.old) result
-        links.new history.new }
-{
-    let rest = shape.rest;
-    let m = shape.m;
-    let t = shape.t as usize;
-    let mut taken = from;
-    let mut link = next;
-    let mut groups = groups_after(history, taken);
-    while taken < t {
-        if m - link < t - taken {
-            if taken == 0 {
-                return false;
-            }
-            taken -= 1;
-            link = links[taken] as usize + 1;
-            groups = groups_after(history, taken);
-        } else {
-            let new = groups.find(ends[2 * link]);
-            let old = groups.find(ends[2 * link + 1]);
-            let joins = is_usable(rest, ends, link) & (new != old);
-            if joins {
-                links[taken] = link as u8;
-                if taken + 1 == t {
-                    return true;
-                }
-                groups = groups.join(new, old);
-                let leader = groups.leader;
-                copy_in(history, taken * STATIONS_HELD, &leader);
-                taken += 1;
-                link += 1;
+// A tree that was found: its links, from which the search goes on to the next.
+#[derive(Clone, Copy)]
+pub struct Tree<'a> {
+    pub shape: Shape,
+    pub ends: &'a [u8],
+    pub taken: Taken,
+    pub ghost growable: { Growable shape ends.now },
+    pub ghost whole: { Whole shape ends.now taken.count taken.links taken.history },
+}
+
+impl<'a> Tree<'a> {
+    ghost use Rattle.trees_enumeration.specs.Enumerated.{ahead, later_than, links_of};
+
+    // The first tree of a yard.
+    pub fn first(shape: Shape, ends: &'a [u8]) -> Option<Tree<'a>>
+        requires { Growable shape ends.now }
+        ensures { trees_in shape ends.now ≡ ahead result }
+    {
+        Tree::grow(shape, ends, Taken::none(), 0)
+    }
+
+    // The next tree.
+    pub fn following(self) -> Option<Tree<'a>>
+        ensures { later_than self.entry ≡ ahead result }
+    {
+        let mut taken = self.taken;
+        let last = taken.leave()?;
+        Tree::grow(self.shape, self.ends, taken, last as usize + 1)
+    }
+
+    // Its links.
+    pub fn links(&self) -> &[u8]
+        ensures { result.now ≡ links_of self.now }
+    {
+        &self.taken.links[..self.shape.t as usize]
+    }
+
+    // The first tree from a branch on, which has taken some links and looks at `link` next. Where too few are left, the last one taken is left instead.
+    fn grow(shape: Shape, ends: &'a [u8], mut taken: Taken, mut link: usize) -> Option<Tree<'a>>
+        requires { Growable shape ends.now × Standing shape.m shape.t ends.now taken.count link taken.links taken.history }
+        ensures { coming shape.rest shape.m shape.t ends.now taken.count link taken.links ≡ ahead result }
+    {
+        let t = shape.t as usize;
+        let mut groups = taken.groups();
+        while taken.count < t {
+            if shape.m - link < t - taken.count {
+                let last = taken.leave()?;
+                link = last as usize + 1;
+                groups = taken.groups();
             } else {
+                let drawn = Drawn { groups, low: link };
+                if let Some(more) = draw(drawn, shape.rest, ends, shape.m, link as u8) {
+                    groups = more.groups;
+                    taken.take(link as u8, groups);
+                }
                 link += 1;
             }
         }
+        Some(Tree { shape, ends, taken })
     }
-    true
-}
-
-// Goes to the first tree of a yard, and says whether there is one: it is the first t of `links`.
-pub fn first_tree(shape: Shape, ends: &[u8], links: &mut [u8], history: &mut [u8]) -> bool
-    requires { Growable shape ends.now × Lent shape links.old history.old }
-    ensures { Reached shape ends.now (trees_in shape ends.now) result links.new history.new }
-{
-    grow(shape, ends, 0, 0, links, history)
-}
-
-// Goes from the tree that is the first t of `links` to the next, and says whether there is one.
-pub fn next_tree(shape: Shape, ends: &[u8], links: &mut [u8], history: &mut [u8]) -> bool
-    requires { Growable shape ends.now × Lent shape links.old history.old × Whole shape ends.now links.old history.old }
-    ensures { Reached shape ends.now (later shape ends.now links.old) result links.new history.new }
-{
-    let t = shape.t as usize;
-    if t == 0 {
-        return false;
-    }
-    let last = links[t - 1] as usize;
-    grow(shape, ends, t - 1, last + 1, links, history)
 }

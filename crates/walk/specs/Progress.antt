@@ -1,5 +1,5 @@
 -- The walk as its loop does it: what the marks and the records are when the first n positions have been visited.
-use Rattle.std.specs.Prelude.{Bool, true, false, cond, ◌||◌, List, [], ◌∷◌, ◌⊎◌, ◌≡◌, refl, ℕ, ◌+◌, ◌*◌, ◌≤◌, ◌<◌, leb, ℤ, pos, drop, get_or, length, replicate}
+use Rattle.std.specs.Prelude.{Bool, true, false, ◌||◌, List, [], ◌∷◌, ◌⊎◌, ◌≡◌, refl, ℕ, ◌+◌, ◌*◌, ◌≤◌, ◌<◌, leb, ℤ, pos, drop, get_or, length, replicate}
 use mathlib.Core.List.Memᴰ
 use Rattle.std.proofs.Common.{inl, inr, sym, ap, ◌∙◌, subst, arith, length-append, leb-true}
 use Rattle.std.proofs.Math.Option.{Option, none, some}
@@ -24,29 +24,16 @@ use Rattle.network.specs.NetworkFine.{NetworkFine}
 use Rattle.network.proofs.NetworkFine.{graph-sound, slots-few}
 use Rattle.network.specs.Network.{Network}
 use Rattle.planlist_frontier.specs.Stored.{Holds, Padded, absent, costs-absent, costs-padded, holds-inserted, holds-level, holds-none, holds-rise}
-use Rattle.marking.specs.Unmarked.{next_unmarked, unmarked-keeps}
 use Rattle.walk_visit.specs.Visit.{best_at}
 use Rattle.walk_visit.specs.Visited.{Prepared, Visited, records_of, slots_of, take_record}
 use Rattle.walk.specs.Entries.{answered, collect-more, entries-all, entries-fewer, entries_none}
 use Rattle.walk.specs.Entries.{entries-skip, entries-solve, entries_at, no_lower, take_answer}
 
--- a mark
-abbrev pub bit : Bool → ℕ
-bit b = cond b 1 0
-
-bit_or : (a b : Bool) → cond b 1 (bit a) ≡ bit (a || b)
-bit_or true true = refl
-bit_or true false = refl
-bit_or false true = refl
-bit_or false false = refl
-
-bit-zero : (a : Bool) → bit a ≡ 0 → a ≡ false
-bit-zero true e = absurd (omega arith)
-bit-zero false e = refl
-
-bit-one : (a : Bool) → (bit a ≡ 0 → ⊥) → a ≡ true
-bit-one true e = refl
-bit-one false e = absurd (e refl)
+or_comm : (a b : Bool) → a || b ≡ b || a
+or_comm true true = refl
+or_comm true false = refl
+or_comm false true = refl
+or_comm false false = refl
 
 -- ---- what holds between positions
 
@@ -70,25 +57,25 @@ module _ (net : Network) where
       (λ e. rw e fine.few-ceilings)
 
   -- the marks, the records and the counts when the entries es have been solved
-  pub record Reached (es : List (Entry ℤ (List ℕ))) (ms bs : List ℕ) (count done : ℕ) : Type 0 where
-    pub marks : (x : ℕ) → x < position_count net → get_or ms x 0 ≡ bit (covered (yard net) es (get_or (positions net) x []))
+  pub record Reached (es : List (Entry ℤ (List ℕ))) (ms : List Bool) (bs : List ℕ) (count done : ℕ) : Type 0 where
+    pub marks : (x : ℕ) → x < position_count net → get_or ms x false ≡ covered (yard net) es (get_or (positions net) x [])
     pub records : Recorded count bs (collect (yard net) [] (answers (yard net) es))
     pub counted : done ≡ length es
 
   -- when the first n positions have been visited
-  abbrev pub Progress : ℕ → List ℕ → List ℕ → ℕ → ℕ → Type 0
+  abbrev pub Progress : ℕ → List Bool → List ℕ → ℕ → ℕ → Type 0
   Progress n = Reached (entries_at (yard net) n)
 
-  pub start : (size : ℕ) (bs : List ℕ) → position_count net ≤ size → Progress 0 (replicate size 0) bs 0 0
+  pub start : (size : ℕ) (bs : List ℕ) → position_count net ≤ size → Progress 0 (replicate size false) bs 0 0
   start size bs h =
-      subst (λ (es : List (Entry ℤ (List ℕ))). Reached es (replicate size 0) bs 0 0) (sym (entries_none (yard net)))
+      subst (λ (es : List (Entry ℤ (List ℕ))). Reached es (replicate size false) bs 0 0) (sym (entries_none (yard net)))
       (record {
-        marks = λ x g. get_or-replicate size x 0 0 (omega arith);
+        marks = λ x g. get_or-replicate size x false false (omega arith);
         records = holds-none (yard net) (slots_of net) (costs_of net) (λ ts. ts) (absent net) (plan_size (slots_of net) (tree_size net)) (drop head_size bs);
         counted = refl;
       })
 
-  module _ (n : ℕ) (h : n < position_count net) {ms bs : List ℕ} {count done : ℕ} (p : Progress n ms bs count done) where
+  module _ (n : ℕ) (h : n < position_count net) {ms : List Bool} {bs : List ℕ} {count done : ℕ} (p : Progress n ms bs count done) where
     inside : n < length (positions net)
     inside = omega (arith, positions-length (values net))
 
@@ -125,29 +112,29 @@ module _ (net : Network) where
             go (inr k) = answered (yard net) n k
 
     -- a marked position is skipped
-    pub skip : (get_or ms n 0 ≡ 0 → ⊥) → Progress (n + 1) ms bs count done
-    skip ne =
-        let seen = bit-one (covered (yard net) (entries_at (yard net) n) (get_or (positions net) n [])) (λ e. ne (p.marks n h ∙ e)) in
+    pub skip : get_or ms n false ≡ true → Progress (n + 1) ms bs count done
+    skip e =
+        let seen = sym (p.marks n h) ∙ e in
         subst (λ (es : List (Entry ℤ (List ℕ))). Reached es ms bs count done) (sym (entries-skip (yard net) n inside seen)) p
 
-    module _ (e : get_or ms n 0 ≡ 0) where
+    module _ (e : get_or ms n false ≡ false) where
       unseen : covered (yard net) (entries_at (yard net) n) (get_or (positions net) n []) ≡ false
-      unseen = bit-zero (covered (yard net) (entries_at (yard net) n) (get_or (positions net) n [])) (sym (p.marks n h) ∙ e)
+      unseen = sym (p.marks n h) ∙ e
 
       -- with no more to spend there is no list
       pub spent : done < solved_count net
       spent = omega (arith, p.counted, entries-fewer (yard net) n inside unseen)
 
       -- an unmarked one is solved
-      pub step : NetworkFine net → {ms' bs' : List ℕ} {count' : ℕ} → Visited net n ms ms' bs bs' count count' → Progress (n + 1) ms' bs' count' (done + 1)
+      pub step : NetworkFine net → {ms' : List Bool} {bs' : List ℕ} {count' : ℕ} → Visited net n ms ms' bs bs' count count' → Progress (n + 1) ms' bs' count' (done + 1)
       step fine {ms'} {bs'} {count'} v =
           let new = solve (yard net) (get_or (positions net) n []) in
           let es = entries_at (yard net) n in
           subst (λ (l : List (Entry ℤ (List ℕ))). Reached l ms' bs' count' (done + 1)) (sym (entries-solve (yard net) n inside unseen))
           (record {
-            marks = λ x g. v.marks x g ∙ ap (cond (covers (yard net) new (get_or (positions net) x [])) 1) (p.marks x g)
-                ∙ bit_or (covered (yard net) es (get_or (positions net) x [])) (covers (yard net) new (get_or (positions net) x []))
-                ∙ ap bit (sym (any_snoc (λ z. covers (yard net) z (get_or (positions net) x [])) es new));
+            marks = λ x g. v.marks x g ∙ ap (λ (b : Bool). covers (yard net) new (get_or (positions net) x []) || b) (p.marks x g)
+                ∙ or_comm (covers (yard net) new (get_or (positions net) x [])) (covered (yard net) es (get_or (positions net) x []))
+                ∙ sym (any_snoc (λ z. covers (yard net) z (get_or (positions net) x [])) es new);
             records = subst⁻¹ (Recorded count' bs') (collect-more (yard net) es new) (taken new.answer refl v.records);
             counted = omega (arith, p.counted, length-append es (new ∷ []));
           })
@@ -163,13 +150,8 @@ module _ (net : Network) where
               holds-inserted (yard net) (slots_of net) (costs_of net) (λ ts. ts) (absent net) refl ts plans p.records
               (record { writable = v.writable ts b; padded = padded fine ts }) e
 
-  -- all marked positions among n from number `at` on are skipped
-  pub skip_all : {ms bs : List ℕ} {count done : ℕ} (n at : ℕ) → at + n ≤ position_count net → Progress at ms bs count done
-      → Progress (next_unmarked ms n at) ms bs count done
-  skip_all {ms} {bs} {count} {done} n at h p = unmarked-keeps ms (λ k. Progress k ms bs count done) n at (λ k l e q. skip k (omega arith) q e) p
-
   -- at the end all positions are visited: the count is the walk's, and the promised plans are recorded
-  pub finish : NetworkFine net → (n : ℕ) → position_count net ≤ n → {ms bs : List ℕ} {count done : ℕ} → Progress n ms bs count done
+  pub finish : NetworkFine net → (n : ℕ) → position_count net ≤ n → {ms : List Bool} {bs : List ℕ} {count done : ℕ} → Progress n ms bs count done
       → (done ≡ solved_count net) × Recorded count bs (plans net)
   finish fine n h {ms} {bs} {count} {done} p =
       let all = entries-all (yard net) n (omega (arith, positions-length (values net))) in

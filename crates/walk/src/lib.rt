@@ -4,5 +4,5 @@
 // All positions, with the counts.
 pub mod positions;
 
-// 9, 10, or the list in its buffer.
+// A short buffer, the allowance spent, or the list in its buffer.
 pub mod list;

@@ -2,19 +2,18 @@
 ghost use Rattle.std.specs.Prelude.{◌≡◌, ◌+◌, ◌*◌, ◌≤◌, length};
 ghost use Rattle.network.specs.Calls.{plans_after, plans_checked, status};
 ghost use Rattle.network.specs.Capacities.{plans_held};
-ghost use Rattle.network.specs.Checked.{refuse_if};
 ghost use Rattle.network.specs.PlanList.{head_size, plan_size, plan_slots};
-ghost use Rattle.network.specs.Shaped.{Plannable, net_of};
+ghost use Rattle.marking.specs.Gridded.{network};
 ghost use Rattle.walk.specs.Call.{CostsHeld};
-ghost use Rattle.walk.specs.Concluded.{concluded};
 
-use crate::positions::{Walked, visit_all};
+use crate::positions::visit_all;
 use marking::grid::grid_of;
 use network::capacities::{CEILINGS_HELD, LINKS_HELD};
 use network::records::HEAD_SIZE;
-use network::{Shape, Status};
+use network::{Net, Refusal, Rule};
 use planlist_frontier::ending::{clear, finish};
 use planlist_records::records::{plan_size, plan_slots};
+use walk_visit::gridded::GriddedNet;
 
 // What a list buffer needs, by the numbers of positions, of links of a tree and of ceilings.
 fn need(total: usize, t: u8, p: u8) -> usize
@@ -24,59 +23,32 @@ fn need(total: usize, t: u8, p: u8) -> usize
     HEAD_SIZE + total * plan_size(plan_slots(p), t as usize)
 }
 
-// Clears the buffer where the walk gave up, and finishes the list where it ended; t links make a tree, and p ceilings are present.
-fn conclude(out: &mut [u8], walked: Walked, t: u8, p: u8) -> Status
-    requires { (walked.plans ≤ plans_held) × (head_size + walked.plans * plan_size (plan_slots p) t ≤ length out.old) }
-    ensures { (result ≡ status (refuse_if walked.spent 10 0)) × (out.new ≡ concluded walked t p out.old) }
+// Lists the plans of a network by the threshold walk: declines a buffer below its need, and gives up, with the buffer cleared, where more positions
+// would be solved than allowed.
+pub fn list_plans(net: Net, allowance: u32, out: &mut [u8]) -> Result<(), Refusal>
+    ensures reply { result ≡ plans_checked (network net.entry) allowance (length out.old) }
+    ensures leaves { out.new ≡ plans_after (network net.entry) allowance out.old }
+    ensures held { CostsHeld (network net.entry) (status result) }
 {
-    if walked.spent {
-        clear(out);
-        return Status {
-            number: 10,
-            place: 0,
-        };
-    }
-    finish(out, walked.plans, walked.solved, t, p);
-    Status {
-        number: 0,
-        place: 0,
-    }
-}
-
-// Lists the plans of a network by the threshold walk: declines a buffer below its need, and gives up where more positions would be solved than
-// allowed.
-pub fn list_plans(
-    shape: Shape,
-    ends: &[u8],
-    sums: &[u32],
-    costs: &[i16],
-    allowance: u32,
-    out: &mut [u8],
-) -> Status
-    requires { Plannable shape ends.now sums.now costs.now }
-    ensures reply { result ≡ status (plans_checked (net_of shape ends.now sums.now costs.now) allowance (length out.old)) }
-    ensures leaves { out.new
-        ≡ plans_after (net_of shape ends.now sums.now costs.now) allowance out.old }
-    ensures held { CostsHeld (net_of shape ends.now sums.now costs.now) result }
-{
-    let size = costs.len();
+    let size = net.costs.len();
     let mut values = [0i16; CEILINGS_HELD * LINKS_HELD];
-    let grid = grid_of(shape, ends, costs, &mut values[..size]);
-    if out.len() < need(grid.total, shape.t, shape.p) {
-        return Status {
-            number: 9,
-            place: 0,
-        };
+    let grid = grid_of(net, &mut values[..size]);
+    if out.len() < need(grid.total, net.shape.t, net.shape.p) {
+        return Err(Refusal::of(Rule::ShortBuffer));
     }
-    let walked = visit_all(
-        shape,
-        ends,
-        sums,
-        costs,
-        &values[..size],
+    let gridded = GriddedNet {
+        net,
+        values: &values[..size],
         grid,
-        allowance,
-        out,
-    );
-    conclude(out, walked, shape.t, shape.p)
+    };
+    match visit_all(gridded, allowance, out) {
+        Ok(walked) => {
+            finish(out, walked.plans, walked.solved, net.shape.t, net.shape.p);
+            Ok(())
+        }
+        Err(_) => {
+            clear(out);
+            Err(Refusal::of(Rule::AllowanceSpent))
+        }
+    }
 }

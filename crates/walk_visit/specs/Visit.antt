@@ -1,12 +1,10 @@
 -- One position of the walk, over the ceilings that there are: what it asks, and that what it marks is what the answer settles.
-use Rattle.std.specs.Prelude.{true, ◌≡◌, ℤ, pos, drop, get_or, length, take}
+use Rattle.std.specs.Prelude.{Bool, true, ◌≡◌, ℤ, pos, drop, get_or, length, take}
 use mathlib.Core.List.{List, []}
 use Rattle.std.proofs.Math.Option.{Option, none, some}
 use Rattle.std.proofs.Math.Path.{refl, ap₂, subst}
 use Rattle.std.proofs.Common.{sym, ap, ◌∙◌, arith, take_at}
 use Prim.Native.Nat.{ℕ, ◌*◌, ◌≤◌, ◌<◌}
-use Rattle.std.proofs.lemmas.List.{length-map}
-use Rattle.order.proofs.Lists.{get_or_map}
 use Rattle.order.specs.Order.{orderℕ, orderℤ}
 use Rattle.frontier.proofs.Best.{best-some}
 use Rattle.frontier.specs.Dominance.{le_all}
@@ -17,33 +15,30 @@ use Rattle.frontier.specs.Places.{AllFalling, InRange, pick}
 use Rattle.frontier.proofs.Places.{places-number, places-range}
 use Rattle.planning.specs.Graph.{Sound}
 use Rattle.planning.proofs.Grid.{all-fall, on-grid}
-use Rattle.network.specs.Yard.{best, ceiling_costs, graph, usable_at, yard}
+use Rattle.network.specs.Yard.{best, ceiling_costs, graph, yard}
 use Rattle.network.specs.Walk.{position_count, positions, values}
 use Rattle.network.specs.PlanList.{costs_of}
-use Rattle.network.specs.Calls.{apart}
-use Rattle.network.proofs.Meaning.{together-apart}
-use Rattle.network.specs.declared.Costs.{Costs}
 use Rattle.network.specs.NetworkFine.{NetworkFine}
 use Rattle.network.proofs.NetworkFine.{graph-sound}
 use Rattle.network.specs.Network.{Network}
 use Rattle.network.specs.Shaped.{Plannable, net_of}
-use Rattle.network.specs.declared.Answer.{Answer}
+use Rattle.network.specs.Checked.{Answer}
 use Rattle.network.specs.declared.Shape.{Shape}
 use Rattle.planlist_frontier.specs.Stored.{absent, costs-padded}
 use Rattle.solver.specs.Question.{answer_of}
 use Rattle.marking.specs.Place.{places-of, places_of}
-use Rattle.marking.specs.Paint.{Run, paint}
+use Rattle.marking.specs.Paint.{paint}
 use Rattle.marking.specs.Box.{sides}
 use Rattle.marking.specs.Settle.{Settled, lasts, lasts-le, lasts-range, own-later, position_at, settled-none, settled-some}
-use Rattle.marking.specs.Sides.{runs}
-use Rattle.marking.specs.Digits.{Steps, digits_by, sizes, weights}
-use Rattle.marking.specs.Gridded.{Griddable, Gridded, ceiling-values, grid-places, grid-steps, value-count}
-use Rattle.marking.specs.Parts.{ceiling_values}
+use Rattle.marking.specs.Sides.{strides}
+use Rattle.marking.specs.declared.mark.Side.{Side}
+use Rattle.marking.specs.Digits.{Steps, digits_by}
+use Rattle.marking.specs.Gridded.{Gridded, grid-places, grid-steps, value-count}
 use Rattle.marking.specs.declared.grid.Grid.{Grid}
 use Rattle.walk_visit.specs.Found.{Within, bounds_at, last_sides, own_sides}
-use Rattle.walk_visit.specs.Boxes.{bounds-are, box-inside, box-sides, last-sides, lengths, own-sides, range_at, range_length}
+use Rattle.walk_visit.specs.Boxes.{bounds-are, box-inside, grid-count, grid-length, grid_sides, last-sides, own-sides, range_at, range_length}
 use Rattle.walk_visit.specs.Position.{Locatable, places_at}
-use Rattle.walk_visit.specs.Answered.{Reaches, plan_costs, settled_by, sides_by}
+use Rattle.walk_visit.specs.Answered.{Reaches, settled_by, sides_by}
 
 -- the best tree at position n
 abbrev pub best_at : Network → ℕ → Option (List ℕ)
@@ -79,7 +74,7 @@ module _ (net : Network) (sound : Sound (graph net)) (n : ℕ) (h : n < position
   record LastPlaces (o : Option (List ℕ)) : Type 0 where
     range : InRange (last_places o) (values net)
     later : le_all orderℕ here (last_places o) ≡ true
-    marked : (ms : List ℕ) → position_count net ≤ length ms → Settled (yard net) n o ms (paint (sides here (last_places o) (values net)) n ms)
+    marked : (ms : List Bool) → position_count net ≤ length ms → Settled (yard net) n o ms (paint (sides here (last_places o) (values net)) n ms)
 
   last-places : (o : Option (List ℕ)) → best_at net n ≡ o → LastPlaces o
   last-places none e = record { range = lasts-range from; later = lasts-le from; marked = settled-none (yard net) (pos 0) n h falls }
@@ -93,56 +88,30 @@ module _ (net : Network) (sound : Sound (graph net)) (n : ℕ) (h : n < position
 
 -- ---- a network with its grid
 
--- what the walk sets out with: a network that can be planned, and the grid of its ceilings with their values in an array
-pub record Ready (shape : Shape) (ends sums : List ℕ) (costs array : List ℤ) (grid : Grid) : Type 0 where
-  pub plannable : Plannable shape ends sums costs
-  pub gridded : Gridded (values (net_of shape ends sums costs)) shape.m array grid
-
--- it can be found, and is what `grid_of` finds
-module _ {shape : Shape} {ends sums : List ℕ} {costs array : List ℤ} (plannable : Plannable shape ends sums costs) where
-  pub griddable : length array ≡ length costs → Griddable shape.p shape.m costs array
-  griddable e = record {
-    costs-are = plannable.fine.cost-count;
-    array-is = e ∙ plannable.fine.cost-count;
-    links = plannable.fine.few-links;
-    ceilings = plannable.fine.few-ceilings;
-  }
-
-  pub ready-grid : {grid : Grid} → Gridded (ceiling_values (usable_at shape.rest ends) shape.p shape.m costs) shape.m array grid
-      → Ready shape ends sums costs array grid
-  ready-grid {grid} g = record {
-    plannable = plannable;
-    gridded = subst (λ (ls : List (List ℤ)). Gridded ls shape.m array grid) (ceiling-values (net_of shape ends sums costs) plannable.fine.rank-count) g;
-  }
-
-module _ {shape : Shape} {ends sums : List ℕ} {costs array : List ℤ} {grid : Grid} (ready : Ready shape ends sums costs array grid) where
-  open ready use {gridded}
-
+module _ {shape : Shape} {ends sums : List ℕ} {costs array : List ℤ} {grid : Grid} (plannable : Plannable shape ends sums costs)
+    (gridded : Gridded (values (net_of shape ends sums costs)) shape.m array grid) where
   abbrev net : Network
   net = net_of shape ends sums costs
 
   fine : NetworkFine net
-  fine = ready.plannable.fine
+  fine = plannable.fine
 
   -- one list of values for each ceiling
   pub ceiling-count : length (values net) ≡ shape.p
   ceiling-count = value-count net ∙ fine.rank-count
 
-  counts-are : take shape.p grid.counts ≡ sizes (values net)
-  counts-are = ap (λ (k : ℕ). take k grid.counts) (sym ceiling-count) ∙ gridded.counts
-
-  strides-are : take shape.p grid.strides ≡ weights (sizes (values net))
-  strides-are = ap (λ (k : ℕ). take k grid.strides) (sym ceiling-count) ∙ gridded.strides
+  grid-are : take shape.p grid.sides ≡ grid_sides (values net)
+  grid-are = ap (λ (k : ℕ). take k grid.sides) (sym ceiling-count) ∙ gridded.sides
 
   -- Position n
   module _ (n : ℕ) (h : n < position_count net) where
-    steps : Steps (take shape.p grid.strides)
-    steps = subst (λ (k : ℕ). Steps (take k grid.strides)) ceiling-count (grid-steps gridded n h)
+    steps : Steps (strides (take shape.p grid.sides))
+    steps = subst (λ (k : ℕ). Steps (strides (take k grid.sides))) ceiling-count (grid-steps gridded n h)
 
     -- Its places
     module _ {places : List ℕ} (found : places ≡ places_at shape grid n) where
       places-are : places ≡ by.places (values net) n
-      places-are = found ∙ ap (λ (k : ℕ). digits_by (take k grid.strides) n) (sym ceiling-count) ∙ grid-places gridded n
+      places-are = found ∙ ap (λ (k : ℕ). digits_by (strides (take k grid.sides)) n) (sym ceiling-count) ∙ grid-places gridded n
 
       there : InRange places (values net)
       there = rw places-are (places-range (values net) n h)
@@ -166,25 +135,24 @@ module _ {shape : Shape} {ends sums : List ℕ} {costs array : List ℤ} {grid :
         sound = graph-sound net fine
 
         -- a plan holds the costs of the ceilings that there are
-        own-costs : (ts : List ℕ) → best_at net n ≡ some ts → take shape.p (plan_costs (apart (costs_of net ts))) ≡ ceiling_costs net ts
+        own-costs : (ts : List ℕ) → best_at net n ≡ some ts → take shape.p (costs_of net ts).y ≡ ceiling_costs net ts
         own-costs ts e =
             let few = fine.few-ceilings in
-            ap (λ (v : Costs). take shape.p v.y) (together-apart net ts)
-            ∙ ap (λ (v : List ℤ). take shape.p (drop 1 v)) (costs-padded net ts (omega (arith, fine.rank-count)))
+            ap (λ (v : List ℤ). take shape.p (drop 1 v)) (costs-padded net ts (omega (arith, fine.rank-count)))
             ∙ take_at (ceiling_costs net ts) (absent net) shape.p (picks-length (own-picks net sound n h ts e) ∙ ceiling-count)
 
         -- the sides of its box
-        sides-are : sides_by shape array grid places a ≡ lengths (by.places (values net) n) (last_places net sound n h (best_at net n))
+        sides-are : sides_by shape array grid places a ≡ sides (by.places (values net) n) (last_places net sound n h (best_at net n)) (values net)
         unfolding sides_by answer_of
         sides-are = ap₂ (sides_by shape array grid) places-are answered ∙ go (best_at net n) refl
           where
             is : List ℕ
             is = by.places (values net) n
 
-            go : (o : Option (List ℕ)) → best_at net n ≡ o → sides_by shape array grid is (answer_of net o) ≡ lengths is (last_places net sound n h o)
-            go none e = ap (λ (cs : List ℕ). last_sides cs is) counts-are ∙ last-sides (from net sound n h)
+            go : (o : Option (List ℕ)) → best_at net n ≡ o → sides_by shape array grid is (answer_of net o) ≡ sides is (last_places net sound n h o) (values net)
+            go none e = ap (λ (rs : List Side). last_sides rs is) grid-are ∙ last-sides (from net sound n h)
             go (some ts) e =
-                ap₂ (λ (cs : List ℕ) (y : List ℤ). own_sides shape.m array cs is y) counts-are (own-costs ts e)
+                ap₂ (λ (rs : List Side) (y : List ℤ). own_sides shape.m array rs is y) grid-are (own-costs ts e)
                 ∙ own-sides gridded (from net sound n h) (own-picks net sound n h ts e) (falls net sound n h) (own_below net sound n h ts e)
 
         -- which lies inside the marks
@@ -192,36 +160,36 @@ module _ {shape : Shape} {ends sums : List ℕ} {costs array : List ℤ} {grid :
         reaches {size} room =
             let last = last-places net sound n h (best_at net n) refl in
             let box = box-inside (from net sound n h) last.range last.later room in
+            let many = grid-length (values net) in
             record {
-              ceilings = omega (arith, gridded.ceilings, ceiling-count);
-              held = gridded.held;
-              placed = rw counts-are (record {
-                alike = places-length ∙ sym (length-map (values net) length);
-                low = λ i g. let k : i < length (values net) = omega (arith, length-map (values net) length) in
-                    rw (get_or_map length (values net) i [] 0 k) (range_at there i k);
-              });
-              parted = rw counts-are (record {
-                room = omega (arith, gridded.room, ap (λ (k : ℕ). k * shape.m) (length-map (values net) length));
-                few = λ i g. let k : i < length (values net) = omega (arith, length-map (values net) length) in
-                    rw (get_or_map length (values net) i [] 0 k) (gridded.few i k);
-              });
-              inside = rw (strides-are, sides-are) (rw (places-number (values net) n h) at box);
+              places-are = record {
+                ceilings = omega (arith, gridded.ceilings, ceiling-count);
+                held = gridded.held;
+                placed = rw grid-are (record {
+                  alike = places-length ∙ sym many;
+                  low = λ i g. let k : i < length (values net) = omega (arith, many) in rw (grid-count (values net) i k) (range_at there i k);
+                });
+                parted = rw grid-are (record {
+                  room = omega (arith, gridded.room, ap (λ (k : ℕ). k * shape.m) many);
+                  few = λ i g. let k : i < length (values net) = omega (arith, many) in rw (grid-count (values net) i k) (gridded.few i k);
+                });
+              };
+              inside = rw sides-are (rw (places-number (values net) n h) at box);
             }
 
         -- and the marks that it sets are what the answer settles
-        pub settles : (ms : List ℕ) → position_count net ≤ length ms → Settled (yard net) n (best_at net n) ms (settled_by shape array grid places n a ms)
+        pub settles : (ms : List Bool) → position_count net ≤ length ms → Settled (yard net) n (best_at net n) ms (settled_by shape array grid places n a ms)
         unfolding settled_by
         settles ms room =
             let last = last-places net sound n h (best_at net n) refl in
-            let same = ap₂ runs strides-are sides-are ∙ box-sides (from net sound n h) last.range in
-            subst (λ (rs : List Run). Settled (yard net) n (best_at net n) ms (paint rs n ms)) (sym same) (last.marked ms room)
+            subst (λ (rs : List Side). Settled (yard net) n (best_at net n) ms (paint rs n ms)) (sym sides-are) (last.marked ms room)
 
     -- its places and values can be found
     pub locatable : Locatable shape array grid n
     locatable =
         record {
           ceilings = omega (arith, gridded.ceilings, ceiling-count);
-          held = gridded.held.1;
+          held = gridded.held;
           steps = steps;
           within = within refl;
         }

@@ -1,17 +1,15 @@
 -- What solving a position asks of the records of plans, and what it leaves.
 use mathlib.Core.List.{List, []}
 use Rattle.std.proofs.Math.Option.{Option, none, some}
-use Rattle.std.specs.Prelude.{◌≡◌, ℕ, ◌+◌, ◌*◌, ◌≤◌, ◌<◌, pos, get_or, length, take}
+use Rattle.std.specs.Prelude.{Bool, Ok, ◌≡◌, ℕ, ◌+◌, ◌*◌, ◌≤◌, ◌<◌, pos, get_or, length, take}
 use Rattle.std.proofs.Math.Path.{refl, ap, ap₂, subst⁻¹}
-use Rattle.std.proofs.Common.{sym, ◌∙◌, subst, arith, length-take-le}
-use Rattle.network.specs.Calls.{apart, together, tree_with}
+use Rattle.std.proofs.Common.{sym, ◌∙◌, arith, length-take-le}
+use Rattle.network.specs.Calls.{tree_with}
 use Rattle.network.specs.Capacities.{ceilings_held}
-use Rattle.network.proofs.Meaning.{together-apart}
 use Rattle.network.specs.PlanList.{costs_of, head_size, plan_bytes, plan_size, plan_slots, record_of}
 use Rattle.network.specs.Walk.{positions}
 use Rattle.network.specs.Yard.{tree_size, yard}
-use Rattle.network.specs.declared.Answer.{Answer}
-use Rattle.network.specs.declared.Answer.TheVariants.{Plan}
+use Rattle.network.specs.Checked.{Answer}
 use Rattle.network.specs.declared.Costs.{Costs}
 use Rattle.network.specs.Network.{Network}
 use Rattle.planlist_frontier.specs.Insertion.{RecordsRise, insert_record}
@@ -37,7 +35,7 @@ module _ (net : Network) where
   take_record (some ts) rs = insert_record slots_of (record_of net ts) rs
 
   -- what solving position n does to the marks ms and to the `count` records of bs
-  pub record Visited (n : ℕ) (ms ms' bs bs' : List ℕ) (count count' : ℕ) : Type 0 where
+  pub record Visited (n : ℕ) (ms ms' : List Bool) (bs bs' : List ℕ) (count count' : ℕ) : Type 0 where
     pub marks : Settled (yard net) n (best_at net n) ms ms'
     pub records : records_of count' bs' ≡ take_record (best_at net n) (records_of count bs)
     pub writable : (ts : List ℕ) → best_at net n ≡ some ts → Writable slots_of (costs_of net ts)
@@ -78,14 +76,14 @@ module _ (net : Network) where
           rise = subst⁻¹ (λ (t : ℕ). RecordsRise slots_of (records_in slots_of t count bs)) size p.rise;
           level = λ v q.
               let f = answer-found net (best_at net n) answered q in
-              subst⁻¹ (λ (t : ℕ). Level slots_of (together v) (records_in slots_of t count bs)) size
+              subst⁻¹ (λ (t : ℕ). Level slots_of v (records_in slots_of t count bs)) size
               (subst⁻¹ (λ (w : Costs). Level slots_of w (records_of count bs)) f.costs-are (p.level f.tree f.best-is));
           absent = λ v q j h.
               let f = answer-found net (best_at net n) answered q in
               ap (λ (w : Costs). get_or w.y j (pos 0)) f.costs-are ∙ p.absent f.tree f.best-is j h;
         }
 
-    plan-is : (ts : List ℕ) → best_at net n ≡ some ts → a ≡ Plan (apart (costs_of net ts))
+    plan-is : (ts : List ℕ) → best_at net n ≡ some ts → a ≡ Ok (costs_of net ts)
     unfolding answer_of
     plan-is ts e = answered ∙ ap (answer_of net) e
 
@@ -96,16 +94,16 @@ module _ (net : Network) where
         go : (o : Option (List ℕ)) → ((ts : List ℕ) → o ≡ some ts → links ≡ ts) → with_plan slots_of (answer_of net o) links rs ≡ take_record o rs
         go none l = refl
         go (some ts) l =
-            ap₂ (λ (v : Costs) (k : List ℕ). insert_record slots_of (plan_bytes slots_of v k) rs) (together-apart net ts) (l ts refl)
+            ap (λ (k : List ℕ). insert_record slots_of (plan_bytes slots_of (costs_of net ts) k) rs) (l ts refl)
 
     -- and then the position is visited
-    pub visited : {ms ms' bs bs' : List ℕ} {count count' : ℕ} → Settled (yard net) n (best_at net n) ms ms' → Taken slots_of a links count count' bs bs'
+    pub visited : {ms ms' : List Bool} {bs bs' : List ℕ} {count count' : ℕ} → Settled (yard net) n (best_at net n) ms ms' → Taken slots_of a links count count' bs bs'
         → Visited n ms ms' bs bs' count count'
     visited {bs = bs} {bs' = bs'} {count = count} {count' = count'} m t =
         record {
           marks = m;
           records = ap (λ (k : ℕ). records_in slots_of k count' bs') (sym size) ∙ t.records ∙ with-plan (records_in slots_of (length links) count bs)
               ∙ ap (λ (k : ℕ). take_record (best_at net n) (records_in slots_of k count bs)) size;
-          writable = λ ts e. subst (Writable slots_of) (together-apart net ts) (t.writable (apart (costs_of net ts)) (plan-is ts e));
+          writable = λ ts e. t.writable (costs_of net ts) (plan-is ts e);
           bounded = t.bounded;
         }

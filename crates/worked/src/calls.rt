@@ -1,90 +1,93 @@
 // The planner's calls, with their replies printed.
-use crate::indexing::{index_call, many_call};
-use crate::report::{answer, status};
-use crate::writing::{small_call, write_call};
-use console::line::Line;
-use console::{item, part, row, text};
-use encoding::signed::signed16;
+use crate::command::Call;
+use crate::line::{Line, byte, signed};
+use crate::reply::{answered, status};
+use console::Row;
 use network::limits::MAX_NEED;
 use planner::{best, fetch_links, fetch_number, judge, list};
+use std::alloc::{AllocError, Global};
+use std::io;
+use std::io::Write;
 
 // What buffers hold before a call.
 pub const DIRT: u8 = 0xFF;
 
-// The signed number whose two's complement ends a number.
-pub fn cost(n: u32) -> i16 {
-    signed16((n % 65536) as u16)
+// A line's call: the bytes of a survey or a list, and the line with its numbers.
+#[derive(Clone, Copy)]
+pub struct Request<'a> {
+    pub bytes: &'a [u8],
+    pub line: &'a Line,
+    pub alloc: Global,
 }
 
-// Plan r of a list: the number and the links.
-fn plan(plans: &[u8], r: u32) {
-    item(b" number ", fetch_number(plans, r));
-    row(b" links", fetch_links(plans, r));
-}
-
-// The first three plans of a list, and the last that can be asked for.
-fn some_plans(plans: &[u8]) {
-    plan(plans, 0);
-    plan(plans, 1);
-    plan(plans, 2);
-    plan(plans, 4294967295);
-}
-
-// The same of a list with another byte.
-fn fetch(plans: &mut [u8], i: u32, x: u32) {
-    let at = i as usize;
-    if at < plans.len() {
-        plans[at] = (x % 256) as u8;
-        some_plans(plans);
+impl Request<'_> {
+    // A buffer of as many bytes as the first number says, or none where they are more than the call is lent.
+    pub fn buffer(&self, most: usize) -> Result<Option<Vec<u8>>, AllocError> {
+        let size = self.line.numbers[0] as usize;
+        if size <= most {
+            Ok(Some(vec![in self.alloc; DIRT; size]?))
+        } else {
+            Ok(None)
+        }
     }
-}
 
-// The ceilings question, and the tree buffer after it.
-fn ask(survey: &[u8], b1: u32, b2: u32, b3: u32, tree: &mut [u8]) {
-    answer(best(survey, [cost(b1), cost(b2), cost(b3)], tree));
-    row(b" tree", tree);
-}
-
-// The list call, and the list buffer after it, or plans of its list.
-fn plans(survey: &[u8], word: u8, a: u32, i: u32, x: u32, buffer: &mut [u8]) {
-    status(list(survey, a, buffer));
-    if word == b'p' {
-        row(b" list", buffer);
-    } else {
-        fetch(buffer, i, x);
+    // The judge, with the links of the line drawn.
+    fn judge(&self, out: &mut Vec<u8>) -> io::Result<()> {
+        let numbers = self.line.all().iter();
+        let drawn: Vec<u8> = numbers.map(|number| byte(*number)).collect(self.alloc)?;
+        write!(out, "{}", answered(judge(self.bytes, &drawn)))
     }
-}
 
-// A call that fills a buffer.
-fn fill(survey: &[u8], word: u8, a: u32, b: u32, c: u32, buffer: &mut [u8]) {
-    if word == b'a' {
-        ask(survey, a, b, c, buffer);
-    } else {
-        plans(survey, word, a, b, c, buffer);
+    // The ceilings question, and the tree buffer after it.
+    fn ask(&self, out: &mut Vec<u8>) -> io::Result<()> {
+        let [_, b1, b2, b3, ..] = self.line.numbers;
+        if let Some(mut tree) = self.buffer(MAX_NEED)? {
+            let reply = best(self.bytes, [signed(b1), signed(b2), signed(b3)], &mut tree);
+            write!(out, "{}{}", answered(reply), Row("tree", &tree))?;
+        }
+        Ok(())
     }
-}
 
-// The same with a buffer of so many bytes.
-fn lend(survey: &[u8], word: u8, size: usize, a: u32, b: u32, c: u32) {
-    let mut space = [DIRT; MAX_NEED];
-    if size <= MAX_NEED {
-        fill(survey, word, a, b, c, &mut space[..size]);
+    // The list call, and the list buffer after it.
+    fn plans(&self, out: &mut Vec<u8>) -> io::Result<()> {
+        if let Some(mut plans) = self.buffer(MAX_NEED)? {
+            let reply = list(self.bytes, self.line.numbers[1], &mut plans);
+            write!(out, "{}{}", status(reply), Row("list", &plans))?;
+        }
+        Ok(())
     }
-}
 
-// A line's call on a survey or on a list.
-pub fn call(survey: &[u8], line: Line) {
-    let word = line.word;
-    let ns = line.numbers;
-    let bytes = line.bytes;
-    match word {
-        b'j' => answer(judge(survey, part(&bytes, 0, line.count))),
-        b'a' | b'p' | b'f' => lend(survey, word, ns[0] as usize, ns[1], ns[2], ns[3]),
-        b'i' | b'v' => index_call(survey, line),
-        b'm' => many_call(line),
-        b'o' => write_call(survey, line),
-        b'n' => small_call(line),
-        _ => return,
+    // The list call, and the first three plans of its list with another byte, and the last that can be asked for.
+    fn fetch(&self, out: &mut Vec<u8>) -> io::Result<()> {
+        let [_, allowance, index, value, ..] = self.line.numbers;
+        let Some(mut plans) = self.buffer(MAX_NEED)? else {
+            return Ok(());
+        };
+        write!(out, "{}", status(list(self.bytes, allowance, &mut plans)))?;
+        let Some(changed) = plans.get_mut(index as usize) else {
+            return Ok(());
+        };
+        *changed = byte(value);
+        for r in [0, 1, 2, u32::MAX] {
+            let links = Row("links", fetch_links(&plans, r));
+            write!(out, " number {}{links}", fetch_number(&plans, r))?;
+        }
+        Ok(())
     }
-    text(b"\n");
+
+    // The call, and what is printed of it.
+    pub fn print(&self, call: Call, out: &mut Vec<u8>) -> io::Result<()> {
+        match call {
+            Call::Judge => self.judge(out)?,
+            Call::Ask => self.ask(out)?,
+            Call::Plans => self.plans(out)?,
+            Call::Fetch => self.fetch(out)?,
+            Call::Index => self.build(out)?,
+            Call::Value => self.look(out)?,
+            Call::Many => self.ends(out)?,
+            Call::Output => self.output(out)?,
+            Call::Number => self.small(out)?,
+        }
+        writeln!(out)
+    }
 }

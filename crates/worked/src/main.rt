@@ -36,73 +36,74 @@
 #![tactic(auto)]
 
 mod calls;
+mod command;
 mod indexing;
+mod line;
 mod many;
-mod report;
+mod reply;
 mod writing;
 mod yard;
 
-use console::line::Line;
-use console::{part, text};
-use std::num::wrapping_add_usize;
+use calls::Request;
+use command::Command;
+use line::Line;
+use std::alloc::Global;
+use std::io;
+use std::io::Write;
 use yard::Yard;
-
-const INPUT: i32 = 0;
 
 // More bytes than the input has.
 const ROOM: usize = 131072;
 
-// The yard after a byte: a line that it ends is obeyed.
-fn obey(yard: Yard, line: Line, byte: u8) -> Yard {
-    let word = line.word;
-    let numbers = line.numbers;
-    if byte != b'\n' {
-        return yard;
+// The yard as a line leaves it, with what the line prints.
+fn obey(out: &mut Vec<u8>, yard: &mut Yard, line: &Line, alloc: Global) -> io::Result<()> {
+    let Some(Ok(command)) = line.letter.map(Command::try_from) else {
+        return Ok(());
+    };
+    let [first, second, ..] = line.numbers;
+    match command {
+        Command::Begin(record) => yard.begin(record, line),
+        Command::Add(record) => yard.add(record, line),
+        Command::Walk => yard.walk(first),
+        Command::Set => yard.set(first, second),
+        Command::Cut => yard.cut(first),
+        Command::Call(call) => {
+            let bytes = yard.bytes();
+            Request { bytes, line, alloc }.print(call, out)?;
+        }
     }
-    match word {
-        b'y' => Yard::begin(numbers),
-        b't' => Yard::begin_counted(numbers),
-        b'q' => Yard::begin_resting(numbers),
-        b'b' => Yard::begin_wide(numbers),
-        b'l' => yard.link(numbers),
-        b'e' => yard.wide_link(numbers),
-        b'h' => Yard::begin_list(numbers),
-        b'r' => yard.plan(numbers),
-        b'd' => yard.wide_plan(numbers),
-        b'w' => yard.walk(numbers),
-        b's' => yard.set(numbers),
-        b'c' => yard.cut(numbers),
-        _ => yard.call(line),
-    }
+    Ok(())
 }
 
-// Where the line begins after a byte at an index; a colon has its label printed.
-fn label(input: &[u8], from: usize, at: usize, byte: u8) -> usize {
-    if byte == b'\n' {
-        return wrapping_add_usize(at, 1);
+// What stands before each colon, and a colon.
+fn label(out: &mut Vec<u8>, line: &[u8]) -> io::Result<()> {
+    for (at, byte) in line.iter().enumerate() {
+        if *byte == b':' {
+            out.extend_from_slice(&line[..at])?;
+            out.extend_from_slice(b": ")?;
+        }
     }
-    if byte == b':' {
-        text(part(input, from, at));
-        text(b": ");
-    }
-    from
+    Ok(())
 }
 
-fn run(input: &[u8]) {
+// What the lines print: their labels, and what calls reply. A last line that does not end is not obeyed.
+fn run(input: &[u8], alloc: Global) -> io::Result<Vec<u8>> {
+    let mut out = Vec::new(alloc);
     let mut yard = Yard::new();
-    let mut line = Line::new();
-    let mut from = 0;
-    for at in 0..input.len() {
-        let byte = input[at];
-        let read = line.read(byte);
-        yard = obey(yard, read, byte);
-        from = label(input, from, at, byte);
-        line = read.rest(byte);
+    for line in input.split_inclusive(|byte| *byte == b'\n') {
+        label(&mut out, line)?;
+        if let Some(whole) = line.strip_suffix(b"\n") {
+            let text = whole.rsplit(|byte| *byte == b':').next().unwrap_or(whole);
+            obey(&mut out, &mut yard, &Line::from(text), alloc)?;
+        }
     }
+    Ok(out)
 }
 
-fn main() {
-    let mut input = [0; ROOM];
-    let len = io::read_full(INPUT, &mut input);
-    run(&input[..len]);
+// That a write fails is nothing that the program reports.
+fn main(rt: HostRuntime) -> io::Result<()> {
+    let input = console::read_input(rt.stdin(), ROOM, rt.alloc())?;
+    let text = run(&input, rt.alloc())?;
+    let _written = io::writer(&rt).write_all(&text);
+    Ok(())
 }

@@ -1,61 +1,59 @@
 // Surveys and plan lists put together record by record.
-use crate::calls::{DIRT, call};
-use console::line::{Line, NUMBERS};
-use console::part;
-use encoding::writes::write_u32;
+use crate::calls::DIRT;
+use crate::command::Record;
+use crate::line::{Line, byte};
 use network::limits::MAX_LINKS;
 use planner::list;
-use std::num::wrapping_add_usize;
 
 // More bytes than a survey of one link too many has.
 const ROOM: usize = 16 * (MAX_LINKS + 1);
 
-const YARD_MARK: u32 = 0x4459;
-
-const COUNTED_MARK: u32 = 0x4559;
-
-const RESTING_MARK: u32 = 0x4659;
-
-const WIDE_MARK: u32 = 0x4759;
-
-const LINK_MARK: u32 = 0x4B4C;
-
-const WIDE_LINK_MARK: u32 = 0x4D4C;
-
-pub const HEAD_MARK: u32 = 0x4850;
-
-pub const PLAN_MARK: u32 = 0x4C50;
-
-pub const WIDE_PLAN_MARK: u32 = 0x4D50;
-
 // How many numbers a record has at most.
 const FIELDS: usize = 7;
 
-// How many bytes each number of a yard record takes, of one with a link count, of one with rest bytes as well, of one with three ranks, of a link record,
-// of one with three ceiling costs, of a list's head, of a plan record with one link, and of one with three ceiling costs.
-const YARD_SIZES: [u8; FIELDS] = [1, 1, 1, 1, 0, 0, 0];
+pub const HEAD_MARK: [u8; 2] = *b"PH";
 
-const COUNTED_SIZES: [u8; FIELDS] = [1, 1, 1, 1, 1, 0, 0];
+pub const PLAN_MARK: [u8; 2] = *b"PL";
 
-const RESTING_SIZES: [u8; FIELDS] = [1, 1, 1, 1, 1, 3, 0];
+pub const WIDE_PLAN_MARK: [u8; 2] = *b"PM";
 
-const WIDE_SIZES: [u8; FIELDS] = [1, 1, 1, 1, 1, 1, 3];
+impl Record {
+    // The mark that opens the record.
+    fn mark(self) -> [u8; 2] {
+        match self {
+            Record::Yard => *b"YD",
+            Record::Tally => *b"YE",
+            Record::Quiet => *b"YF",
+            Record::Broad => *b"YG",
+            Record::Link => *b"LK",
+            Record::Edge => *b"LM",
+            Record::Head => HEAD_MARK,
+            Record::Row => PLAN_MARK,
+            Record::Detail => WIDE_PLAN_MARK,
+        }
+    }
 
-const LINK_SIZES: [u8; FIELDS] = [1, 1, 4, 2, 2, 0, 0];
+    // How many bytes each number of a line takes in the record, none past those that it has.
+    fn sizes(self) -> [usize; FIELDS] {
+        match self {
+            Record::Yard => [1, 1, 1, 1, 0, 0, 0],
+            Record::Tally => [1, 1, 1, 1, 1, 0, 0],
+            Record::Quiet => [1, 1, 1, 1, 1, 3, 0],
+            Record::Broad => [1, 1, 1, 1, 1, 1, 3],
+            Record::Link => [1, 1, 4, 2, 2, 0, 0],
+            Record::Edge => [1, 1, 4, 2, 2, 2, 0],
+            Record::Head => [2, 4, 1, 1, 0, 0, 0],
+            Record::Row => [4, 2, 2, 1, 0, 0, 0],
+            Record::Detail => [4, 2, 2, 2, 1, 0, 0],
+        }
+    }
+}
 
-const WIDE_LINK_SIZES: [u8; FIELDS] = [1, 1, 4, 2, 2, 2, 0];
-
-const HEAD_SIZES: [u8; FIELDS] = [2, 4, 1, 1, 0, 0, 0];
-
-const PLAN_SIZES: [u8; FIELDS] = [4, 2, 2, 1, 0, 0, 0];
-
-const WIDE_PLAN_SIZES: [u8; FIELDS] = [4, 2, 2, 2, 1, 0, 0];
-
-// The bytes of a survey or list, of which the first `len` count.
+// The bytes of a survey or list, of which the first `len` count. No vector: `cut` may count bytes past them once more, which a vector would forget.
 #[derive(Drop)]
 pub struct Yard {
-    pub bytes: [u8; ROOM],
-    pub len: usize,
+    bytes: [u8; ROOM],
+    len: usize,
 }
 
 impl Yard {
@@ -67,97 +65,50 @@ impl Yard {
         }
     }
 
-    // A number of so many bytes more, where there is room; what is written past it does not count.
-    fn number(self, n: u32, size: u8) -> Yard {
-        let mut bytes = self.bytes;
-        let at = self.len;
-        if at <= ROOM - 4 {
-            write_u32(&mut bytes, at, n);
+    // The bytes that count, or none where there are not so many.
+    pub fn bytes(&self) -> &[u8] {
+        self.bytes.get(..self.len).unwrap_or(&[])
+    }
+
+    // A number of so many bytes more. All four of it are written, where there is room: those past its size do not count.
+    fn put(&mut self, number: u32, size: usize) {
+        if let Some(rest) = self.bytes.get_mut(self.len..) {
+            if let Some(place) = rest.first_chunk_mut::<4>() {
+                *place = number.to_le_bytes();
+            }
         }
-        Yard {
-            bytes,
-            len: wrapping_add_usize(at, size as usize),
-        }
+        self.len = self.len.saturating_add(size);
     }
 
     // A record more.
-    fn record(self, mark: u32, sizes: [u8; FIELDS], numbers: [u32; NUMBERS]) -> Yard {
-        let mut yard = self.number(mark, 2);
-        for i in 0..FIELDS {
-            yard = yard.number(numbers[i], sizes[i]);
+    pub fn add(&mut self, record: Record, line: &Line) {
+        self.put(u32::from(u16::from_le_bytes(record.mark())), 2);
+        for (number, size) in line.numbers.iter().zip(record.sizes()) {
+            self.put(*number, size);
         }
-        yard
     }
 
-    // A yard record alone.
-    pub fn begin(numbers: [u32; NUMBERS]) -> Yard {
-        Yard::new().record(YARD_MARK, YARD_SIZES, numbers)
-    }
-
-    // A yard record that has a link count, alone.
-    pub fn begin_counted(numbers: [u32; NUMBERS]) -> Yard {
-        Yard::new().record(COUNTED_MARK, COUNTED_SIZES, numbers)
-    }
-
-    // A yard record that has a link count and rest bytes, alone.
-    pub fn begin_resting(numbers: [u32; NUMBERS]) -> Yard {
-        Yard::new().record(RESTING_MARK, RESTING_SIZES, numbers)
-    }
-
-    // A yard record of three ceilings alone.
-    pub fn begin_wide(numbers: [u32; NUMBERS]) -> Yard {
-        Yard::new().record(WIDE_MARK, WIDE_SIZES, numbers)
-    }
-
-    // A link record more.
-    pub fn link(self, numbers: [u32; NUMBERS]) -> Yard {
-        self.record(LINK_MARK, LINK_SIZES, numbers)
-    }
-
-    // A link record with three ceiling costs more.
-    pub fn wide_link(self, numbers: [u32; NUMBERS]) -> Yard {
-        self.record(WIDE_LINK_MARK, WIDE_LINK_SIZES, numbers)
-    }
-
-    // A list's head alone.
-    pub fn begin_list(numbers: [u32; NUMBERS]) -> Yard {
-        Yard::new().record(HEAD_MARK, HEAD_SIZES, numbers)
-    }
-
-    // A plan record more.
-    pub fn plan(self, numbers: [u32; NUMBERS]) -> Yard {
-        self.record(PLAN_MARK, PLAN_SIZES, numbers)
-    }
-
-    // A plan record with three ceiling costs more.
-    pub fn wide_plan(self, numbers: [u32; NUMBERS]) -> Yard {
-        self.record(WIDE_PLAN_MARK, WIDE_PLAN_SIZES, numbers)
+    // A record alone.
+    pub fn begin(&mut self, record: Record, line: &Line) {
+        *self = Yard::new();
+        self.add(record, line);
     }
 
     // The list of its survey in all the room, under an allowance.
-    pub fn walk(self, numbers: [u32; NUMBERS]) -> Yard {
-        let survey = self.bytes;
-        let mut bytes = [DIRT; ROOM];
-        let _reply = list(part(&survey, 0, self.len), numbers[0], &mut bytes);
-        Yard { bytes, len: ROOM }
+    pub fn walk(&mut self, allowance: u32) {
+        let mut plans = [DIRT; ROOM];
+        let _reply = list(self.bytes(), allowance, &mut plans);
+        self.bytes = plans;
+        self.len = ROOM;
     }
 
     // Another byte at an index.
-    pub fn set(mut self, numbers: [u32; NUMBERS]) -> Yard {
-        self.bytes[numbers[0] as usize % ROOM] = (numbers[1] % 256) as u8;
-        self
+    pub fn set(&mut self, index: u32, value: u32) {
+        self.bytes[index as usize % ROOM] = byte(value);
     }
 
     // Another length.
-    pub fn cut(mut self, numbers: [u32; NUMBERS]) -> Yard {
-        self.len = numbers[0] as usize;
-        self
-    }
-
-    // As it is, after a call on its bytes.
-    pub fn call(self, line: Line) -> Yard {
-        let bytes = self.bytes;
-        call(part(&bytes, 0, self.len), line);
-        self
+    pub fn cut(&mut self, len: u32) {
+        self.len = len as usize;
     }
 }

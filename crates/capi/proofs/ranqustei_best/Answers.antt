@@ -10,8 +10,8 @@ unfolding flat_reply
 returns c =
     let e = rw (to_z-of_z c.ranges.b1, to_z-of_z c.ranges.b2, to_z-of_z c.ranges.b3) at c.best.ensures in
     record {
-      reply = c.flat.ensures ∙ ap flat_reply e.reply;
+      reply = c.from.ensures ∙ ap flat_reply e.reply;
       leaves = e.leaves;
-      promised = rw c.flat.ensures (flat-best _ _ _ _ (says c.best.result) e.promised);
-      noticed = rw c.flat.ensures e.noticed;
+      promised = rw c.from.ensures (flat-best _ _ _ _ (says c.best.result) e.promised);
+      noticed = rw c.from.ensures e.noticed;
     }

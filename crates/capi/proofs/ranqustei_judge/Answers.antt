@@ -9,7 +9,7 @@ unfolding flat_reply
 returns c =
     let judged = c.judge.ensures in
     record {
-      reply = c.flat.ensures ∙ ap flat_reply judged.reply;
-      promised = rw c.flat.ensures (flat-judge _ _ (says c.judge.result) judged.promised);
-      noticed = rw c.flat.ensures judged.noticed;
+      reply = c.from.ensures ∙ ap flat_reply judged.reply;
+      promised = rw c.from.ensures (flat-judge _ _ (says c.judge.result) judged.promised);
+      noticed = rw c.from.ensures judged.noticed;
     }

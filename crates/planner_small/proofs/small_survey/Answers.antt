@@ -6,12 +6,12 @@ use Rattle.planner_small.proofs.small_survey.Goals as goal
 pub returns-then-q-ge-SURVEYS : goal.returns-then-q-ge-SURVEYS
 returns-then-q-ge-SURVEYS c =
     let way = by_number c.args.q c.args.survey.now (search rules) in
-    record { reply = way.0; leaves = way.1.0; promised = way.1.1 }
+    record { reply = rw c.of.ensures way.0; leaves = way.1.0; promised = rw c.of.ensures way.1.1 }
 
 pub returns-then-survey-lt-BYTES : goal.returns-then-survey-lt-BYTES
 returns-then-survey-lt-BYTES c =
     let way = by-room c.args.q c.args.survey.now (search rules) (search rules) in
-    record { reply = way.0; leaves = way.1.0; promised = way.1.1 }
+    record { reply = rw c.of-then-survey-lt-BYTES.ensures way.0; leaves = way.1.0; promised = rw c.of-then-survey-lt-BYTES.ensures way.1.1 }
 
 pub returns : goal.returns
 returns c =

@@ -1,20 +1,13 @@
-use Prim.Native.Nat.{◌≤◌}
-use mathlib.Core.Path.{refl}
-use native.Mathlib.Omega.{arith}
-use lib.ListN.{length}
-use Rattle.ranks.specs.Slack.{slack-end, slack-start, slack-turn}
+-- `ranks::slack_of` meets its contract. What the definition adds up rank by rank is a sum over the ranks.
+use Rattle.std.proofs.Common.{◌≡◌, ℕ, ◌+◌, ◌-◌, List, [], ◌∷◌, refl, ap, ◌∙◌, rules}
+use Rattle.std.specs.List.{sum_by}
+use Rattle.std.proofs.lemmas.List.Sums.{sum_by-cons}
+use Rattle.kmax.specs.Ceilings.{slack_of}
 use Rattle.ranks.proofs.slack_of.Goals as goal
 
-pub loop-i-init : goal.loop-i-init
-loop-i-init c = (refl, omega arith, slack-start _)
-
-pub loop-i-preserved : goal.loop-i-preserved
-loop-i-preserved c =
-    let turn = c.loop-i in
-    let more = c.above_one-slack.ensures in
-    (refl, omega arith, slack-turn _ _ _ _ _ (omega arith) turn.invariant.2 more.0)
+summed : (ks : List ℕ) → sum_by (λ k. k - 1) ks ≡ slack_of ks
+summed [] = refl
+summed (k ∷ ks) = sum_by-cons (λ k. k - 1) k ks ∙ ap (λ n. (k - 1) + n) (summed ks)
 
 pub returns : goal.returns
-returns c =
-    let all : length c.args.ks.now ≤ c.loop-i.i = omega arith in
-    slack-end _ _ _ _ all c.loop-i.invariant.2
+returns c = let h : c.sum.result ≡ sum_by (λ k. k - 1) c.args.ks.now = search rules in h ∙ summed _

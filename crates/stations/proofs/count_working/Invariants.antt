@@ -1,10 +1,6 @@
--- `stations::count_working` meets its contract. After j turns the working ones of the first j stations are counted.
-use Prim.Native.Nat.{◌-◌, ◌≤◌}
+-- The working ones of the stations seen so far are counted.
 use Rattle.stations.specs.Counting.{Counted}
 use Rattle.stations.proofs.count_working.Given as goal
 
-abbrev pub invariant-loop-j : goal.invariant-loop-j
-invariant-loop-j l = Counted l.rest l.j l.count l.above × (l.j ≤ l.n)
-
-abbrev pub decreases-loop-j : goal.decreases-loop-j
-decreases-loop-j l = l.n - l.j
+abbrev pub invariant-loop : goal.invariant-loop
+invariant-loop l = Counted l.rest l.counter l.count l.bits

@@ -11,5 +11,5 @@ returns c =
     let list = c.args.list.now in
     let index = c.args.index.now in
     let asked = rw (to_z-of_z w16 c.args.value c.ranges.value) at c.index_lookup.ensures in
-    let reply = c.flat.ensures ∙ ap flat_found asked.reply in
+    let reply = c.from.ensures ∙ ap flat_found asked.reply in
     record { reply = reply; promised = found-promised list index c.args.value reply (subst (LookupPromised list index c.args.value) asked.reply asked.promised) }

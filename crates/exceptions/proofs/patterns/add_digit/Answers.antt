@@ -1,7 +1,7 @@
 use Prim.Native.Nat.{◌<◌}
 use mathlib.Core.Path.{◌≡◌, refl}
 use native.Mathlib.Omega.{arith}
-use borrow.Author.Rules.{rules, sfits_of}
+use borrow.Author.Rules.{rules}
 use lib.IntN.{pos}
 use lib.ListN.{get_or, length}
 use mir.Facts.{to_z-of_z}
@@ -16,10 +16,10 @@ room : (c : In-loop-e) → pattern_at c.loop-e.patterns c.loop-e.e < 128
 room c =
     let v = c.loop-e in
     let h : v.e < length c.args.patterns.now = omega arith in
-    rw (added_next _ _ _ v.e h v.invariant.3) (c.requires.1.small _ h)
+    rw (added_next _ _ _ v.e h v.invariant.2) (c.requires.1.small _ h)
 
 pub loop-e-init : goal.loop-e-init
-loop-e-init c = (refl, omega arith, refl, added_none _ _ _)
+loop-e-init c = (omega arith, refl, added_none _ _ _)
 
 pub overflow_mul-patterns : goal.overflow_mul-patterns
 overflow_mul-patterns c = omega (arith, room ((goal.at.overflow_mul-patterns c).In-loop-e))
@@ -30,13 +30,13 @@ overflow_add-patterns c = omega (arith, room ((goal.at.overflow_add-patterns c).
 pub loop-e-preserved : goal.loop-e-preserved
 loop-e-preserved c =
     let v = c.loop-e in
-    let h : v.e < length c.args.patterns.now = omega (arith, c.loop-e-test.true, v.invariant.0) in
-    let fits : SFits w16 (get_or c.args.column.now v.e (pos 0)) = sfits_of c.above-arg-1.given in
+    let h : v.e < length c.args.patterns.now = omega arith in
+    let fits : SFits w16 (get_or c.args.column.now v.e (pos 0)) = search rules in
     let digit = rw (to_z-of_z fits) at c.above.ensures.0 in
-    (search rules, omega arith, search rules, added-turn _ _ _ v.e c.above.result h v.invariant.3 digit)
+    (omega arith, search rules, added-turn _ _ _ v.e c.above.result h v.invariant.2 digit)
 
 pub returns : goal.returns
 returns c =
     let v = c.loop-e in
     let all : v.e ≡ length c.args.patterns.now = omega arith in
-    rw (to_z-of_z c.ranges.bound) at (added-all _ _ _ v.e all v.invariant.3)
+    rw (to_z-of_z c.ranges.bound) at (added-all _ _ _ v.e all v.invariant.2)

@@ -1,29 +1,35 @@
--- By whether the plan meets the bound.
-use mathlib.Core.Bool.{Bool}
-use mathlib.Core.Path.{◌≡◌, sym, ap, ◌∙◌}
-use Prim.Native.Nat.{ℕ, ◌≤◌, ◌<◌}
-use native.Mathlib.Omega.{arith}
-use borrow.Author.Tests.{le-leb, lt-leb}
-use lib.Dec.{leb}
-use Rattle.index_lookup.specs.Search.{key_meets, next-by}
+-- `index_lookup::cheapest::next_best` meets its contract, by whether plan r meets the bound, and then by the sums.
+use Rattle.std.proofs.Common.{rules, ◌∙◌, arith}
+use Rattle.index_lookup.specs.Search.{next-better, next-first, next-keeps, next-misses, plan_in}
 use Rattle.index_lookup.proofs.cheapest.next_best.Goals as goal
-use Rattle.index_lookup.proofs.cheapest.next_best.Goals.{After-y1_in}
 
--- what the test says of the plan
-asked : (c : After-y1_in) {b : Bool} → leb c.y1_in.result c.args.bound ≡ b
-    → let a = c.args in key_meets a.keys.now a.bound a.r ≡ b
-asked c e = ap (λ (y : ℕ). leb y c.args.bound) (sym c.y1_in.ensures) ∙ e
+pub returns-then-sum_in : goal.returns-then-sum_in
+unfolding plan_in
+returns-then-sum_in c =
+    let a = c.args in (
+      rw c.in-Some.is (next-keeps a.keys.now a.bound c.in-Some.before a.r (omega (arith, c.if-y1_in-bound.true, c.y1_in.ensures))
+          (omega (arith, c.if-sum_in.true, c.sum_in.ensures, c.sum_in-in-Some.ensures))),
+      λ x q. c.requires.0 x (c.in-Some.is ∙ q),
+    )
 
-pub returns-then-y1_in-bound : goal.returns-then-y1_in-bound
-returns-then-y1_in-bound c =
-    let y = c.y1_in.result in
-    let bound = c.args.bound in
-    let less : y ≤ bound = omega (arith, c.if-y1_in-bound.true) in
-    c.cheaper.ensures ∙ next-by _ _ _ _ (asked ((goal.at.returns-then-y1_in-bound c).After-y1_in) (le-leb y bound less))
+pub returns-else-sum_in : goal.returns-else-sum_in
+unfolding plan_in
+returns-else-sum_in c =
+    let a = c.args in (
+      rw c.in-Some.is (next-better a.keys.now a.bound c.in-Some.before a.r (omega (arith, c.if-y1_in-bound.true, c.y1_in.ensures))
+          (omega (arith, c.if-sum_in.false, c.sum_in.ensures, c.sum_in-in-Some.ensures))),
+      search rules,
+    )
+
+pub returns-in_default : goal.returns-in_default
+unfolding plan_in
+returns-in_default c =
+    let a = c.args in (
+      rw c.in_default.is (next-first a.keys.now a.bound a.r (omega (arith, c.if-y1_in-bound.true, c.y1_in.ensures))),
+      search rules,
+    )
 
 pub returns : goal.returns
 returns c =
-    let y = c.y1_in.result in
-    let bound = c.args.bound in
-    let more : bound < y = omega (arith, c.if-y1_in-bound.false) in
-    next-by _ _ _ _ (asked ((goal.at.returns c).After-y1_in) (lt-leb y bound more))
+    let a = c.args in
+    (next-misses a.keys.now a.bound (plan_in a.best) a.r (omega (arith, c.if-y1_in-bound.false, c.y1_in.ensures)), c.requires.0)

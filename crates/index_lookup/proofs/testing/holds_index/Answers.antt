@@ -12,7 +12,7 @@ returns-then-all_below c =
     let a = c.args in
     holds_by a.keys.now a.index.now (sym c.all_below.ensures ∙ c.if-all_below.true) c.rises.ensures
 
-pub returns : goal.returns
-returns c =
+pub returns-else-all_below : goal.returns-else-all_below
+returns-else-all_below c =
     let a = c.args in
-    holds_not a.keys.now a.index.now (sym c.all_below.ensures ∙ c.if-all_below.false)
+    c.if-all_below.false ∙ holds_not a.keys.now a.index.now (sym c.all_below.ensures ∙ c.if-all_below.false)

@@ -1,22 +1,14 @@
-use mathlib.Core.Path.{refl, sym, ◌∙◌}
-use mathlib.Core.List.{[]}
-use native.Mathlib.Omega.{arith}
-use lib.ListN.{length-set}
-use Rattle.marking.specs.Paint.{paint, sweep-turn, sweep-end}
+-- `marking::mark::mark_row` meets its contract.
+use Rattle.std.proofs.Common.{ℕ, ◌+◌, ◌-◌, ◌≡◌, Bool, true, List, arith, length, length-drop, length-take-le, take, drop, replicate, ap, ap₂, ◌∙◌}
+use borrow.Rule.Slice.PartMut.{put_mid}
+use Rattle.marking.specs.Paint.{row-filled}
 use Rattle.marking.proofs.mark.mark_row.Goals as goal
-
-pub loop-left-init : goal.loop-left-init
-loop-left-init c = (refl, omega arith, refl)
-
-pub loop-left-preserved : goal.loop-left-preserved
-loop-left-preserved c =
-    let l = c.loop-left in (
-      simp length-set (omega arith),
-      simp length-set (omega arith),
-      sym (sweep-turn (paint []) 1 l.left l.at l.marks c.loop-left-test.true) ∙ l.invariant.2,
-    )
 
 pub returns : goal.returns
 returns c =
-    let l = c.loop-left in
-    sym (sweep-end (paint []) 1 l.left l.at l.marks (omega arith)) ∙ l.invariant.2
+    let a = c.args in
+    let width : a.start + a.n - a.start ≡ a.n = omega arith in
+    let size = length-take-le a.n (drop a.start a.marks.now) (omega (arith, length-drop a.start a.marks.now, c.requires)) in
+    ap₂ (λ (k : ℕ) (l : List Bool). put_mid a.start k a.marks.now l) width
+    (c.fill.ensures.after (λ y e. e) ∙ ap (λ (k : ℕ). replicate k true) (ap (λ (k : ℕ). length (take k (drop a.start a.marks.now))) width ∙ size))
+    ∙ row-filled a.n a.start a.marks.now c.requires

@@ -29,17 +29,5 @@ bounds-list-9 c = omega (arith, head ((goal.at.bounds-list-9 c).Start))
 pub bounds-list-8 : goal.bounds-list-8
 bounds-list-8 c = omega (arith, head ((goal.at.bounds-list-8 c).Start))
 
-pub overflow_cast-list : goal.overflow_cast-list
-overflow_cast-list c = omega (arith, c.type_inv.list 8)
-
-pub plan_size-requires : goal.plan_size-requires
-plan_size-requires c = (c.plan_slots.ensures.1, omega (arith, c.type_inv.list 8))
-
-pub overflow_mul-result : goal.overflow_mul-result
-overflow_mul-result c = omega (arith, inside ((goal.at.overflow_mul-result c).After-plan_size), c.well_formed)
-
-pub overflow_add-result : goal.overflow_add-result
-overflow_add-result c = omega (arith, inside ((goal.at.overflow_add-result c).After-plan_size), c.well_formed)
-
 pub returns : goal.returns
 returns c = let i = inside ((goal.at.returns c).After-plan_size) in (omega arith, omega arith)

@@ -2,7 +2,6 @@
 use mathlib.Core.Path.{◌≡◌, sym, ap, ap₂, ◌∙◌}
 use mathlib.Core.List.{List, ◌++◌, append_assoc}
 use Prim.Native.Nat.{ℕ, ◌+◌, ◌*◌, ◌-◌}
-use native.Mathlib.Omega.{arith}
 use lib.ListN.{length, take, drop, replicate}
 use lib.Seq.{take-append-add}
 use Rattle.network.specs.PlanList.{head_bytes, head_size, plan_size, plan_slots}
@@ -18,15 +17,6 @@ plans-size : (c : After-plan_size)
 plans-size c =
     let a = c.args in
     ap (λ (k : ℕ). a.count * k) (c.plan_size.ensures ∙ ap (λ (slots : ℕ). plan_size slots a.t) c.plan_slots.ensures.0)
-
-pub overflow_mul-count : goal.overflow_mul-count
-overflow_mul-count c = omega (arith, plans-size ((goal.at.overflow_mul-count c).After-plan_size), c.requires, c.well_formed)
-
-pub overflow_add-count : goal.overflow_add-count
-overflow_add-count c = omega (arith, plans-size ((goal.at.overflow_add-count c).After-plan_size), c.requires, c.well_formed)
-
-pub clear_from-requires : goal.clear_from-requires
-clear_from-requires c = omega (arith, plans-size ((goal.at.clear_from-requires c).After-plan_size), c.requires, c.write_head.auto.out)
 
 pub returns : goal.returns
 unfolding overwrite

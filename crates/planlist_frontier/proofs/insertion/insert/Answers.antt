@@ -18,21 +18,17 @@ use Rattle.planlist_frontier.specs.Pruned.{pruned_level}
 use Rattle.network.specs.declared.Costs.{Costs}
 use Rattle.planlist_frontier.specs.Taken.{Insertable}
 use Rattle.planlist_frontier.proofs.insertion.insert.Goals as goal
-
--- the place that is found is that among the stored records
-placed : (slots t count size front : ℕ) (v : Costs) (plans : List ℕ) → size ≡ plan_size slots t → front ≡ free_place slots v (blocks size count plans)
-    → front ≡ free_place slots v (plan_records slots t count plans)
-placed slots t count size front v plans z e = e ∙ ap (λ (z : ℕ). free_place slots v (blocks z count plans)) z
+use Rattle.planlist_frontier.proofs.insertion.insert.Goals.{After-plan_size-size, In-Some}
 
 -- no stored plan is at most it, and the place is its place in the order
 free : (slots t count front : ℕ) (v : Costs) (plans : List ℕ) → Insertable slots v t count plans
-    → front ≡ free_place slots v (plan_records slots t count plans) → front ≤ count
+    → free_place slots v (plan_records slots t count plans) ≡ front → front ≤ count
     → let bs = plan_records slots t count plans in (covered_by slots v bs ≡ false) × (front ≡ place_of slots v bs)
 free slots t count front v plans h e few =
     let bs = plan_records slots t count plans in
     let counted = length-blocks (plan_size slots t) count plans in
     let r = free-place slots v bs h.rise h.level (omega (arith, counted)) in
-    (r.0, e ∙ r.1)
+    (r.0, sym e ∙ r.1)
 
 -- where it starts, and the records from there on and one more have room
 room : (slots t count size front : ℕ) (v : Costs) (plans : List ℕ) → Insertable slots v t count plans → size ≡ plan_size slots t → front ≤ count
@@ -40,14 +36,20 @@ room : (slots t count size front : ℕ) (v : Costs) (plans : List ℕ) → Inser
 room slots t count size front v plans h z few =
     (ap (λ (z : ℕ). front * z) z, room-behind front count (plan_size slots t) h.room few)
 
-pub free_place-front-requires : goal.free_place-front-requires
-free_place-front-requires c =
+-- the records that are searched are the stored ones
+stored-are : (c : After-plan_size-size)
+    → let a = c.args in
+    blocks c.plan_size-size.result a.count a.plans.now ≡ plan_records a.slots (length a.links.now) a.count a.plans.now
+stored-are c = let a = c.args in ap (λ (z : ℕ). blocks z a.count a.plans.now) c.plan_size-size.ensures
+
+pub free_place-requires : goal.free_place-requires
+free_place-requires c =
     let a = c.args in
     let z = c.plan_size-size in
     let size = plan_size a.slots (length a.links.now) in
     let stored = plan_records a.slots (length a.links.now) a.count a.plans.now in
     let product = ap (λ (z : ℕ). a.count * z) z.ensures in
-    let searched : blocks z.result a.count a.plans.now ≡ stored = ap (λ (z : ℕ). blocks z a.count a.plans.now) z.ensures in (
+    let searched = stored-are ((goal.at.free_place-requires c).After-plan_size-size) in (
       record {
         wide = omega (arith, z.ensures);
         room = omega (arith, product, room_for a.count a.count size c.requires.room (omega arith));
@@ -57,49 +59,55 @@ free_place-front-requires c =
       c.requires.writable.held,
     )
 
-pub returns-then-count-front : goal.returns-then-count-front
-returns-then-count-front c =
+pub returns-in-None : goal.returns-in-None
+returns-in-None c =
     let a = c.args in
     let t = length a.links.now in
     let stored = plan_records a.slots t a.count a.plans.now in
     let counted = length-blocks (plan_size a.slots t) a.count a.plans.now in
-    let e = placed a.slots t a.count c.plan_size-size.result c.free_place-front.result a.v a.plans.now c.plan_size-size.ensures c.free_place-front.ensures in
-    let covered = free-covered a.slots a.v stored c.requires.rise c.requires.level (omega (arith, counted, c.if-count-front.true)) in
+    let e = sym (ap (free_place a.slots a.v) (stored-are ((goal.at.returns-in-None c).After-plan_size-size))) ∙ c.in-None.ensures in
+    let covered = free-covered a.slots a.v stored c.requires.rise c.requires.level (omega (arith, counted, e)) in
     record {
+      writable = c.requires.writable;
       few = omega arith;
       records-are =
           sym (insert-covered a.slots (plan_bytes a.slots a.v a.links.now) a.v stored c.requires.rise
           (costs-encoded a.slots a.v a.links.now c.requires.writable) covered);
     }
 
-pub overflow_mul-start : goal.overflow_mul-start
-overflow_mul-start c =
+-- the place has room
+fits : (c : In-Some)
+    → let a = c.args in
+    let i = c.in-Some.front in
+    let size = plan_size a.slots (length a.links.now) in
+    (i * c.plan_size-size.result ≡ i * size) × (i * size + (a.count - i + 1) * size ≤ length a.plans.now)
+fits c =
     let a = c.args in
-    omega (arith, room a.slots (length a.links.now) a.count c.plan_size-size.result c.free_place-front.result a.v a.plans.now c.requires c.plan_size-size.ensures c.if-count-front.false, c.well_formed)
+    room a.slots (length a.links.now) a.count c.plan_size-size.result c.in-Some.front a.v a.plans.now c.requires c.plan_size-size.ensures c.in-Some.ensures.0
+
+pub overflow_mul-start : goal.overflow_mul-start
+overflow_mul-start c = omega (arith, fits ((goal.at.overflow_mul-start c).In-Some), c.well_formed)
 
 pub slice_bounds-put-start : goal.slice_bounds-put-start
-slice_bounds-put-start c =
-    let a = c.args in
-    omega (arith, room a.slots (length a.links.now) a.count c.plan_size-size.result c.free_place-front.result a.v a.plans.now c.requires c.plan_size-size.ensures c.if-count-front.false)
+slice_bounds-put-start c = omega (arith, fits ((goal.at.slice_bounds-put-start c).In-Some))
 
 pub put-requires : goal.put-requires
 put-requires c =
     let a = c.args in
-    let start = c.free_place-front.result * c.plan_size-size.result in
-    let r = room a.slots (length a.links.now) a.count c.plan_size-size.result c.free_place-front.result a.v a.plans.now c.requires c.plan_size-size.ensures c.if-count-front.false in (
-      omega (arith, r, ap length (tail-lent start a.plans.now), length-drop start a.plans.now),
+    let start = c.in-Some.front * c.plan_size-size.result in (
+      omega (arith, fits ((goal.at.put-requires c).In-Some), ap length (tail-lent start a.plans.now), length-drop start a.plans.now),
       c.requires.writable,
       c.requires.few-links,
     )
 
-pub returns : goal.returns
-returns c =
+pub returns-in-Some : goal.returns-in-Some
+returns-in-Some c =
     let a = c.args in
     let t = length a.links.now in
-    let i = c.free_place-front.result in
-    let few : i ≤ a.count = omega (arith, c.if-count-front.false) in
-    let fits = room a.slots t a.count c.plan_size-size.result i a.v a.plans.now c.requires c.plan_size-size.ensures few in
-    let e = placed a.slots t a.count c.plan_size-size.result i a.v a.plans.now c.plan_size-size.ensures c.free_place-front.ensures in
+    let i = c.in-Some.front in
+    let few = c.in-Some.ensures.0 in
+    let room = fits ((goal.at.returns-in-Some c).In-Some) in
+    let e = sym (ap (free_place a.slots a.v) (stored-are ((goal.at.returns-in-Some c).After-plan_size-size))) ∙ c.in-Some.ensures.1 in
     let is_free = free a.slots t a.count i a.v a.plans.now c.requires e few in
     let d = a.plans.now in
     let links = a.links.now in
@@ -109,13 +117,14 @@ returns c =
     let done = c.put in
     let last = done.new.plans in
     let start = i * c.plan_size-size.result in
-    let behind = ap (blocks size (a.count - i)) (tail-lent start d ∙ ap (λ (k : ℕ). drop k d) fits.0) ∙ sym (drop-blocks size i a.count d few) in
+    let behind = ap (blocks size (a.count - i)) (tail-lent start d ∙ ap (λ (k : ℕ). drop k d) room.0) ∙ sym (drop-blocks size i a.count d few) in
     let kept = ap (pruned_level a.slots a.v) behind ∙ pruned-behind a.slots a.v stored c.requires.rise c.requires.level i in
     record {
-      few = omega (arith, done.ensures.few);
+      writable = c.requires.writable;
+      few = omega (arith, done.ensures.few, few);
       records-are =
-          ap (blocks size (i + done.result)) (tail-back start d last ∙ ap (λ (k : ℕ). take k d ++ last) fits.0)
-          ∙ blocks-behind size i done.result d last (omega (arith, fits.1))
+          ap (blocks size (i + done.result)) (tail-back start d last ∙ ap (λ (k : ℕ). take k d ++ last) room.0)
+          ∙ blocks-behind size i done.result d last (omega (arith, room.1))
           ∙ ap₂ (λ (l r : List (List ℕ)). l ++ r) (sym (take-blocks size i a.count d few))
           (done.ensures.records-are ∙ ap (λ (l : List (List ℕ)). x ∷ l) kept)
           ∙ ap (λ (k : ℕ). take k stored ++ x ∷ pruned_by a.slots a.v (drop k stored)) is_free.1

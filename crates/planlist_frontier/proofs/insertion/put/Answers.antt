@@ -15,31 +15,6 @@ use Rattle.planlist_frontier.proofs.insertion.put.Goals as goal
 fits : (size by count room : ℕ) → by ≡ size → (count + 1) * size ≤ room → (count + 1) * by ≤ room
 fits size by count room e h = rw e h
 
-pub prune-kept-requires : goal.prune-kept-requires
-prune-kept-requires c =
-    let a = c.args in
-    let z = c.plan_size-size in (
-      omega (arith, z.ensures),
-      omega (arith, room_for a.count a.count z.result (fits _ z.result a.count (length a.plans.now) z.ensures c.requires.0) (omega arith)),
-      c.requires.1.held,
-    )
-
-pub overflow_mul-kept : goal.overflow_mul-kept
-overflow_mul-kept c =
-    let a = c.args in
-    let z = c.plan_size-size in
-    let p = c.prune-kept in
-    let room = room_for p.result a.count z.result (fits _ z.result a.count (length a.plans.now) z.ensures c.requires.0) p.ensures.0 in
-    omega (arith, room, p.auto.plans, c.well_formed)
-
-pub move_up-requires : goal.move_up-requires
-move_up-requires c =
-    let a = c.args in
-    let z = c.plan_size-size in
-    let p = c.prune-kept in
-    let room = room_for p.result a.count z.result (fits _ z.result a.count (length a.plans.now) z.ensures c.requires.0) p.ensures.0 in
-    (omega (arith, p.auto.plans), omega (arith, p.auto.plans))
-
 pub returns : goal.returns
 returns c =
     let a = c.args in
@@ -52,7 +27,7 @@ returns c =
     let x = plan_bytes a.slots a.v links in
     let kept = p.result in
     let out = c.write_plan.new.out in
-    let bytes = c.write_plan.ensures ∙ ap (λ (o : List ℕ). overwrite o 0 x) c.move_up.ensures in
+    let bytes = c.write_plan.ensures ∙ ap (λ (o : List ℕ). overwrite o 0 x) c.move_within.ensures in
     let long = length-plan a.slots a.v links (omega (arith, c.requires.1.few, c.requires.1.held)) ∙ sym z.ensures in
     record {
       few = omega (arith, p.ensures.0);

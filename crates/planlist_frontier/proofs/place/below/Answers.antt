@@ -34,15 +34,15 @@ sum_in-requires c =
     let l = c.loop-left in
     omega (arith, within l.low l.left c.args.count c.args.size (length c.args.plans.now) l.invariant.0 c.loop-left-test.true c.requires.room, c.requires.wide)
 
-pub loop-left-preserved-then-le32 : goal.loop-left-preserved-then-le32
-loop-left-preserved-then-le32 c =
+pub loop-left-preserved-then-sum-sum_in : goal.loop-left-preserved-then-sum-sum_in
+loop-left-preserved-then-sum-sum_in c =
     let a = c.args in
     let l = c.loop-left in
     let sum : ℤ = to_z w32 (of_z w32 a.sum) in
     let mid = l.low + l.left / 2 in
     let counted = length-blocks a.size a.count a.plans.now in
     let read = c.sum_in in
-    let test = sym (c.le32.ensures ∙ ap (le_z sum) (to_z-of_z w32 read.result (search rules) ∙ read.ensures)) ∙ c.if-le32.true in
+    let test = sym (ap (le_z sum) (to_z-of_z w32 read.result (search rules) ∙ read.ensures)) ∙ c.if-sum-sum_in.true in
     let compared = sum-tested sum a.size a.count a.plans.now mid c.requires.wide (omega arith) test in
     (omega arith, halved-front _ _ c.requires.sums l.invariant.1 mid (omega (arith, counted)) compared)
 
@@ -54,7 +54,7 @@ loop-left-preserved c =
     let mid = l.low + l.left / 2 in
     let counted = length-blocks a.size a.count a.plans.now in
     let read = c.sum_in in
-    let test = sym (c.le32.ensures ∙ ap (le_z sum) (to_z-of_z w32 read.result (search rules) ∙ read.ensures)) ∙ c.if-le32.false in
+    let test = sym (ap (le_z sum) (to_z-of_z w32 read.result (search rules) ∙ read.ensures)) ∙ c.if-sum-sum_in.false in
     let compared = sum-tested sum a.size a.count a.plans.now mid c.requires.wide (omega arith) test in
     (omega arith, halved-back _ _ c.requires.sums l.invariant.1 mid (omega (arith, counted)) (omega arith) compared)
 

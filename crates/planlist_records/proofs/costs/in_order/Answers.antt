@@ -1,23 +1,16 @@
--- `planlist_records::costs::in_order` meets its contract. The tests of the sums go through their bits.
-use Rattle.std.proofs.Common.{sym, ◌∙◌, SFits, rules}
-use Rattle.std.specs.Int.{w32}
-use Rattle.encoding.specs.Compared.{tested}
-use Rattle.planlist_records.specs.Orders.{in-order-by, in-order-lower}
+-- `planlist_records::costs::in_order` meets its contract.
+use Rattle.std.proofs.Common.{◌∷◌, SFits}
+use Rattle.std.proofs.lemmas.Int.{to_z-of_z}
+use borrow.Author.Rules.{rules}
+use mir.Syntax.{w32}
+use Rattle.planlist_records.specs.Orders.{by-slices, in_order}
 use Rattle.planlist_records.proofs.costs.in_order.Goals as goal
 
-pub returns-then-le32 : goal.returns-then-le32
-returns-then-le32 c =
-    let v = c.args.v in
-    let w = c.args.w in
-    let v_fits : SFits w32 v.sum = search rules in
-    let w_fits : SFits w32 w.sum = search rules in
-    let higher = sym (tested w32 w.sum v.sum w_fits v_fits c.le32.ensures) ∙ c.if-le32.true in
-    in-order-by v w higher (tested w32 v.sum w.sum v_fits w_fits c.le32-then-le32.ensures) c.all_in_order.ensures
-
 pub returns : goal.returns
+unfolding in_order
 returns c =
     let v = c.args.v in
     let w = c.args.w in
-    let v_fits : SFits w32 v.sum = search rules in
-    let w_fits : SFits w32 w.sum = search rules in
-    sym (in-order-lower v w (sym (tested w32 w.sum v.sum w_fits v_fits c.le32.ensures) ∙ c.if-le32.false))
+    let f : SFits w32 v.sum = search rules in
+    let g : SFits w32 w.sum = search rules in
+    by-slices (v.sum ∷ v.y) (w.sum ∷ w.y) c.le.result (simp to_z-of_z at c.le.ensures)

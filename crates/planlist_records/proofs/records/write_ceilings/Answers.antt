@@ -17,11 +17,6 @@ use Rattle.planlist_records.proofs.records.write_ceilings.Goals as goal
 pub loop-i-init : goal.loop-i-init
 loop-i-init c = let a = c.args in (written_start cost_bytes a.y.now a.at a.out.now, refl)
 
-pub write_i16-requires : goal.write_i16-requires
-write_i16-requires c =
-    let l = c.loop-i in
-    omega (arith, l.invariant.1, c.requires)
-
 pub loop-i-preserved : goal.loop-i-preserved
 loop-i-preserved c =
     let l = c.loop-i in
@@ -35,9 +30,6 @@ loop-i-preserved c =
           wrote,
       c.write_i16.auto.out ∙ l.invariant.1,
     )
-
-pub shape_of-out : goal.shape_of-out
-shape_of-out c = c.loop-i.invariant.1
 
 pub returns : goal.returns
 unfolding ceiling_bytes

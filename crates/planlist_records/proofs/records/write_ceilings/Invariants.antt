@@ -1,6 +1,5 @@
 -- `planlist_records::records::write_ceilings` meets its contract. The invariant: the first i costs are written.
 use mathlib.Core.Path.{◌≡◌}
-use Prim.Native.Nat.{◌-◌}
 use lib.ListN.{length}
 use Rattle.encoding.specs.Fields.{Written}
 use Rattle.planlist_records.specs.Records.{cost_bytes}
@@ -8,6 +7,3 @@ use Rattle.planlist_records.proofs.records.write_ceilings.Given as goal
 
 abbrev pub invariant-loop-i : goal.invariant-loop-i
 invariant-loop-i l = Written cost_bytes l.y l.at l.initial.out l.out l.i × (length l.out ≡ length l.initial.out)
-
-abbrev pub decreases-loop-i : goal.decreases-loop-i
-decreases-loop-i l = length l.y - l.i

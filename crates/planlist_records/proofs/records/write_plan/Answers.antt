@@ -1,9 +1,8 @@
 -- `planlist_records::records::write_plan` meets its contract. Writes one after the other are one write.
-use mathlib.Core.Path.{◌≡◌, sym, ap, ◌∙◌}
+use mathlib.Core.Path.{◌≡◌, ap, ◌∙◌}
 use Prim.Native.Nat.{◌+◌}
 use native.Mathlib.Omega.{arith}
 use lib.IntN.{ℤ}
-use lib.Seq.{length-take-le}
 use mir.Syntax.{w32}
 use mir.Val.{SFits}
 use mir.ValLaws.{to_z-of_z}
@@ -13,20 +12,6 @@ use Rattle.buffers.specs.Overwrite.{overwrite}
 use Rattle.planlist_records.specs.Records.{record-written}
 use Rattle.planlist_records.proofs.records.write_plan.Goals as goal
 use Rattle.planlist_records.proofs.records.write_plan.Goals.{Start}
-
-pub slice_bounds-write_ceilings-end : goal.slice_bounds-write_ceilings-end
-slice_bounds-write_ceilings-end c =
-    sym (length-take-le c.args.slots c.args.v.y (omega (arith, c.requires)))
-
-pub write_ceilings-requires : goal.write_ceilings-requires
-write_ceilings-requires c =
-    omega (
-      arith,
-      c.requires,
-      length-take-le c.args.slots c.args.v.y (omega (arith, c.requires)),
-      c.write_i32.auto.out,
-      c.copy_in.auto.out,
-    )
 
 -- the sum is a number of four bytes
 sum_fits : (s : Start) → SFits w32 s.args.v.sum

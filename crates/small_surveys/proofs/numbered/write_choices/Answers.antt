@@ -1,21 +1,19 @@
-use mathlib.Core.Path.{refl}
-use native.Mathlib.Omega.{arith}
-use borrow.Author.Rules.{rules}
-use Rattle.small_surveys.specs.Numbered.{entry-positive, write-end, write-start, write-turn}
+use Rattle.std.proofs.Common.{refl, rules, arith}
+use Rattle.small_surveys.specs.Numbered.{write-end, write-start, write-turn}
 use Rattle.small_surveys.proofs.numbered.write_choices.Goals as goal
 
-pub loop-i-init : goal.loop-i-init
-loop-i-init c = write-start _ _ _ c.requires.0 (search rules)
-
-pub nonzero_div-choice : goal.nonzero_div-choice
-nonzero_div-choice c = entry-positive _ _ _ _ c.loop-i-test.true (omega arith) (omega arith) (omega arith)
+pub loop-share-init : goal.loop-share-init
+loop-share-init c = write-start _ _ _ c.requires.0 (search rules)
 
 pub write_choice-requires : goal.write_choice-requires
-write_choice-requires c = (omega arith, refl, omega (arith, c.loop-i.invariant.room, c.loop-i-test.true))
+write_choice-requires c = (omega arith, refl, omega (arith, c.loop-share.invariant.room, c.loop-share-test.true))
 
-pub loop-i-preserved : goal.loop-i-preserved
-loop-i-preserved c =
-    write-turn _ _ _ c.loop-i.invariant c.loop-i-test.true c.write_choice.ensures (search rules)
+pub overflow_add-at : goal.overflow_add-at
+overflow_add-at c = omega (arith, c.loop-share.invariant.room, c.loop-share-test.true, c.loop-share.invariant.kept, c.well_formed)
+
+pub loop-share-preserved : goal.loop-share-preserved
+loop-share-preserved c =
+    write-turn _ _ _ c.loop-share.invariant c.loop-share-test.true c.write_choice.ensures (search rules)
 
 pub returns : goal.returns
-returns c = write-end _ _ _ c.loop-i.invariant (search rules)
+returns c = write-end _ _ _ c.loop-share.invariant (search rules)

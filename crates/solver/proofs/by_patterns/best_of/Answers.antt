@@ -1,17 +1,14 @@
--- The base from the normal links, the search that begins with it alone, and the flags of the tree that it ends with.
-use mathlib.Core.Path.{◌≡◌}
-use native.Mathlib.Omega.{arith}
+-- The base from the normal links, the search that stands on it, and the flags of the tree that it ends with.
+use Rattle.std.proofs.Common.{Some, None, refl, arith}
 use Rattle.trees_costs.specs.Added.{sum_of}
 use Rattle.order.specs.Lists.{filter}
-use Rattle.forest.specs.Groups.{apart}
-use Rattle.kruskal.specs.Base.{Based, kept}
+use Rattle.kruskal.specs.Base.{Based}
 use Rattle.exceptions.specs.Patterns.{normal}
-use Rattle.search_trials.specs.Search.{best_of}
-use Rattle.search.specs.Begun.{best_by}
-use Rattle.solver.specs.Assembled.{assembled, base_begun, base-distinct, base-in-order, base-trial, found-reports, none-reports}
+use Rattle.search_trials.specs.BaseAlone.{lead-flagged}
+use Rattle.solver.specs.Assembled.{assembled, base-distinct, base-in-order, base-ready, base-trial, found-reports, none-reports, rows-each}
 use Rattle.solver.specs.Assembled.{normals-in-order, normals-joinable}
 use Rattle.solver.proofs.by_patterns.best_of.Goals as goal
-use Rattle.solver.proofs.by_patterns.best_of.Goals.{After-put_base-kept, After-best_from-best}
+use Rattle.solver.proofs.by_patterns.best_of.Goals.{After-put_base-kept}
 
 pub put_normal-n-requires : goal.put_normal-n-requires
 put_normal-n-requires c =
@@ -25,61 +22,49 @@ put_base-kept-requires c =
     rw c.put_normal-n.ensures.links
     (p.0, v.walkable, normals-joinable _ p.3, omega (arith, v.walkable.few), omega (arith, p.3.held))
 
--- the links that are kept of the normal ones, and the leaders after each
+-- the links that are kept of the normal ones, and the groups after each
 based : (c : After-put_base-kept)
     → let i = c.args in
     Based i.ends.now i.sums.now (filter (normal i.patterns.now) i.order.now) i.goal c.put_base-kept.new.base
     c.put_base-kept.new.history c.put_base-kept.result
 based c = rw c.put_normal-n.ensures.links at c.put_base-kept.ensures
 
+pub invariant_of-basis : goal.invariant_of-basis
+invariant_of-basis c =
+    let p = c.requires in
+    let base = based ((goal.at.invariant_of-basis c).After-put_base-kept) in
+    let v = normals-in-order _ p.1 in
+    let j = normals-joinable _ p.3 in
+    record {
+      ready = base-ready p.0 v j base;
+      each = rows-each base;
+      sorted = rw base.links (base-in-order p.0 v j).sorted;
+      distinct = rw base.links (base-distinct p.0 v j);
+    }
+
 pub rest_of-requires : goal.rest_of-requires
 unfolding sum_of
 rest_of-requires c =
-    let p = c.requires in
     let base = based ((goal.at.rest_of-requires c).After-put_base-kept) in
-    rw base.links (
-      (base-in-order p.0 (normals-in-order _ p.1) (normals-joinable _ p.3)).walkable,
-      (base-trial base c.base_alone-alone.ensures).sum,
-    )
+    rw base.links base.total
 
-pub best_from-best-requires : goal.best_from-best-requires
-best_from-best-requires c =
+pub invariant_of-s : goal.invariant_of-s
+invariant_of-s c =
+    let base = based ((goal.at.invariant_of-s c).After-put_base-kept) in
+    record { patterned = c.requires.2; base_alone = rw base.links (base-trial base c.trial_of.ensures); beside = c.rest_of.ensures }
+
+pub best_from-requires : goal.best_from-requires
+best_from-requires c =
     let p = c.requires in
-    let base = based ((goal.at.best_from-best-requires c).After-put_base-kept) in
-    let alone = c.base_alone-alone.ensures in
-    rw base.links (
-      base_begun p.0 (normals-in-order _ p.1) (normals-joinable _ p.3) base alone,
-      p.2,
-      p.1,
-      p.3,
-      p.4,
-      base-trial base alone,
-      rw (base.links, c.slack_of.ensures) at c.rest_of.ensures,
-    )
+    (p.1, p.3, c.slack_of-largest.ensures, omega (arith, c.slack_of-largest.ensures, p.4), rw c.base_alone.ensures (lead-flagged _ _))
 
-pub put_flags-requires : goal.put_flags-requires
-put_flags-requires c =
-    let p = c.requires in
-    let distinct = base-distinct p.0 (normals-in-order _ p.1) (normals-joinable _ p.3) in
-    (p.5, rw (based ((goal.at.put_flags-requires c).After-put_base-kept)).links distinct, c.best_from-best.ensures.1)
+pub returns-in_err-best : goal.returns-in_err-best
+returns-in_err-best c =
+    let base = based ((goal.at.returns-in_err-best c).After-put_base-kept) in
+    rw c.from_residual.ensures (none-reports c.put_base-kept.new.base (assembled _ _ _ _ _ _ c.requires.2 None base c.base_alone.ensures (rw base.links at c.in_err-best.ensures.0)) _ refl)
 
--- the tree that the search ends with
-best : (c : After-best_from-best)
-    → let i = c.args in
-    Based i.ends.now i.sums.now (filter (normal i.patterns.now) i.order.now) i.goal c.put_base-kept.new.base
-    c.put_base-kept.new.history c.put_base-kept.result
-    → best_by (kept i.ends.now apart (filter (normal i.patterns.now) i.order.now)) c.best_from-best.result
-    ≡ best_of i.ends.now i.sums.now i.goal i.ks.now i.patterns.now i.order.now
-best c base =
-    let alone = c.base_alone-alone.ensures in
-    assembled _ _ _ _ _ _ c.requires.2 _ base alone (rw base.links at c.best_from-best.ensures.0)
-
-pub returns-then-best : goal.returns-then-best
-returns-then-best c =
-    let base = based ((goal.at.returns-then-best c).After-put_base-kept) in
-    found-reports _ _ (best ((goal.at.returns-then-best c).After-best_from-best) base) (rw base.links at c.put_flags.ensures)
-
-pub returns-else-best : goal.returns-else-best
-returns-else-best c =
-    let base = based ((goal.at.returns-else-best c).After-put_base-kept) in
-    none-reports _ _ (best ((goal.at.returns-else-best c).After-best_from-best) base) _ c.if-best.false
+pub returns : goal.returns
+returns c =
+    let base = based ((goal.at.returns c).After-put_base-kept) in
+    found-reports _ (assembled _ _ _ _ _ _ c.requires.2 (Some c.in_ok-best.best) base c.base_alone.ensures (rw base.links at c.in_ok-best.ensures.0)) refl
+    (rw base.links at c.put_flags.ensures)

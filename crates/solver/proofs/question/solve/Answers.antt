@@ -1,27 +1,22 @@
 -- The search leaves the best tree's links in the buffer; the answer is their costs.
-use mathlib.Core.Path.{sym}
-use native.Mathlib.Omega.{arith}
-use lib.Seq.{length-take-le}
+use Rattle.std.proofs.Common.{Err, ◌≡◌, ◌∙◌, rules}
 use Rattle.solver.specs.Question.{found_none, found-tree, front-answer, front-priceable}
 use Rattle.solver.proofs.question.solve.Goals as goal
 
-pub slice_bounds-costs_with-end-then-best : goal.slice_bounds-costs_with-end-then-best
-slice_bounds-costs_with-end-then-best c = sym (length-take-le _ _ (omega arith))
-
 pub costs_with-requires : goal.costs_with-requires
 costs_with-requires c =
-    let tells = c.best_links-best.ensures.0 in
-    let w = found-tree _ _ tells c.if-best.true in
-    front-priceable _ _ _ _ _ c.requires.0 w.0 w.1 _ c.best_links-best.ensures.1 (tells.total w.0 w.1)
+    let w = found-tree _ _ c.best_links.ensures.0 c.in_ok-sum.ensures.ok_part in
+    front-priceable _ _ _ _ _ c.args.net.plannable w.0 w.1 _ c.best_links.ensures.1 w.2
 
-pub returns-then-best : goal.returns-then-best
-returns-then-best c =
-    let tells = c.best_links-best.ensures.0 in
-    let w = found-tree _ _ tells c.if-best.true in (
-      front-answer _ _ _ _ _ c.requires.0 w.0 w.1 _ c.best_links-best.ensures.1 (tells.total w.0 w.1) c.costs_with.ensures,
-      c.best_links-best.ensures.1,
-    )
+pub returns-in_err-sum : goal.returns-in_err-sum
+returns-in_err-sum c =
+    let same : c.from_residual.result ≡ Err c.in_err-sum.field-0.0 = search rules in
+    let none = c.in_err-sum.ensures.ok_part in
+    let held = rw none at c.in_err-sum.ensures.value in
+    let is : c.in_err-sum.field-0.0 ≡ c.of.result = cc in
+    ((rw (is, c.of.ensures) at same) ∙ found_none _ _ c.best_links.ensures.0 _ none, c.best_links.ensures.1)
 
 pub returns : goal.returns
 returns c =
-    (found_none _ _ c.best_links-best.ensures.0 _ c.if-best.false, c.best_links-best.ensures.1)
+    let w = found-tree _ _ c.best_links.ensures.0 c.in_ok-sum.ensures.ok_part in
+    (front-answer _ _ _ _ _ c.args.net.plannable w.0 w.1 _ c.best_links.ensures.1 w.2 c.costs_with.ensures, c.best_links.ensures.1)

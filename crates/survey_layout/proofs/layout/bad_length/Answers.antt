@@ -3,10 +3,10 @@ use borrow.Author.Tests.{lt-ltb, le-ltb}
 use Rattle.network.specs.Refusals.{bad_length}
 use Rattle.survey_layout.proofs.layout.bad_length.Goals as goal
 
-pub returns-then-len-first : goal.returns-then-len-first
+pub returns-then-len-l : goal.returns-then-len-l
 unfolding bad_length
-returns-then-len-first c = rw (lt-ltb _ _ c.if-len-first.true)
+returns-then-len-l c = rw (lt-ltb _ _ c.if-len-l.true)
 
-pub returns : goal.returns
+pub returns-else-len-l : goal.returns-else-len-l
 unfolding bad_length
-returns c = rw (le-ltb _ _ c.if-len-first.false)
+returns-else-len-l c = rw (le-ltb _ _ c.if-len-l.false)

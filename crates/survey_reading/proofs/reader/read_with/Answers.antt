@@ -1,52 +1,64 @@
 -- Records that are not refused have the room that `decode` requires; what counting their positions found decides the last number.
-use native.Mathlib.Nat.{mul-le-mul}
-use Rattle.survey_reading.specs.Survey.{costs-fit, costs-size, countable, decodable, ends-fit, ends-size, read-counted, read-refused}
-use mathlib.Core.Path.{sym, ◌∙◌}
-use native.Mathlib.Omega.{arith}
+use Rattle.std.proofs.Common.{◌≡◌, ◌∙◌, sym, arith, rules, Err}
 use Rattle.network.specs.Accepted.{RecordsFine}
-use Rattle.network.proofs.Accepted.{records-fine}
+use Rattle.network.specs.Survey.{link_count, network_with}
+use Rattle.survey_decoding.specs.Decoded.{Decoded}
+use Rattle.survey_reading.specs.Survey.{costs-size, countable, ends-size, few-costs, read-decodable, read-decoded, read-fine, read-last, read-over, read-planned, read-refused}
 use Rattle.survey_reading.proofs.reader.read_with.Goals as goal
-use Rattle.survey_reading.proofs.reader.read_with.Goals.{In-Fine}
+use Rattle.survey_reading.proofs.reader.read_with.Goals.{In_ok-records, After-decode-shape}
 
--- the records are fine where the check found nothing
-fine : (c : In-Fine)
-    → RecordsFine c.args.s.now c.args.l
-fine c =
-    records-fine _ _ c.requires.0 (sym c.check_records-records.ensures ∙ c.in-Fine.is)
+-- the records are fine
+fine : (c : In_ok-records) → RecordsFine c.args.s.now c.args.l
+fine c = read-fine c.requires.0 c.in_ok-records.ensures
 
-pub overflow_sub-m : goal.overflow_sub-m
-overflow_sub-m c = omega (arith, (fine ((goal.at.overflow_sub-m c).In-Fine)).records)
+-- they were decoded
+decoded : (c : After-decode-shape) → Decoded (network_with c.args.l c.args.s.now (link_count c.args.l c.args.s.now)) c.decode-shape.result
+    c.decode-shape.new.ends c.decode-shape.new.sums c.decode-shape.new.costs
+decoded c = read-decoded c.in_ok-records.ensures c.decode-shape.ensures
+
+pub returns-in_err-records : goal.returns-in_err-records
+returns-in_err-records c =
+    let same : c.from_residual.result ≡ Err c.in_err-records.field-0.0 = search rules in
+    rw same (read-refused _ _ _ c.in_err-records.ensures)
 
 pub decode-shape-requires : goal.decode-shape-requires
-decode-shape-requires c = decodable (fine ((goal.at.decode-shape-requires c).In-Fine)) c.requires.1
+decode-shape-requires c = read-decodable (fine ((goal.at.decode-shape-requires c).In_ok-records)) c.in_ok-records.ensures c.requires.1
 
-pub overflow_mul-cost_count : goal.overflow_mul-cost_count
-overflow_mul-cost_count c =
-    let f = fine ((goal.at.overflow_mul-cost_count c).In-Fine) in
-    omega (arith, mul-le-mul (countable f c.decode-shape.ensures).ceilings f.yard.few-links)
+pub overflow_mul-ends : goal.overflow_mul-ends
+overflow_mul-ends c = omega (arith, (countable (fine ((goal.at.overflow_mul-ends c).In_ok-records)) (decoded ((goal.at.overflow_mul-ends c).After-decode-shape))).links)
 
-pub overflow_mul-m : goal.overflow_mul-m
-overflow_mul-m c = omega (arith, (fine ((goal.at.overflow_mul-m c).In-Fine)).yard.few-links)
+pub slice_bounds-ends-end : goal.slice_bounds-ends-end
+slice_bounds-ends-end c = sym (ends-size (fine ((goal.at.slice_bounds-ends-end c).In_ok-records)) (decoded ((goal.at.slice_bounds-ends-end c).After-decode-shape)))
 
-pub slice_bounds-too_many_positions-end : goal.slice_bounds-too_many_positions-end
-slice_bounds-too_many_positions-end c = ends-fit (fine ((goal.at.slice_bounds-too_many_positions-end c).In-Fine)) c.decode-shape.ensures
+pub overflow_mul-costs : goal.overflow_mul-costs
+overflow_mul-costs c = omega (arith, few-costs (fine ((goal.at.overflow_mul-costs c).In_ok-records)) (decoded ((goal.at.overflow_mul-costs c).After-decode-shape)))
 
-pub slice_bounds-too_many_positions-end-in-Fine : goal.slice_bounds-too_many_positions-end-in-Fine
-slice_bounds-too_many_positions-end-in-Fine c = sym (ends-size (fine ((goal.at.slice_bounds-too_many_positions-end-in-Fine c).In-Fine)) c.decode-shape.ensures)
+pub slice_bounds-costs-end : goal.slice_bounds-costs-end
+slice_bounds-costs-end c = sym (costs-size (fine ((goal.at.slice_bounds-costs-end c).In_ok-records)) (decoded ((goal.at.slice_bounds-costs-end c).After-decode-shape)))
 
-pub slice_bounds-too_many_positions-end-in-Fine-2 : goal.slice_bounds-too_many_positions-end-in-Fine-2
-slice_bounds-too_many_positions-end-in-Fine-2 c = costs-fit (fine ((goal.at.slice_bounds-too_many_positions-end-in-Fine-2 c).In-Fine)) c.decode-shape.ensures
+pub too_many_positions-requires : goal.too_many_positions-requires
+too_many_positions-requires c = countable (fine ((goal.at.too_many_positions-requires c).In_ok-records)) (decoded ((goal.at.too_many_positions-requires c).After-decode-shape))
 
-pub slice_bounds-too_many_positions-end-in-Fine-3 : goal.slice_bounds-too_many_positions-end-in-Fine-3
-slice_bounds-too_many_positions-end-in-Fine-3 c = sym (costs-size (fine ((goal.at.slice_bounds-too_many_positions-end-in-Fine-3 c).In-Fine)) c.decode-shape.ensures)
+pub returns-in_err-refuse_if : goal.returns-in_err-refuse_if
+returns-in_err-refuse_if c =
+    let same : c.from_residual-in_err-refuse_if.result ≡ Err c.in_err-refuse_if.field-0.0 = search rules in
+    rw same
+    (read-over (fine ((goal.at.returns-in_err-refuse_if c).In_ok-records)) (decoded ((goal.at.returns-in_err-refuse_if c).After-decode-shape)) c.in_ok-records.ensures.checked _
+    c.too_many_positions.ensures _ (sym c.refuse_if.ensures ∙ c.in_err-refuse_if.was))
 
-pub too_many_positions-too_many-requires : goal.too_many_positions-too_many-requires
-too_many_positions-too_many-requires c = countable (fine ((goal.at.too_many_positions-too_many-requires c).In-Fine)) c.decode-shape.ensures
+pub slice_bounds-result-end : goal.slice_bounds-result-end
+slice_bounds-result-end c =
+    let can = read-planned (fine ((goal.at.slice_bounds-result-end c).In_ok-records)) (decoded ((goal.at.slice_bounds-result-end c).After-decode-shape)) _ c.too_many_positions.ensures (sym c.refuse_if.ensures ∙ c.in_ok-refuse_if.was) in
+    sym can.fine.sum-count
 
-pub returns-in-Refused : goal.returns-in-Refused
-returns-in-Refused c = read-refused _ _ _ _ _ _ _ _ _ c.check_records-records.ensures c.in-Refused.is
+pub invariant_of-result : goal.invariant_of-result
+invariant_of-result c =
+    record { plannable = read-planned (fine ((goal.at.invariant_of-result c).In_ok-records)) (decoded ((goal.at.invariant_of-result c).After-decode-shape)) _ c.too_many_positions.ensures (sym c.refuse_if.ensures ∙ c.in_ok-refuse_if.was) }
 
-pub returns-in-Fine : goal.returns-in-Fine
-returns-in-Fine c =
-    let records = sym c.check_records-records.ensures ∙ c.in-Fine.is in
-    read-counted (fine ((goal.at.returns-in-Fine c).In-Fine)) c.decode-shape.ensures records _ c.too_many_positions-too_many.ensures _ c.refuse_if.ensures
+pub returns : goal.returns
+returns c =
+    let d = (decoded ((goal.at.returns c).After-decode-shape)) in
+    record {
+      checked = read-last (fine ((goal.at.returns c).In_ok-records)) d c.in_ok-records.ensures.checked _ c.too_many_positions.ensures (sym c.refuse_if.ensures ∙ c.in_ok-refuse_if.was);
+      network = d.network;
+    }

@@ -1,17 +1,15 @@
-use mathlib.Core.Path.{refl, sym, ◌∙◌}
-use Rattle.survey_rules.specs.Read.{read_found, read_none, read-turn}
+-- `survey_rules::link_records::absent_costs` meets its contract: the closure reads the cost by a ceiling.
+use Rattle.std.proofs.Common.{◌-◌, nat_eq, not, ◌∙◌, rules, tests, refl}
+use Rattle.std.proofs.lemmas.Iterator.{YieldsList-from_range}
+use Rattle.std.proofs.lemmas.Iterator.Search.{any_from_yields_List}
+use Rattle.network.specs.Survey.{cost_bits_in}
+use Rattle.survey_rules.specs.Read.{read-any}
 use Rattle.survey_rules.proofs.link_records.absent_costs.Goals as goal
 
-pub loop-j-init : goal.loop-j-init
-loop-j-init c = refl
-
-pub returns-then-read_u16-ne0 : goal.returns-then-read_u16-ne0
-returns-then-read_u16-ne0 c =
-    sym (c.loop-j.invariant ∙ read_found _ _ _ _ c.loop-j-test.true c.read_u16.ensures c.if-read_u16-ne0.true)
-
-pub loop-j-preserved : goal.loop-j-preserved
-loop-j-preserved c =
-    c.loop-j.invariant ∙ read-turn _ _ _ _ c.loop-j-test.true c.read_u16.ensures c.if-read_u16-ne0.false
-
 pub returns : goal.returns
-returns c = sym (c.loop-j.invariant ∙ read_none _ _ _ _ c.loop-j-test.false)
+returns c =
+    let a = c.args in
+    let r = a.link in
+    any_from_yields_List (λ j. not (nat_eq (cost_bits_in r.bytes.now r.at j) 0)) _ _ c.any.result c.any.ensures.ran
+    (YieldsList-from_range a.p r.slots (r.slots - a.p) refl refl) (λ x b q k. search (rules, tests))
+    ∙ read-any r.slots r.bytes.now r.at a.p

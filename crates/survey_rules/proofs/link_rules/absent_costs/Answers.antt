@@ -1,16 +1,13 @@
-use mathlib.Core.Path.{refl, sym, ◌∙◌}
-use native.Mathlib.Omega.{arith}
-use Rattle.survey_rules.specs.Absent.{absent-found, absent_none, absent-turn}
+-- `survey_rules::link_rules::absent_costs` meets its contract: the closure tests whether a cost is not 0.
+use Rattle.std.proofs.Common.{nat_eq, not, ◌∙◌, rules, tests}
+use Rattle.std.proofs.lemmas.Iterator.{YieldsList-from_slice}
+use Rattle.std.proofs.lemmas.Iterator.Adapters.{YieldsList-from_skip}
+use Rattle.std.proofs.lemmas.Iterator.Search.{any_from_yields_List}
+use Rattle.survey_rules.specs.Absent.{absent-any}
 use Rattle.survey_rules.proofs.link_rules.absent_costs.Goals as goal
 
-pub loop-j-init : goal.loop-j-init
-loop-j-init c = (refl, refl)
-
-pub returns-then-bits-j-ne0 : goal.returns-then-bits-j-ne0
-returns-then-bits-j-ne0 c = let v = c.loop-j in sym (v.invariant.1 ∙ absent-found _ _ (omega arith) c.if-bits-j-ne0.true)
-
-pub loop-j-preserved : goal.loop-j-preserved
-loop-j-preserved c = let v = c.loop-j in (v.invariant.0, v.invariant.1 ∙ absent-turn _ _ (omega arith) c.if-bits-j-ne0.false)
-
 pub returns : goal.returns
-returns c = sym (c.loop-j.invariant.1 ∙ absent_none _ _ (omega arith))
+returns c =
+    any_from_yields_List (λ b. not (nat_eq b 0)) _ _ c.any.result c.any.ensures.ran
+    (YieldsList-from_skip c.args.p (YieldsList-from_slice c.args.bits.now cc) (cc)) (λ x b q k. search (rules, tests))
+    ∙ absent-any c.args.p c.args.bits.now

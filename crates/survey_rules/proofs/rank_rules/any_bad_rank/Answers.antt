@@ -1,20 +1,15 @@
-use Prim.Native.Nat.{◌≤◌}
-use mathlib.Core.Path.{refl}
-use native.Mathlib.Omega.{arith}
-use lib.ListN.{length}
-use Rattle.survey_rules.specs.Tried.{bad-end, bad-turn, bad_from}
+-- `survey_rules::rank_rules::any_bad_rank` meets its contract: the closure tests each rank beside its place.
+use Rattle.std.proofs.Common.{◌∙◌, rules, tests}
+use Rattle.std.proofs.lemmas.Iterator.{YieldsList-from_slice}
+use Rattle.std.proofs.lemmas.Iterator.Consumers.{YieldsList-from_enumerate}
+use Rattle.std.proofs.lemmas.Iterator.Search.{any_from_yields_List}
+use Rattle.network.specs.Refusals.{bad_rank}
+use Rattle.survey_rules.specs.Tried.{tried-any}
 use Rattle.survey_rules.proofs.rank_rules.any_bad_rank.Goals as goal
-
-pub loop-j-init : goal.loop-j-init
-unfolding bad_from
-loop-j-init c = (refl, refl)
-
-pub loop-j-preserved : goal.loop-j-preserved
-loop-j-preserved c =
-    let turn = c.loop-j in
-    (refl, bad-turn _ _ _ _ _ _ _ (omega arith) turn.invariant.1 c.bad_rank-bad.ensures)
 
 pub returns : goal.returns
 returns c =
-    let all : length c.args.ks.now ≤ c.loop-j.j = omega arith in
-    bad-end _ _ _ _ _ _ all c.loop-j.invariant.1
+    let a = c.args in
+    any_from_yields_List (λ q. bad_rank a.n a.p q.0 q.1) _ _ c.any.result c.any.ensures.ran
+    (YieldsList-from_enumerate (YieldsList-from_slice a.ks.now cc) (cc)) (λ x b q k. search (rules, tests))
+    ∙ tried-any a.n a.p 0 a.ks.now

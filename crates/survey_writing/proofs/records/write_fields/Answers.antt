@@ -8,5 +8,5 @@ use Rattle.survey_writing.proofs.records.write_fields.Goals as goal
 pub returns : goal.returns
 returns c =
     let two : length c.args.mark ≡ 2 = search rules in
-    fields-written c.args.mark c.args.out.now c.args.y two c.copy_in.ensures c.write_u8.ensures c.write_u8-2.ensures
+    fields-written c.args.mark c.args.out.now c.args.yard two c.copy_in.ensures c.write_u8.ensures c.write_u8-2.ensures
     c.write_u8-3.ensures c.write_u8-4.ensures

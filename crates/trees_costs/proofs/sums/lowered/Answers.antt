@@ -34,11 +34,5 @@ fits : (c : Start) → SFits w32 (lowered_sum c.args.raised c.args.count)
 unfolding lowered_sum
 fits c = record { sfits = sub_small c.args.raised (c.args.count * raise) (2 ^ hbits w32) (low c).0 (low c).1 }
 
-pub overflow_mul-result : goal.overflow_mul-result
-overflow_mul-result c = rw (product ((goal.at.overflow_mul-result c).Start)) (record { sfits = (low ((goal.at.overflow_mul-result c).Start)).1 })
-
-pub overflow_sub-result : goal.overflow_sub-result
-overflow_sub-result c = rw (difference ((goal.at.overflow_sub-result c).Start)) (fits ((goal.at.overflow_sub-result c).Start))
-
 pub returns : goal.returns
 returns c = rw (difference ((goal.at.returns c).Start)) (to_z-of_z w32 (lowered_sum c.args.raised c.args.count) (fits ((goal.at.returns c).Start)))

@@ -1,47 +1,28 @@
 -- By what the stations and the forest ensure.
-use Prim.Native.Nat.{◌<◌}
-use mathlib.Core.Path.{◌∙◌}
-use native.Mathlib.Omega.{arith}
-use borrow.Author.Rules.{rules}
-use Rattle.forest.specs.Groups.{leaders-joined, leaders-lead, leaders-test}
-use Rattle.network.specs.Capacities.{stations_held}
-use Rattle.trees_drawn.specs.Drawing.{drawing}
+use mathlib.Core.Path.{◌≡◌, sym, ◌∙◌}
+use Rattle.std.specs.Prelude.{◌&&◌, not, eqb, leb, ltb}
+use Rattle.forest.specs.Groups.{leaders-joined, leaders-test}
+use Rattle.trees_drawn.specs.Drawing.{drawing-broken, drawing-kept, keeps, with_link}
 use Rattle.trees_drawn.proofs.drawing.draw.Goals as goal
-use Rattle.trees_drawn.proofs.drawing.draw.Goals.{After-station_at-b}
+use Rattle.trees_drawn.proofs.drawing.draw.Goals.{After-find-old}
 
--- both ends are stations
-stations : (c : After-station_at-b) → (c.station_at-a.result < stations_held) × (c.station_at-b.result < stations_held)
-stations c =
-    let within = c.requires.0.within _ in
-    rw (c.station_at-a.ensures, c.station_at-b.ensures) within
-
-pub joins_working-usable-requires : goal.joins_working-usable-requires
-joins_working-usable-requires c = let both = stations ((goal.at.joins_working-usable-requires c).After-station_at-b) in (omega arith, omega arith)
-
-pub find-new-requires : goal.find-new-requires
-find-new-requires c = (stations ((goal.at.find-new-requires c).After-station_at-b)).0
-
-pub find-old-requires : goal.find-old-requires
-find-old-requires c = (stations ((goal.at.find-old-requires c).After-station_at-b)).1
-
-pub join-requires : goal.join-requires
-join-requires c =
-    let both = leaders-lead c.args.drawn.groups _ _ c.find-new.ensures c.find-old.ensures c.requires.1 in
-    search rules
-
-pub returns : goal.returns
-unfolding drawing
-returns c =
+-- what is tested is whether the link keeps to the rules
+tested : (c : After-find-old)
+    → ((leb c.args.drawn.low c.args.link && ltb c.args.link c.args.m) && c.joins_working-usable.result) && not (eqb c.find-new.result c.find-old.result)
+    ≡ keeps c.args.rest c.args.ends.now c.args.m c.args.drawn c.args.link
+tested c =
     let f = c.args.drawn.groups in
     let a = c.station_at-a in
     let b = c.station_at-b in
-    let new = c.find-new.ensures in
-    let old = c.find-old.ensures in
-    let joins = c.join.ensures ∙ leaders-joined f a.result b.result new old c.requires.1 in
-    rw (
-      joins,
-      leaders-test f a.result b.result new old,
-      c.joins_working-usable.ensures,
-      b.ensures,
-      a.ensures,
-    )
+    rw (leaders-test f a.result b.result c.find-new.ensures c.find-old.ensures, c.joins_working-usable.ensures, b.ensures, a.ensures)
+
+pub returns-then-keeps : goal.returns-then-keeps
+unfolding with_link
+returns-then-keeps c =
+    let a = c.station_at-a in
+    let b = c.station_at-b in
+    let joins = c.join.ensures ∙ leaders-joined c.args.drawn.groups a.result b.result c.find-new.ensures c.find-old.ensures c.requires.1 in
+    drawing-kept _ _ _ _ _ (sym (tested ((goal.at.returns-then-keeps c).After-find-old)) ∙ c.if-keeps.true) (rw (joins, b.ensures, a.ensures))
+
+pub returns-else-keeps : goal.returns-else-keeps
+returns-else-keeps c = drawing-broken _ _ _ _ _ (sym (tested ((goal.at.returns-else-keeps c).After-find-old)) ∙ c.if-keeps.false)

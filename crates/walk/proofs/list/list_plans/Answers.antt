@@ -1,107 +1,70 @@
 -- `walk::list::list_plans` meets its contract: the network and the grid of its ceilings are what the walk sets out with.
-use mathlib.Core.Path.{◌≡◌, refl, sym, ap, ◌∙◌}
-use Prim.Native.Nat.{ℕ, ◌+◌, ◌*◌, ◌≤◌}
-use native.Mathlib.Nat.{mul-le-mul}
+use mathlib.Core.Path.{◌≡◌, sym, ap, ◌∙◌}
+use Prim.Native.Nat.{ℕ, ◌+◌, ◌*◌}
 use native.Mathlib.Omega.{arith}
-use lib.IntN.{pos}
-use lib.ListN.{length, replicate, take}
-use lib.Seq.{length-take-le}
-use Rattle.network.specs.Capacities.{ceilings_held, links_held}
+use lib.ListN.{replicate}
 use Rattle.network.specs.PlanList.{buffer_need, head_size, plan_size, plan_slots}
-use Rattle.network.specs.Shaped.{net_of}
 use Rattle.network.specs.Walk.{position_count}
-use Rattle.stations.specs.Stations.{plannable-stations}
-use Rattle.walk_visit.specs.Visit.{Ready, griddable, ready-grid}
-use Rattle.walk.specs.Lent.{lent_back}
-use Rattle.walk.specs.Call.{none-held, room-reply, short-reply, walk-held}
-use Rattle.walk.specs.Concluded.{concluded, outcome-room}
-use lib.IntN.{ℤ}
-use mathlib.Core.List.{List}
-use mathlib.Core.Path.{subst⁻¹}
-use Rattle.network.specs.Shaped.{Plannable}
-use Rattle.network.specs.declared.Shape.{Shape}
+use Rattle.network.specs.declared.net.Net.{Net}
+use Rattle.marking.specs.Gridded.{network}
+use Rattle.network.specs.Calls.{status}
+use Rattle.network.specs.Checked.{number_of}
+use Rattle.network.specs.Network.{Network}
+use Rattle.network.specs.declared.refusals.Refusal.{Refusal}
+use Rattle.std.specs.Prelude.{Err}
+use Rattle.planlist_frontier.specs.Finished.{finished}
+use Rattle.walk.specs.Call.{CostsHeld, ended-reply, none-held, short-reply, spent-reply, walk-held}
 use Rattle.walk.proofs.list.list_plans.Goals as goal
-
--- the array of values has room for as many as there are costs
-few : {shape : Shape} {ends sums : List ℕ} {costs : List ℤ} → Plannable shape ends sums costs → length costs ≤ ceilings_held * links_held
-few can = let fine = can.fine in omega (arith, fine.cost-count, mul-le-mul fine.few-ceilings fine.few-links)
-
-abbrev zeros : List ℤ
-zeros = replicate (ceilings_held * links_held) (pos 0)
-
-values-size : {shape : Shape} {ends sums : List ℕ} {costs : List ℤ} → Plannable shape ends sums costs → length (take (length costs) zeros) ≡ length costs
-values-size {shape} {ends} {sums} {costs} can = length-take-le (length costs) zeros (few can)
+use Rattle.walk.proofs.list.list_plans.Goals.{After-need}
 
 -- what was computed is what the list buffer needs
-need-known : {shape : Shape} {ends sums : List ℕ} {costs : List ℤ} → Plannable shape ends sums costs → (total need : ℕ)
-    → total ≡ position_count (net_of shape ends sums costs) → need ≡ head_size + total * plan_size (plan_slots shape.p) shape.t
-    → need ≡ buffer_need (net_of shape ends sums costs)
-need-known {shape} {ends} {sums} {costs} can total need known e =
-    e ∙ ap (λ (k : ℕ). head_size + k * plan_size (plan_slots shape.p) shape.t) known
-    ∙ ap (λ (t : ℕ). head_size + position_count (net_of shape ends sums costs) * plan_size (plan_slots shape.p) t) can.tree
+need-known : (net : Net) (total need : ℕ) → total ≡ position_count (network net) → need ≡ head_size + total * plan_size (plan_slots net.shape.p) net.shape.t
+    → need ≡ buffer_need (network net)
+need-known net total need known e =
+    e ∙ ap (λ (k : ℕ). head_size + k * plan_size (plan_slots net.shape.p) net.shape.t) known
+    ∙ ap (λ (t : ℕ). head_size + position_count (network net) * plan_size (plan_slots net.shape.p) t) net.plannable.tree
 
-pub slice_bounds-values-end : goal.slice_bounds-values-end
-slice_bounds-values-end c = few c.requires
+need-is : (c : After-need) → c.need.result ≡ buffer_need (network c.args.net)
+need-is c = need-known c.args.net c.grid_of-grid.result.total c.need.result c.grid_of-grid.ensures.total c.need.ensures
 
-pub slice_bounds-grid_of-end : goal.slice_bounds-grid_of-end
-slice_bounds-grid_of-end c = sym (values-size c.requires)
-
-pub grid_of-grid-requires : goal.grid_of-grid-requires
-grid_of-grid-requires c = (plannable-stations c.requires, griddable c.requires (values-size c.requires))
-
-pub need-requires : goal.need-requires
-need-requires c =
-    let ready = ready-grid c.requires c.grid_of-grid.ensures in
-    omega (arith, ready.gridded.total, c.requires.fine.few-positions)
+-- a refusal by a rule shows no plans
+refused-held : (net : Network) (e r : Refusal) → e ≡ r → (number_of r.rule ≡ 0 → ⊥) → CostsHeld net (status (Err e))
+unfolding status
+refused-held net e r is apart = none-held net (λ z. apart (sym (ap (λ (q : Refusal). number_of q.rule) is) ∙ z))
 
 pub returns-then-out-need : goal.returns-then-out-need
 returns-then-out-need c =
     let a = c.args in
-    let net = net_of a.shape a.ends.now a.sums.now a.costs.now in
-    let ready = ready-grid c.requires c.grid_of-grid.ensures in
-    let e = need-known c.requires c.grid_of-grid.result.total c.need.result ready.gridded.total c.need.ensures in
-    let short = short-reply net a.allowance a.out.now (omega arith) in
+    let net = network a.net in
+    let need = need-is ((goal.at.returns-then-out-need c).After-need) in
+    let short = short-reply net a.allowance a.out.now (omega (arith, need, c.if-out-need.true)) in
     record {
-      reply = short.0;
-      leaves = short.1;
-      held = none-held net (λ z. let nine : ◌≡◌ {A = ℕ} 9 0 = z in absurd (omega arith));
+      reply = ap Err c.of.ensures ∙ short.reply;
+      leaves = short.leaves;
+      held = refused-held net c.of.result _ c.of.ensures (λ z. let nine : ◌≡◌ {A = ℕ} 9 0 = z in absurd (omega arith));
     }
 
-pub slice_bounds-values-end-2 : goal.slice_bounds-values-end-2
-slice_bounds-values-end-2 c =
-    (lent_back c.grid_of-grid.new.values zeros (length c.args.costs.now) (c.grid_of-grid.auto.values ∙ values-size c.requires) refl (few c.requires)).2
-
-pub slice_bounds-visit_all-end : goal.slice_bounds-visit_all-end
-slice_bounds-visit_all-end c =
-    sym (lent_back c.grid_of-grid.new.values zeros (length c.args.costs.now) (c.grid_of-grid.auto.values ∙ values-size c.requires) refl (few c.requires)).1
-
-pub visit_all-walked-requires : goal.visit_all-walked-requires
-visit_all-walked-requires c =
+pub returns-in-Ok : goal.returns-in-Ok
+returns-in-Ok c =
     let a = c.args in
-    let ready = ready-grid c.requires c.grid_of-grid.ensures in
-    let front = lent_back c.grid_of-grid.new.values zeros (length a.costs.now) (c.grid_of-grid.auto.values ∙ values-size c.requires) refl (few c.requires) in
-    let e = need-known c.requires c.grid_of-grid.result.total c.need.result ready.gridded.total c.need.ensures in
-    (subst⁻¹ (λ (vs : List ℤ). Ready a.shape a.ends.now a.sums.now a.costs.now vs c.grid_of-grid.result) front.0 ready, omega (arith, e, c.if-out-need.false))
+    let net = network a.net in
+    let need = need-is ((goal.at.returns-in-Ok c).After-need) in
+    let ended = ended-reply net a.allowance a.out.now (omega (arith, need, c.if-out-need.false)) c.in-Ok.ensures c.visit_all.auto.out in
+    record {
+      reply = ended.reply;
+      leaves = c.finish.ensures ∙ ap (λ (t : ℕ). finished c.visit_all.new.out c.in-Ok.walked.plans c.in-Ok.walked.solved t a.net.shape.p) a.net.plannable.tree
+          ∙ ended.leaves;
+      held = walk-held net c.in-Ok.ensures;
+    }
 
-pub conclude-requires : goal.conclude-requires
-conclude-requires c =
+pub returns-in-Err : goal.returns-in-Err
+returns-in-Err c =
     let a = c.args in
-    let net = net_of a.shape a.ends.now a.sums.now a.costs.now in
-    let ready = ready-grid c.requires c.grid_of-grid.ensures in
-    let e = need-known c.requires c.grid_of-grid.result.total c.need.result ready.gridded.total c.need.ensures in
-    let walked = c.visit_all-walked in
-    let room : buffer_need net ≤ length walked.new.out = omega (arith, e, c.if-out-need.false, walked.auto.out) in
-    rw c.requires.tree (outcome-room net walked.ensures c.requires.fine.few-positions room)
-
-pub returns : goal.returns
-returns c =
-    let a = c.args in
-    let net = net_of a.shape a.ends.now a.sums.now a.costs.now in
-    let ready = ready-grid c.requires c.grid_of-grid.ensures in
-    let e = need-known c.requires c.grid_of-grid.result.total c.need.result ready.gridded.total c.need.ensures in
-    let walked = c.visit_all-walked in
-    let end = c.conclude.ensures in
-    let bytes = end.1 ∙ ap (λ (t : ℕ). concluded walked.result t a.shape.p walked.new.out) c.requires.tree in
-    let room : buffer_need net ≤ length a.out.now = omega (arith, e, c.if-out-need.false) in
-    let kept = room-reply net a.allowance a.out.now room walked.ensures walked.auto.out end.0 bytes in
-    record { reply = kept.0; leaves = kept.1; held = walk-held net walked.ensures end.0 }
+    let net = network a.net in
+    let need = need-is ((goal.at.returns-in-Err c).After-need) in
+    let spent = spent-reply net a.allowance a.out.now (omega (arith, need, c.if-out-need.false)) c.in-Err.ensures.more in
+    record {
+      reply = ap Err c.of-in-Err.ensures ∙ spent.reply;
+      leaves = c.clear.ensures ∙ ap (λ (n : ℕ). replicate n 0) c.visit_all.auto.out ∙ spent.leaves;
+      held = refused-held net c.of-in-Err.result _ c.of-in-Err.ensures (λ z. let ten : ◌≡◌ {A = ℕ} 10 0 = z in absurd (omega arith));
+    }

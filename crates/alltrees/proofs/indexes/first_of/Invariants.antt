@@ -1,8 +1,0 @@
-use Rattle.std.proofs.Common.{◌-◌, ◌≤◌}
-use Rattle.alltrees.proofs.indexes.first_of.Given as goal
-
-abbrev pub invariant-loop-i : goal.invariant-loop-i
-invariant-loop-i l = l.i ≤ 72
-
-abbrev pub decreases-loop-i : goal.decreases-loop-i
-decreases-loop-i l = 72 - l.i

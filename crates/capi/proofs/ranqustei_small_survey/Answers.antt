@@ -1,0 +1,9 @@
+-- `capi::ranqustei_small_survey` meets its contract: the reply says what the definition does.
+use Rattle.std.proofs.Common.{ap, ◌∙◌}
+use Rattle.network.specs.Calls.{status}
+use Rattle.network.specs.SmallSurveys.{small_status}
+use Rattle.capi.proofs.ranqustei_small_survey.Goals as goal
+
+pub returns : goal.returns
+unfolding small_status
+returns c = let e = c.small_survey.ensures in record { reply = c.from.ensures ∙ ap status e.reply; leaves = e.leaves; promised = rw c.from.ensures e.promised }

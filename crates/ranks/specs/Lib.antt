@@ -1,2 +1,0 @@
--- the loop over ranks
-pub mod Slack

@@ -1,8 +1,0 @@
--- The fields are those of the definition.
-use mathlib.Core.Path.{refl}
-use Rattle.search_trials.specs.BaseAlone.{trial_alone}
-use Rattle.search_trials.proofs.base.trial_of.Goals as goal
-
-pub returns : goal.returns
-unfolding trial_alone
-returns c = refl

@@ -2,7 +2,7 @@
  * Ranqustei: relay plans for a hive yard.
  *
  * To build with it. `rt lib` in crates/capi makes the archive crates/capi/out/libcapi.a. It is for x86-64 Linux and for no other machine, and needs
- * memcpy, memmove and memset of the C library and nothing else. From the root of the repository:
+ * memcpy and memset of the C library and nothing else. From the root of the repository:
  *
  *     cc -std=c99 -Ic program.c crates/capi/out/libcapi.a -o program
  *

@@ -1,4 +1,4 @@
-// Elements and zeros written into a slice, by the library's copy and fill: the functions are here for their promises, which speak of `overwrite`.
+// Elements and zeros written into a slice. Elements by a loop: the library's copy would need `memmove` of the host.
 ghost use Rattle.std.specs.Prelude.{◌≡◌, ◌++◌, ◌+◌, ◌-◌, ◌≤◌, length, take, replicate};
 ghost use Rattle.buffers.specs.Overwrite.{overwrite};
 
@@ -7,7 +7,9 @@ pub fn copy_in<T: Copy>(out: &mut [T], at: usize, src: &[T])
     requires { at + length src.now ≤ length out.old }
     ensures { out.new ≡ overwrite out.old at src.now }
 {
-    out[at..at + src.len()].copy_from_slice(src);
+    for j in 0..src.len() {
+        out[at + j] = src[j];
+    }
 }
 
 // Writes zeros from an index to the end.

@@ -1,5 +1,5 @@
 -- The replies of document 01 as C sees them: plain numbers in a struct.
-use Rattle.std.specs.Prelude.{List, [], ◌∷◌, ◌≡◌, ℕ, ℤ, pos, get_or, take}
+use Rattle.std.specs.Prelude.{List, [], ◌∷◌, ◌≡◌, refl, ℕ, ℤ, pos, get_or, take}
 use Rattle.std.proofs.Common.{ap}
 use Rattle.network.specs.AnswerPromise.{BestPromised, JudgePromised}
 use Rattle.network.specs.Calls.{Reply as Answered, cost_values, says}
@@ -25,6 +25,19 @@ flat_reply a = record { number = a.number; place = a.place; sum = value_at a 0; 
 -- the costs in a reply for C: sum, y1, y2, y3
 abbrev pub flat_values : Reply → List ℤ
 flat_values r = r.sum ∷ r.y1 ∷ r.y2 ∷ r.y3 ∷ []
+
+-- the costs in a reply for C, whose ceiling costs stand one by one, with these as a list
+abbrev pub together : Reply → Costs
+together r = record { sum = r.sum; y = r.y1 ∷ r.y2 ∷ r.y3 ∷ [] }
+
+-- and costs with their ceiling costs one by one
+abbrev pub apart : Costs → Reply
+apart v = flat_reply (says (Ok v))
+
+-- no cost of a tree is lost where a reply holds them one by one
+pub together-apart : (net : Network) (ts : List ℕ) → together (apart (costs_of net ts)) ≡ costs_of net ts
+unfolding flat_reply says tabulate
+together-apart net ts = refl
 
 -- the costs of a tree are handed on, all of them
 flat-costs : (net : Network) (ts : List ℕ) (a : Answered) → a.values ≡ cost_values (costs_of net ts) → flat_values (flat_reply a) ≡ cost_values (costs_of net ts)

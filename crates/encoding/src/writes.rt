@@ -27,7 +27,8 @@ pub fn write_u32(out: &mut [u8], at: usize, n: u32)
     requires { at + 4 ≤ length out.old }
     ensures { out.new ≡ overwrite out.old at (little_endian 4 n) }
 {
-    copy_in(out, at, &n.to_le_bytes());
+    let bytes = n.to_le_bytes();
+    copy_in(out, at, &bytes);
 }
 
 // Writes a signed number of two bytes.

@@ -3,8 +3,8 @@ ghost use Rattle.std.specs.Prelude.{◌≡◌, ◌*◌, ◌≤◌, length};
 ghost use Rattle.order.specs.Columns.{falling, places_by, tabled};
 ghost use Rattle.index_building.specs.Entries.{Held, downwards, entries_in};
 
+use crate::ordering::order_numbers;
 use encoding::writes::write_u16;
-use index_sorting::sorting::sort_rows;
 
 // Whether each key is below the one before it.
 fn falls(keys: &[u64]) -> bool
@@ -33,16 +33,6 @@ fn write_numbers(index: &mut [u8], numbers: &[u16])
     }
 }
 
-// The numbers from 0 on.
-fn count_up(numbers: &mut [u16])
-    requires { length numbers.old ≤ 65536 }
-    ensures { numbers.new ≡ tabled (λ r. r) (length numbers.old) }
-{
-    for (r, number) in numbers.iter_mut().enumerate() {
-        *number = r as u16;
-    }
-}
-
 // Sorts the plan numbers by key, and writes them.
 fn write_sorted<const HELD: usize, const HALF: usize>(index: &mut [u8], keys: &mut [u64])
     requires { Held HELD HALF keys.old × (length keys.old * 2 ≤ length index.old) }
@@ -52,8 +42,7 @@ fn write_sorted<const HELD: usize, const HALF: usize>(index: &mut [u8], keys: &m
     let mut spare_keys = [0u64; HALF];
     let mut spare_numbers = [0u16; HALF];
     let numbers = &mut held[..keys.len()];
-    count_up(numbers);
-    sort_rows(keys, numbers, &mut spare_keys, &mut spare_numbers);
+    order_numbers(keys, numbers, &mut spare_keys, &mut spare_numbers);
     write_numbers(index, numbers);
 }
 

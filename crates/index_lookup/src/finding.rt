@@ -21,7 +21,8 @@ fn find_in(keys: &[u64], index: &[u8], y: i16) -> Result<u16, Refusal>
     if !holds_index(keys, index) {
         return Err(Refusal::of(Rule::DamagedList));
     }
-    let r = cheapest_plan(keys, raised16(y.cast_unsigned())).ok_or(Refusal::of(Rule::NoSuchPlan))?;
+    let bound = raised16(y.cast_unsigned()) as u64;
+    let r = cheapest_plan(keys, bound).ok_or(Refusal::of(Rule::NoSuchPlan))?;
     Ok(r as u16)
 }
 

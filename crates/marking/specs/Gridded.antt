@@ -1,7 +1,7 @@
 -- The grid of the ceilings: their values in parts of an array, and their positions as numbers.
 use Rattle.std.specs.Prelude.{Bool, ◌≡◌, refl, ℕ, zero, suc, ◌+◌, ◌*◌, ◌≤◌, ◌<◌, ℤ, drop, get_or, length, take}
 use mathlib.Core.List.{List, [], ◌∷◌}
-use Rattle.std.proofs.Common.{sym, ap, ◌∙◌, arith, length-drop, ext_get_or, get_or-take, length-take-le}
+use Rattle.std.proofs.Common.{sym, ap, ◌∙◌, subst, arith, length-drop, ext_get_or, get_or-take, length-take-le}
 use Rattle.std.proofs.lemmas.List.{length-map}
 use Rattle.order.proofs.Lists.{get_or_map}
 use Rattle.frontier.specs.Frontier.{product}
@@ -9,12 +9,13 @@ use Rattle.frontier.specs.Places.{places}
 use Rattle.planning.specs.Graph.{Graph, values_at, values_from}
 use Rattle.network.specs.Capacities.{ceilings_held, links_held}
 use Rattle.network.specs.Network.{Network}
-use Rattle.network.specs.Shaped.{net_of}
+use Rattle.network.specs.Shaped.{Plannable, net_of}
 use Rattle.network.specs.declared.net.Net.{Net}
+use Rattle.network.specs.declared.Shape.{Shape}
 use Rattle.network.specs.Tabulate.{tabulate}
 use Rattle.network.proofs.Tabulate.{tabulate-at, tabulate-length}
 use Rattle.network.specs.Walk.{values}
-use Rattle.network.specs.Yard.{graph, usable}
+use Rattle.network.specs.Yard.{graph, usable, usable_at}
 use Rattle.marking.specs.Values.{falling-values}
 use Rattle.marking.specs.Digits.{Few, Steps, digits-places, digits_by, sizes, total, total-product, weights, weights-length, weights-steps}
 use Rattle.marking.specs.Sides.{counts, counts-with, sides_with, strides, strides-with}
@@ -43,6 +44,13 @@ pub record Gridded (lists : List (List ℤ)) (m : ℕ) (array : List ℤ) (grid 
   pub ceilings : length lists ≤ ceilings_held
   pub held : Held grid
 
+-- what finding it asks: columns of p ceilings and m links, an array as long, and that they are held
+pub record Griddable (p m : ℕ) (costs array : List ℤ) : Type 0 where
+  pub costs-are : length costs ≡ p * m
+  pub array-is : length array ≡ p * m
+  pub links : m ≤ links_held
+  pub ceilings : p ≤ ceilings_held
+
 -- ---- the values of a network
 
 module _ (G : Graph) where
@@ -68,6 +76,21 @@ ceiling-values net e =
 
 pub value-count : (net : Network) → length (values net) ≡ length net.k
 value-count net = values_length (graph net) 0 net.k
+
+-- the grid of a network that can be planned can be found, and is what `grid_of` finds
+module _ {shape : Shape} {ends sums : List ℕ} {costs array : List ℤ} (plannable : Plannable shape ends sums costs) where
+  pub griddable : length array ≡ length costs → Griddable shape.p shape.m costs array
+  griddable e = record {
+    costs-are = plannable.fine.cost-count;
+    array-is = e ∙ plannable.fine.cost-count;
+    links = plannable.fine.few-links;
+    ceilings = plannable.fine.few-ceilings;
+  }
+
+  pub planned-grid : {grid : Grid} → Gridded (ceiling_values (usable_at shape.rest ends) shape.p shape.m costs) shape.m array grid
+      → Gridded (values (net_of shape ends sums costs)) shape.m array grid
+  planned-grid {grid} g =
+      subst (λ (ls : List (List ℤ)). Gridded ls shape.m array grid) (ceiling-values (net_of shape ends sums costs) plannable.fine.rank-count) g
 
 -- ---- the grid, when the values of p ceilings are filled in
 

@@ -1,16 +1,16 @@
 // The positions of the ceilings as numbers in a mixed radix, a digit for each ceiling, the first one highest.
 ghost use Rattle.std.specs.Prelude.{◌≡◌, length};
 ghost use Rattle.network.specs.Capacities.{ceilings_held};
-ghost use Rattle.network.specs.Walk as spec;
 ghost use Rattle.network.specs.Yard.{usable_at};
+ghost use Rattle.stations.specs.Stations.{Stations};
 ghost use Rattle.marking.specs.Digits.{Few, Steps, digits_by, total, weights};
-ghost use Rattle.marking.specs.Parts.{Filled};
+ghost use Rattle.marking.specs.Parts.{Filled, ceiling_values};
 ghost use Rattle.marking.specs.Sides.{sides_with, strides};
-ghost use Rattle.marking.specs.Gridded.{Gridded, network};
+ghost use Rattle.marking.specs.Gridded.{Griddable, Gridded};
 
 use crate::mark::Side;
 use crate::values::different_values;
-use network::Net;
+use network::Shape;
 use network::capacities::CEILINGS_HELD;
 
 // The box of all positions, with a side for each ceiling, whose count is that of the ceiling's values; and how many positions there are.
@@ -23,23 +23,18 @@ pub struct Grid {
 // The different values of each ceiling over the usable links, at the front of its part of `values`, and their numbers.
 // Parts are cut off by places: m may be 0, which chunks_exact does not take, and of a slice written through chunks_exact_mut a proof knows the length
 // alone.
-fn values_of(net: Net, values: &mut [i16]) -> [usize; CEILINGS_HELD]
-    requires { length values.old ≡ length net.costs.now }
+fn values_of(shape: Shape, ends: &[u8], costs: &[i16], values: &mut [i16]) -> [usize; CEILINGS_HELD]
+    requires { Stations ends.now × Griddable shape.p shape.m costs.now values.old }
     ensures { (length result ≡ ceilings_held)
-        × Filled (usable_at net.entry.shape.rest net.entry.ends.now) net.entry.shape.m net.entry.costs.now values.new result net.entry.shape.p }
+        × Filled (usable_at shape.rest ends.now) shape.m costs.now values.new result shape.p }
 {
-    let p = net.shape.p as usize;
-    let m = net.shape.m;
+    let p = shape.p as usize;
+    let m = shape.m;
     let mut counts = [0usize; CEILINGS_HELD];
     let mut from = 0;
     for i in 0..p {
         let to = from + m;
-        counts[i] = different_values(
-            net.shape.rest,
-            net.ends,
-            &net.costs[from..to],
-            &mut values[from..to],
-        );
+        counts[i] = different_values(shape.rest, ends, &costs[from..to], &mut values[from..to]);
         from = to;
     }
     counts
@@ -63,12 +58,13 @@ fn put_sides(counts: &[usize], sides: &mut [Side]) -> usize
 
 // The grid of a network, with the values of ceiling i at the front of its part of `values`, which holds m for each.
 // One slice, m for each ceiling: it is as long as the costs, whatever m is, and no heap is used.
-pub fn grid_of(net: Net, values: &mut [i16]) -> Grid
-    requires { length values.old ≡ length net.costs.now }
-    ensures { Gridded (spec.values (network net.entry)) net.entry.shape.m values.new result }
+pub fn grid_of(shape: Shape, ends: &[u8], costs: &[i16], values: &mut [i16]) -> Grid
+    requires { Stations ends.now × Griddable shape.p shape.m costs.now values.old }
+    ensures { Gridded (ceiling_values (usable_at shape.rest ends.now) shape.p shape.m costs.now) shape.m
+        values.new result }
 {
-    let p = net.shape.p as usize;
-    let counts = values_of(net, values);
+    let p = shape.p as usize;
+    let counts = values_of(shape, ends, costs, values);
     let mut sides = [Side {
         stride: 0,
         count: 0,

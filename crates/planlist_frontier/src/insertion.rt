@@ -29,13 +29,11 @@ fn insert(plans: &mut [u8], count: usize, slots: usize, v: Costs, links: &[u8]) 
     ensures { Inserted slots v links.now count plans.old result plans.new }
 {
     let size = plan_size(slots, links.len());
-    match free_place(plans, count, size, slots, v) {
-        Some(front) => {
-            let start = front * size;
-            front + put(&mut plans[start..], count - front, slots, v, links)
-        }
-        None => count,
-    }
+    let Some(front) = free_place(plans, count, size, slots, v) else {
+        return count;
+    };
+    let start = front * size;
+    front + put(&mut plans[start..], count - front, slots, v, links)
 }
 
 // Puts a plan into the frontier that stands behind the place of the list head, and returns the new count.

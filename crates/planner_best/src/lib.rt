@@ -10,7 +10,7 @@ use kruskal_order::usable::order_usable;
 use network::capacities::{CEILINGS_HELD, LINKS_HELD};
 use network::{Costs, Refusal, Rule};
 use solver::question::solve;
-use survey_reading::reader::read_survey;
+use survey_reading::reader::read_net;
 
 // The best tree under the numbers given for the ceilings, of which those for absent ones are ignored: its costs, with its links in the first t bytes of
 // the tree buffer, or the refusal.
@@ -24,7 +24,7 @@ pub fn best(survey: &[u8], given: [i16; CEILINGS_HELD], tree: &mut [u8]) -> Resu
     let mut sums = [0u32; LINKS_HELD];
     let mut costs = [0i16; CEILINGS_HELD * LINKS_HELD];
     // By match: `?` copies the network once more, which short questions feel.
-    match read_survey(survey, &mut ends, &mut sums, &mut costs) {
+    match read_net(survey, &mut ends, &mut sums, &mut costs) {
         Err(refusal) => Err(refusal),
         Ok(net) => {
             if tree.len() < net.shape.t as usize {

@@ -8,7 +8,7 @@ ghost use Rattle.network.specs.Cut.{CutNoticed};
 
 use network::capacities::{CEILINGS_HELD, LINKS_HELD};
 use network::{Costs, Refusal, Rule};
-use survey_reading::reader::read_survey;
+use survey_reading::reader::read_net;
 use trees_costs::costs::tree_costs;
 use trees_drawn::drawn::is_tree;
 
@@ -21,7 +21,7 @@ pub fn judge(survey: &[u8], drawn: &[u8]) -> Result<Costs, Refusal>
     let mut ends = [0u8; 2 * LINKS_HELD];
     let mut sums = [0u32; LINKS_HELD];
     let mut costs = [0i16; CEILINGS_HELD * LINKS_HELD];
-    let net = read_survey(survey, &mut ends, &mut sums, &mut costs)?;
+    let net = read_net(survey, &mut ends, &mut sums, &mut costs)?;
     if is_tree(net.shape, net.ends, drawn) {
         Ok(tree_costs(net.shape, net.sums, net.costs, drawn))
     } else {

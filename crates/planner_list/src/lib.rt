@@ -8,7 +8,7 @@ ghost use Rattle.network.specs.Promise.{Promised};
 
 use network::Refusal;
 use network::capacities::{CEILINGS_HELD, LINKS_HELD};
-use survey_reading::reader::read_survey;
+use survey_reading::reader::read_net;
 use walk::list::list_plans;
 
 // The list of plans that no other plan beats, into the list buffer, solving at most `allowance` positions, or the refusal.
@@ -21,6 +21,6 @@ pub fn list(survey: &[u8], allowance: u32, buffer: &mut [u8]) -> Result<(), Refu
     let mut ends = [0u8; 2 * LINKS_HELD];
     let mut sums = [0u32; LINKS_HELD];
     let mut costs = [0i16; CEILINGS_HELD * LINKS_HELD];
-    let net = read_survey(survey, &mut ends, &mut sums, &mut costs)?;
+    let net = read_net(survey, &mut ends, &mut sums, &mut costs)?;
     list_plans(net, allowance, buffer)
 }

@@ -8,7 +8,7 @@ ghost use Rattle.network.specs.WritingPromise.{WritePromised};
 
 use network::{Refusal, Rule, YardFigures};
 use survey_writing::figures::check_yard;
-use survey_writing::kinds::layout_for;
+use survey_writing::kinds::known_layout;
 use survey_writing::padding::{full_costs, full_ends, full_sums};
 use survey_writing::survey::SurveyFigures;
 use survey_writing::writer::write_full;
@@ -32,7 +32,7 @@ pub fn write_survey(
         (figures_from yard ends.now sums.now costs.now) survey.old (status result) survey.new }
 {
     // A number, as C hands it in and docs/REFERENCE.md names the kinds, 59 44 and 59 45: a layout is looked up for it.
-    let Some(l) = layout_for(kind) else {
+    let Some(l) = known_layout(kind) else {
         return Err(Refusal::of(Rule::WrongMark));
     };
     let m = sums.len();

@@ -1,6 +1,6 @@
 // The best tree over the sets of exceptions: those of one, and of two.
 ghost use Rattle.std.specs.Prelude.{◌≡◌, ◌+◌, ◌*◌, ◌<◌, ◌∷◌, length, IfSome};
-ghost use Rattle.exceptions.specs.Patterns.{pattern_at};
+ghost use Rattle.exceptions.specs.Patterns.{Patterned, pattern_at};
 ghost use Rattle.exceptions.specs.Keep.{Exceptions};
 ghost use Rattle.search_trials.specs.Chosen.{competed};
 ghost use Rattle.search_trials.specs.Marks.{Flagged};
@@ -14,6 +14,7 @@ use crate::under_way::Search;
 use exceptions::admitted::admits_pair;
 use search_trials::best::{Trial, contends};
 use search_trials::rest::loses;
+use search_trials::trials::is_ring;
 use trees_costs::sums::sum_at;
 
 impl<'a> Search<'a> {
@@ -30,7 +31,8 @@ impl<'a> Search<'a> {
 
     // Whether two exceptions may be in one tree: the ranks admit both, and they are no ring.
     fn fit_together(&self, link: u8, other: u8) -> bool
-        requires { (link < length self.now.basis.sums.now) × (other < length self.now.basis.sums.now) }
+        requires { Patterned (length self.now.basis.sums.now) self.now.ks.now self.now.patterns.now
+            × (link < length self.now.basis.sums.now) × (other < length self.now.basis.sums.now) }
         ensures { result
             ≡ fitting self.now.basis.ends.now self.now.ks.now link (pattern_at self.now.patterns.now link) other (pattern_at self.now.patterns.now other) }
     {
@@ -38,7 +40,7 @@ impl<'a> Search<'a> {
             self.ks,
             self.patterns[link as usize],
             self.patterns[other as usize],
-        ) && !self.basis.is_ring(link, other)
+        ) && !is_ring(self.basis.ends, link, other)
     }
 
     // The sets of a link and each later one; `one` is the trial of the link alone. The later ones come in rising order of cost, so that the sets behind
@@ -50,7 +52,8 @@ impl<'a> Search<'a> {
         one: Trial,
         mut best: Option<Trial>,
     ) -> Option<Trial>
-        requires { Tryable self.now.basis.ends.now self.now.basis.sums.now (link ∷ later.now) × (self.now.largest ≡ 2)
+        requires { Patterned (length self.now.basis.sums.now) self.now.ks.now self.now.patterns.now
+            × Tryable self.now.basis.ends.now self.now.basis.sums.now (link ∷ later.now) × (self.now.largest ≡ 2)
             × One self.now.basis.ends.now self.now.basis.sums.now self.now.basis.base.now link one × IfSome best Flagged }
         ensures { (best_by self.now.basis.base.now result
             ≡ with_pairs self.now.basis.ends.now self.now.basis.sums.now self.now.goal self.now.ks.now self.now.patterns.now self.now.basis.base.now
@@ -73,7 +76,8 @@ impl<'a> Search<'a> {
 
     // The sets of one and of two of the odd links, the exceptions.
     pub fn consider_sets(&self, odd: &[u8], mut best: Option<Trial>) -> Option<Trial>
-        requires { Tryable self.now.basis.ends.now self.now.basis.sums.now odd.now × Exceptions self.now.ks.now self.now.patterns.now odd.now
+        requires { Patterned (length self.now.basis.sums.now) self.now.ks.now self.now.patterns.now
+            × Tryable self.now.basis.ends.now self.now.basis.sums.now odd.now × Exceptions self.now.ks.now self.now.patterns.now odd.now
             × (self.now.largest ≡ 2) × IfSome best Flagged }
         ensures { (best_by self.now.basis.base.now result
             ≡ searched self.now.basis.ends.now self.now.basis.sums.now self.now.goal self.now.ks.now self.now.patterns.now self.now.basis.base.now
@@ -96,7 +100,9 @@ impl<'a> Search<'a> {
             ≡ tried_ones self.now.basis.ends.now self.now.basis.sums.now self.now.goal self.now.basis.base.now (best_by self.now.basis.base.now best) odd.now 0)
             × IfSome result Flagged }
     {
-        for &link in odd {
+        // By places: the edit that passes the first one over changes the start alone.
+        for i in 0..odd.len() {
+            let link = odd[i];
             if loses(self.rest, sum_at(self.basis.sums, link), best) {
                 return best;
             }

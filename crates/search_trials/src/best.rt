@@ -3,7 +3,7 @@ ghost use Rattle.std.specs.Prelude.{false, ◌≡◌, replicate, IfSome};
 ghost use Rattle.network.specs.Capacities.{links_held};
 ghost use Rattle.kruskal.specs.Grown.{flags_of};
 ghost use Rattle.search_trials.specs.Chosen.{chosen, contending, first_by};
-ghost use Rattle.search_trials.specs.Marks.{Flagged, stays, without};
+ghost use Rattle.search_trials.specs.Marks.{Distinct, Flagged, stays, without};
 ghost use Rattle.search_trials.specs.Stands.{links_by, place_of};
 
 use crate::basis::Basis;
@@ -49,7 +49,7 @@ pub fn contends(goal: usize, best: Option<Trial>, t: Trial) -> bool
 impl<'a> Basis<'a> {
     // Sets the flags of the base's links that a tree has.
     fn put_kept(&self, lost: Option<usize>, lost2: Option<usize>, taken: &mut [bool])
-        requires { taken.old ≡ replicate links_held false }
+        requires { (taken.old ≡ replicate links_held false) × Distinct self.now.base.now }
         ensures { taken.new ≡ flags_of (without (place_of self.now.base.now lost) (place_of self.now.base.now lost2) self.now.base.now) }
     {
         for (place, &link) in self.base.iter().enumerate() {
@@ -59,7 +59,7 @@ impl<'a> Basis<'a> {
 
     // Sets the flags of a tree's links, over flags that are not set.
     pub fn put_flags(&self, t: Trial, taken: &mut [bool])
-        requires { (taken.old ≡ replicate links_held false) × Flagged t }
+        requires { (taken.old ≡ replicate links_held false) × Distinct self.now.base.now × Flagged t }
         ensures { taken.new ≡ flags_of (links_by self.now.base.now t) }
     {
         self.put_kept(t.lost, t.lost2, taken);
@@ -76,7 +76,7 @@ impl<'a> Basis<'a> {
     // The tree t comes before the tree u. Ties are rare, so that the search keeps this out of its loops.
     #[cold]
     fn comes_first(&self, t: Trial, u: Trial) -> bool
-        requires { Flagged t × Flagged u }
+        requires { Distinct self.now.base.now × Flagged t × Flagged u }
         ensures { result ≡ first_by self.now.base.now t u }
     {
         let mut a = [false; LINKS_HELD];
@@ -88,7 +88,7 @@ impl<'a> Basis<'a> {
 
     // A tree that contends takes the place of the best one so far where it is better: it has a smaller sum, or the same sum and comes first.
     pub fn offer(&self, best: Option<Trial>, t: Trial) -> Option<Trial>
-        requires { IfSome best Flagged × Flagged t }
+        requires { Distinct self.now.base.now × IfSome best Flagged × Flagged t }
         ensures { result ≡ chosen self.now.base.now best t }
     {
         if let Some(b) = best {

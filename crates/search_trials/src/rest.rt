@@ -9,7 +9,8 @@ use crate::best::Trial;
 use trees_costs::sums::sum_of;
 
 impl<'a> Basis<'a> {
-    // The least that a tree of `goal` links takes of the base beside a set of `size` links costs, raised, if the base has as many links. The base costs `sum`.
+    // The least that a tree of `goal` links takes of the base beside a set of `size` links costs, raised, if the base has as many links.
+    // The base comes in rising order of cost, and costs `sum`.
     pub fn rest_of(&self, goal: usize, size: usize, sum: u32) -> Option<u32>
         requires { sum ≡ sum_of self.now.sums.now self.now.base.now }
         ensures { result ≡ rest_of self.now.sums.now self.now.base.now goal size }

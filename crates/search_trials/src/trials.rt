@@ -21,6 +21,25 @@ fn one_group(p: u8, q: u8, r: u8, s: u8) -> bool
     (r == s) | ((p == r) & (q == s)) | ((p == s) & (q == r))
 }
 
+// The ends of a link.
+fn ends_of(ends: &[u8], link: u8) -> (u8, u8)
+    requires { 2 * link + 1 < length ends.now }
+    ensures { (result.0 ≡ (ends_at ends.now link).a) × (result.1 ≡ (ends_at ends.now link).b) }
+{
+    let number = link as usize;
+    (ends[2 * number], ends[2 * number + 1])
+}
+
+// Whether two links are a ring.
+pub fn is_ring(ends: &[u8], link: u8, other: u8) -> bool
+    requires { (2 * link + 1 < length ends.now) × (2 * other + 1 < length ends.now) }
+    ensures { result ≡ ring ends.now link other }
+{
+    let (a, b) = ends_of(ends, link);
+    let (u, v) = ends_of(ends, other);
+    one_group(a, b, u, v)
+}
+
 // Links of the base that a tree is without: their number, and their raised cost.
 // No option: both callers subtract the count and the cost as they are, without a branch.
 #[derive(Clone, Copy)]
@@ -30,22 +49,13 @@ pub struct Lost {
 }
 
 impl<'a> Basis<'a> {
-    // The ends of a link.
-    fn ends_of(&self, link: u8) -> (u8, u8)
-        requires { 2 * link + 1 < length self.now.ends.now }
-        ensures { (result.0 ≡ (ends_at self.now.ends.now link).a) × (result.1 ≡ (ends_at self.now.ends.now link).b) }
-    {
-        let number = link as usize;
-        (self.ends[2 * number], self.ends[2 * number + 1])
-    }
-
     // The place of the base's link that joins the groups of stations u and v, if any does.
     fn place_joined(&self, u: u8, v: u8) -> Option<usize>
         requires { (u < stations_held) × (v < stations_held) }
         ensures place { place_of self.now.base.now result ≡ first_place (joined_at self.now.history.now u v) 0 (length self.now.base.now) }
         ensures within { IfSome result (λ place. place < length self.now.base.now) }
     {
-        self.history.iter().position(|groups| groups.leader[u as usize]
+        self.history[..self.base.len()].iter().position(|groups| groups.leader[u as usize]
             == groups.leader[v as usize])
     }
 
@@ -55,7 +65,7 @@ impl<'a> Basis<'a> {
         ensures place { place_of self.now.base.now result ≡ first_place (beside_at self.now.history.now a b u v) 0 (length self.now.base.now) }
         ensures within { IfSome result (λ place. place < length self.now.base.now) }
     {
-        self.history.iter().position(|groups| {
+        self.history[..self.base.len()].iter().position(|groups| {
             let leader = &groups.leader;
             one_group(
                 leader[a as usize],
@@ -85,7 +95,7 @@ impl<'a> Basis<'a> {
         requires { Joining self.now.ends.now self.now.sums.now link × Alone self.now.sums.now self.now.base.now t }
         ensures { One self.now.ends.now self.now.sums.now self.now.base.now link result }
     {
-        let (u, v) = self.ends_of(link);
+        let (u, v) = ends_of(self.ends, link);
         let place = self.place_joined(u, v);
         let lost = self.lost_at(place);
         let cost = sum_at(self.sums, link);
@@ -100,16 +110,6 @@ impl<'a> Basis<'a> {
         }
     }
 
-    // Whether two links are a ring.
-    pub fn is_ring(&self, link: u8, other: u8) -> bool
-        requires { (2 * link + 1 < length self.now.ends.now) × (2 * other + 1 < length self.now.ends.now) }
-        ensures { result ≡ ring self.now.ends.now link other }
-    {
-        let (a, b) = self.ends_of(link);
-        let (u, v) = self.ends_of(other);
-        one_group(a, b, u, v)
-    }
-
     // The trial t of one exception with another, where the two are no ring.
     pub fn with_two(&self, t: Trial, link: u8, other: u8) -> Trial
         requires { Joining self.now.ends.now self.now.sums.now link × Joining self.now.ends.now self.now.sums.now other
@@ -117,8 +117,8 @@ impl<'a> Basis<'a> {
         ensures { Stands self.now.base.now (grown_from self.now.ends.now self.now.sums.now self.now.base.now (pair link other)) result
             × Flagged result }
     {
-        let (a, b) = self.ends_of(link);
-        let (u, v) = self.ends_of(other);
+        let (a, b) = ends_of(self.ends, link);
+        let (u, v) = ends_of(self.ends, other);
         let beside = self.place_beside(a, b, u, v);
         let lost = self.lost_at(beside);
         let cost = sum_at(self.sums, other);

@@ -2,11 +2,11 @@
 use Rattle.std.specs.Prelude.{Option, Some, None, take, ℕ, ◌<◌, Bool, true, cond, ◌≡◌, length}
 use mathlib.Core.List.{List}
 use Rattle.std.proofs.Math.Path.{refl, ap}
-use Rattle.std.proofs.Common.{sym, ◌∙◌, arith, get_or-take, length-take-le}
+use Rattle.std.proofs.Common.{sym, ◌∙◌, arith, length-take-le}
 use Rattle.order.specs.Test.{clash}
 use Rattle.order.specs.Lists.{◌∈◌, filter}
 use Rattle.order.proofs.Lists.{filter-among, sublist-⊆}
-use Rattle.forest.specs.Groups.{apart, nobody}
+use Rattle.forest.specs.Groups.{apart}
 use Rattle.forest.specs.declared.Forest.{Forest}
 use Rattle.kruskal.specs.Base.{Based, Joinable, kept, kept-sublist}
 use Rattle.kruskal.specs.Basing.{joinable-near}
@@ -91,23 +91,17 @@ module _ {ends sums links : List ℕ} {goal : ℕ} (columns : Columns ends sums)
 
   -- the search stands on it
   pub base-ready : {base : List ℕ} {history : List Forest} {b : Base} (based : Based ends sums links goal base history b)
-      → Ready ends sums (take b.count base) (take b.count history)
-  base-ready {history = history} {b} based =
+      → Ready ends sums (take b.count base) history
+  base-ready based =
       rw based.links (record {
         columns = columns;
         walk = base-in-order.walkable;
         near = base-near;
         made = kept-base ends links;
-        recorded = record {
-          room = let room = based.recorded.room in omega (arith, base-size based, length-take-le b.count history);
-          row = λ k h. get_or-take b.count history k nobody (omega (arith, base-size based)) ∙ based.recorded.row k h;
-        };
+        recorded = based.recorded;
       })
 
 module _ {ends sums links : List ℕ} {goal : ℕ} {base : List ℕ} {history : List Forest} {b : Base} (based : Based ends sums links goal base history b) where
-  pub rows-each : length (take b.count history) ≡ length (take b.count base)
-  rows-each = rw based.links (let room = based.recorded.room in omega (arith, base-size based, length-take-le b.count history))
-
   pub base-counted : Counted sums (kept ends apart links) b
   base-counted = record { size = base-size based; total = based.total }
 

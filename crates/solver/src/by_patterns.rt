@@ -27,8 +27,9 @@ use search_trials::best::Trial;
 
 // The best tree over all exception sets, with the best so far. Sets are tried of those exceptions that Kruskal's method keeps.
 fn best_from(s: &Search, order: &[u8], best: Option<Trial>) -> Option<Trial>
-    requires { InOrder s.now.basis.sums.now order.now × Joinable s.now.basis.ends.now order.now s.now.goal × (s.now.largest ≡ slack_of s.now.ks.now)
-        × (s.now.largest ≤ exceptions_held) × IfSome best Flagged }
+    requires { Patterned (length s.now.basis.sums.now) s.now.ks.now s.now.patterns.now × InOrder s.now.basis.sums.now order.now
+        × Joinable s.now.basis.ends.now order.now s.now.goal × (s.now.largest ≡ slack_of s.now.ks.now) × (s.now.largest ≤ exceptions_held)
+        × IfSome best Flagged }
     ensures { (best_by s.now.basis.base.now result
         ≡ searched s.now.basis.ends.now s.now.basis.sums.now s.now.goal s.now.ks.now s.now.patterns.now s.now.basis.base.now
         (best_by s.now.basis.base.now best)
@@ -73,7 +74,7 @@ pub fn best_of<'a>(
         ends,
         sums,
         base: &base[..kept.count],
-        history: &history[..kept.count],
+        history: &history,
     };
     let largest = slack_of(ks);
     let s = Search {

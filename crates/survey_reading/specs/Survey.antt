@@ -1,6 +1,6 @@
--- What reading a survey gives: its refusal, or its network, whose columns are the fronts of those that were lent.
+-- What reading a survey gives: its refusal, or a shape and lent columns that say its network at their fronts.
 use Rattle.std.specs.Prelude.{ℕ, ◌*◌, ◌≤◌, Bool, List, ◌≡◌, ℤ, length, Result, Err, MatchResult}
-use Rattle.std.proofs.Common.{sym, ◌∙◌, mul-le-mul, arith, ltb-false, length-take-le}
+use Rattle.std.proofs.Common.{sym, ◌∙◌, mul-le-mul, arith, ltb-false, length-take, length-take-le}
 use Rattle.std.proofs.Math.Path.{ap, ap₂}
 use Rattle.std.proofs.Math.ListN.{take}
 use Rattle.network.specs.Accepted.{RecordsFine}
@@ -42,14 +42,31 @@ pub record RecordsRead (s : List ℕ) (l : Layout) (r : Records) : Type 0 where
   pub links : r.m ≡ link_count l s
   pub checked : records_checked l s ≡ no_refusal
 
--- a network that was read, where the check finds `found` and the network is `net`
-pub record Read (found : Checked) (net : Network) (r : Net) : Type 0 where
+-- a shape and lent columns that say a network at their fronts, where the check finds `found` and the network is `net`
+pub record Read (found : Checked) (net : Network) (ends sums : List ℕ) (costs : List ℤ) (shape : Shape) : Type 0 where
+  pub checked : found ≡ no_refusal
+  pub network : net_at_fronts shape ends sums costs ≡ net
+  -- it can be planned
+  pub plannable : Plannable shape (take (2 * shape.m) ends) (take shape.m sums) (take (shape.p * shape.m) costs)
+  -- the fronts lie inside
+  pub ends-inside : 2 * shape.m ≤ length ends
+  pub sums-inside : shape.m ≤ length sums
+  pub costs-inside : shape.p * shape.m ≤ length costs
+  -- the ceiling costs are few
+  pub few-costs : shape.p * shape.m ≤ ceilings_held * links_held
+
+-- a survey that was read: its shape, or its refusal
+abbrev pub SurveyRead : Checked → Network → Result Shape Refusal → List ℕ → List ℕ → List ℤ → Type 0
+SurveyRead found net r ends sums costs = MatchResult r (Read found net ends sums costs) (λ refusal. found ≡ Err refusal)
+
+-- a network that was read
+pub record ReadAsNet (found : Checked) (net : Network) (r : Net) : Type 0 where
   pub checked : found ≡ no_refusal
   pub network : net_of r.shape r.ends.now r.sums.now r.costs.now ≡ net
 
--- a survey that was read: its network, or its refusal
-abbrev pub SurveyRead : Checked → Network → Result Net Refusal → Type 0
-SurveyRead found net r = MatchResult r (Read found net) (λ refusal. found ≡ Err refusal)
+-- a survey that was read as a network, or its refusal
+abbrev pub NetRead : Checked → Network → Result Net Refusal → Type 0
+NetRead found net r = MatchResult r (ReadAsNet found net) (λ refusal. found ≡ Err refusal)
 
 -- records that are refused decide alone
 pub read-refused : (s : List ℕ) (l : Layout) (r : Refusal) → records_checked l s ≡ Err r → checked_with l s ≡ Err r
@@ -116,6 +133,13 @@ module _ {s : List ℕ} {l : Layout} (fine : RecordsFine s l) where
     costs-size =
         ap (λ (xs : List ℤ). length xs) costs-are ∙ costs-length l s m (ceilings_in s) ∙ ap₂ ◌*◌ (sym ceilings) (sym links)
 
+    -- these lie inside
+    pub ends-fit : 2 * shape.m ≤ length ends
+    ends-fit = omega (arith, ends-size, length-take (2 * shape.m) ends)
+
+    pub costs-fit : shape.p * shape.m ≤ length costs
+    costs-fit = omega (arith, costs-size, length-take (shape.p * shape.m) costs)
+
     -- they are few
     pub few-costs : shape.p * shape.m ≤ ceilings_held * links_held
     few-costs =
@@ -167,3 +191,18 @@ module _ {s : List ℕ} {l : Layout} (fine : RecordsFine s l) where
         let few : position_count net ≤ max_plans = ltb-false _ _ (sym (counted-over over e) ∙ refuse-fine _ _ _ f) in
         let net-fine : NetworkFine (net_at_fronts shape ends sums costs) = rw d.network (network-fine s l fine few) in
         record { fine = net-fine; tree = d.tree ∙ ap tree_size (sym d.network); ranks = d.ranks }
+
+    -- and is read
+    pub read : records_checked l s ≡ no_refusal → (over : Bool) → over ≡ too_many shape (take (2 * shape.m) ends) (take (shape.p * shape.m) costs)
+        → refuse_if over TooManyPositions 0 ≡ no_refusal → Read (checked_with l s) net ends sums costs shape
+    read records over e f =
+        let planned = read-planned over e f in
+        record {
+          checked = read-last records over e f;
+          network = d.network;
+          plannable = planned;
+          ends-inside = omega (arith, planned.fine.end-count, length-take (2 * shape.m) ends);
+          sums-inside = omega (arith, planned.fine.sum-count, length-take shape.m sums);
+          costs-inside = omega (arith, planned.fine.cost-count, length-take (shape.p * shape.m) costs);
+          few-costs = few-costs;
+        }

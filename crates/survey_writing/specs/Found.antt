@@ -1,6 +1,7 @@
 -- The layout of a kind that the writer knows, found in its table.
 use Rattle.std.specs.Prelude.{Bool, true, false, cond, not, ◌≡◌, refl, ℕ, Option, Some, None, MatchOption}
 use Rattle.std.specs.List.{find}
+use Rattle.std.specs.Option.{unwrap_or}
 use Rattle.std.proofs.Common.{ap}
 use Rattle.network.specs.Survey.{plain, with_count}
 use Rattle.network.specs.Writing.{is_of_kind, layout_for, unknown_kind, writable}
@@ -22,3 +23,14 @@ kind-found kind = pick (is_of_kind kind plain) refl (is_of_kind kind with_count)
     pick true e b f = (refl, plain-writable, ap not e)
     pick false e true f = (refl, counted-writable, ap not f)
     pick false e false f = ap not e
+
+-- and the first of them in the place of none
+pub kind-laid : (kind : ℕ) → (unwrap_or (find (is_of_kind kind) writable) plain ≡ layout_for kind) × Writable (unwrap_or (find (is_of_kind kind) writable) plain)
+unfolding layout_for row_where
+kind-laid kind = pick (is_of_kind kind plain) (is_of_kind kind with_count)
+  where
+    pick : (a b : Bool) → let l = unwrap_or (cond a (Some plain) (cond b (Some with_count) None)) plain in
+        (l ≡ cond a plain (cond b with_count plain)) × Writable l
+    pick true b = (refl, plain-writable)
+    pick false true = (refl, counted-writable)
+    pick false false = (refl, plain-writable)

@@ -24,8 +24,15 @@ fn find_kind(kind: u32, layouts: &[Layout]) -> Option<Layout>
     layouts.iter().find(|l| kind_of(**l) == kind).copied()
 }
 
-// The layout of a survey of a kind, if the writer knows it.
-pub fn layout_for(kind: u32) -> Option<Layout>
+// The layout of a survey of a kind; where the kind is not known, the old one.
+pub fn layout_for(kind: u32) -> Layout
+    ensures { (result ≡ layout_for kind) × Writable result }
+{
+    find_kind(kind, &WRITABLE).unwrap_or(PLAIN)
+}
+
+// The same, if the writer knows the kind.
+pub fn known_layout(kind: u32) -> Option<Layout>
     ensures { MatchOption result (unknown_kind kind ≡ true)
         (λ l. (l ≡ layout_for kind) × Writable l × (unknown_kind kind ≡ false)) }
 {

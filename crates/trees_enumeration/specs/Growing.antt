@@ -69,11 +69,11 @@ pub record Standing (m t : ℕ) (ends : List ℕ) (taken link : ℕ) (links : Li
   pub known : (c : ℕ) → c ∈ take taken links → c < m
   pub rows : Recorded ends (take taken links) history
 
--- those that are taken are a tree
+-- those that are taken are a tree, with the groups after each but the last
 pub record Whole (shape : Shape) (ends : List ℕ) (taken : ℕ) (links : List ℕ) (history : List Forest) : Type 0 where
   pub all : taken ≡ shape.t
-  pub known : (c : ℕ) → c ∈ take taken links → c < shape.m
-  pub rows : Recorded ends (take taken links) history
+  pub known : (c : ℕ) → c ∈ take shape.t links → c < shape.m
+  pub rows : Recorded ends (take (shape.t - 1) links) history
 
 -- the trees that are still to come from a branch on
 unfoldable pub coming : ℕ → ℕ → ℕ → List ℕ → ℕ → ℕ → List ℕ → List (List ℕ)
@@ -122,11 +122,6 @@ later-coming shape ends links some = go shape.t some
     go zero h = absurd (omega arith)
     go (suc k) h = let e : suc k - 1 ≡ k = omega arith in rw (e, add-one)
 
--- a tree as one that a branch with links to come leaves
-pub whole-left : {shape : Shape} {ends : List ℕ} {taken : ℕ} {links : List ℕ} {history : List Forest} → Whole shape ends taken links history
-    → Standing shape.m shape.t ends taken shape.m links history
-whole-left w = let all = w.all in record { fewer = omega arith; inside = omega arith; known = w.known; rows = w.rows }
-
 module _ (shape : Shape) (ends : List ℕ) (can : Growable shape ends) where
   abbrev within : (c : ℕ) → EndsBelow stations_held (ends_at ends c)
   within c = can.drawable.stations.within c
@@ -146,6 +141,22 @@ module _ (shape : Shape) (ends : List ℕ) (can : Growable shape ends) where
   come ts k = to_come (ends_at ends) (usable_at shape.rest ends) identity shape.m shape.t ts k
 
   module _ {links : List ℕ} {history : List Forest} (lent : Roomy shape links history) where
+    -- from a tree on: its last link is left instead
+    pub whole-standing : {taken : ℕ} → 0 < taken → Whole shape ends taken links history
+        → Standing shape.m shape.t ends (taken - 1) (get_or links (taken - 1) 0 + 1) links history
+    whole-standing some w =
+        let all = w.all in
+        rw all (
+        let c = get_or links (shape.t - 1) 0 in
+        let l : take shape.t links ≡ take (shape.t - 1) links ++ (c ∷ []) = last_taken links shape.t (omega arith) lent.room in
+        let below = w.known c (subst⁻¹ (λ (ts : List ℕ). c ∈ ts) l (Memᴰ.append_right (take (shape.t - 1) links) (here refl))) in
+        record {
+          fewer = omega arith;
+          inside = omega arith;
+          known = λ b m. w.known b (subst⁻¹ (λ (ts : List ℕ). b ∈ ts) l (Memᴰ.append_left (c ∷ []) m));
+          rows = w.rows;
+        })
+
     module _ {taken link : ℕ} (at : Standing shape.m shape.t ends taken link links history) where
       -- how many are taken
       count : length (take taken links) ≡ taken
@@ -163,7 +174,20 @@ module _ (shape : Shape) (ends : List ℕ) (can : Growable shape ends) where
 
       -- as many are taken as a tree has
       pub whole : shape.t ≤ taken → Whole shape ends taken links history
-      whole h = record { all = omega (arith, at.fewer); known = at.known; rows = at.rows }
+      whole h =
+          let all : taken ≡ shape.t = omega (arith, at.fewer) in
+          record {
+            all = all;
+            known = λ c m. at.known c (subst⁻¹ (λ (n : ℕ). c ∈ take n links) all m);
+            rows = go shape.t (omega (arith, lent.room)) (subst (λ (n : ℕ). Recorded ends (take n links) history) all at.rows);
+          }
+        where
+          go : (t : ℕ) → t ≤ length links → Recorded ends (take t links) history → Recorded ends (take (t - 1) links) history
+          go zero h rows = rows
+          go (suc k) h rows =
+              let e : suc k - 1 ≡ k = omega arith in
+              rw e (recorded-fewer ends (take k links) (get_or links k 0) history
+              (subst (λ (ts : List ℕ). Recorded ends ts history) (take-suc links k 0 (omega arith)) rows))
 
       pub whole-coming : shape.t ≤ taken → coming shape.rest shape.m shape.t ends taken link links ≡ take shape.t links ∷ later shape ends links
       unfolding coming later later_by

@@ -32,7 +32,7 @@ pub fn list_plans(net: Net, allowance: u32, out: &mut [u8]) -> Result<(), Refusa
 {
     let size = net.costs.len();
     let mut values = [0i16; CEILINGS_HELD * LINKS_HELD];
-    let grid = grid_of(net, &mut values[..size]);
+    let grid = grid_of(net.shape, net.ends, net.costs, &mut values[..size]);
     if out.len() < need(grid.total, net.shape.t, net.shape.p) {
         return Err(Refusal::of(Rule::ShortBuffer));
     }

@@ -9,6 +9,7 @@ use network::capacities::{CEILINGS_HELD, PLANS_HELD, TREE_HELD};
 use planlist_records::records::plan_slots;
 use solver::question::solve;
 use walk_visit::gridded::GriddedNet;
+use walk_visit::settling::settle;
 use walk_visit::taking::take_in;
 
 // What a walk says of itself: how many plans it has in the buffer, and how many positions it solved.
@@ -44,7 +45,15 @@ pub fn visit_all(gridded: GriddedNet, allowance: u32, out: &mut [u8]) -> Result<
         }
         gridded.put_position(n, &mut places[..p], &mut bounds[..p]);
         let answer = solve(net, usable.links(), &bounds[..p], &mut tree);
-        gridded.settle(&mut marks, n, &places[..p], answer);
+        settle(
+            &mut marks,
+            n,
+            net.shape,
+            gridded.values,
+            gridded.grid,
+            &places[..p],
+            answer,
+        );
         plans = take_in(out, plans, slots, answer, &tree[..t]);
         solved += 1;
     }

@@ -1,16 +1,12 @@
-// A network with the grid of its positions: the places and values of a position, and what the answer there settles.
-ghost use Rattle.std.specs.Prelude.{◌≡◌, length, take};
+// A network with the grid of its positions: the places and values of a position.
+ghost use Rattle.std.specs.Prelude.{◌≡◌, length};
 ghost use Rattle.network.specs.Walk as spec;
 ghost use Rattle.marking.specs.Gridded.{Gridded, network};
 ghost use Rattle.walk_visit.specs.Found.{Within, bounds_at};
 ghost use Rattle.walk_visit.specs.Position.{Locatable, places_at};
-ghost use Rattle.walk_visit.specs.Answered.{Partable, Reaches, settled_by, sides_by};
 
-use crate::sides::{put_last_sides, put_own_sides};
 use marking::grid::{Grid, put_places};
-use marking::mark::{Side, mark_box};
-use network::capacities::CEILINGS_HELD;
-use network::{Costs, Net, Refusal};
+use network::Net;
 
 // A network, the different values of each ceiling at the front of its part of `values`, which holds m for each, and their grid.
 #[derive(Clone, Copy)]
@@ -42,44 +38,5 @@ impl GriddedNet<'_> {
         let sides = self.grid.sides;
         put_places(n, &sides[..self.net.shape.p as usize], places);
         put_bounds(self.values, self.net.shape.m, places, bounds);
-    }
-
-    // The sides of the box that the answer at some places settles.
-    fn sides_by(self, places: &[usize], answer: Result<Costs, Refusal>) -> [Side; CEILINGS_HELD]
-        requires { Partable self.net.shape self.values.now self.grid places.now }
-        ensures { take self.entry.net.shape.p result
-            ≡ sides_by self.entry.net.shape self.entry.values.now self.entry.grid places.now answer }
-    {
-        let p = self.net.shape.p as usize;
-        let mut sides = self.grid.sides;
-        match answer {
-            Ok(costs) => {
-                let y = costs.y;
-                put_own_sides(
-                    self.values,
-                    self.net.shape.m,
-                    places,
-                    &y[..p],
-                    &mut sides[..p],
-                );
-            }
-            Err(_) => put_last_sides(places, &mut sides[..p]),
-        }
-        sides
-    }
-
-    // Marks the positions that the answer at position n settles.
-    pub fn settle(
-        self,
-        marks: &mut [bool],
-        n: usize,
-        places: &[usize],
-        answer: Result<Costs, Refusal>,
-    )
-        requires { Reaches self.net.shape self.values.now self.grid places.now n answer (length marks.old) }
-        ensures { marks.new ≡ settled_by self.entry.net.shape self.entry.values.now self.entry.grid places.now n answer marks.old }
-    {
-        let sides = self.sides_by(places, answer);
-        mark_box(marks, n, &sides[..self.net.shape.p as usize]);
     }
 }

@@ -7,5 +7,8 @@ pub mod gridded;
 // The sides of the boxes that answers settle.
 mod sides;
 
+// What an answer settles, marked.
+pub mod settling;
+
 // The plan of an answer taken in.
 pub mod taking;

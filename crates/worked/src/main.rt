@@ -75,35 +75,33 @@ fn obey(out: &mut Vec<u8>, yard: &mut Yard, line: &Line, alloc: Global) -> io::R
     Ok(())
 }
 
-// What stands before each colon, and a colon.
-fn label(out: &mut Vec<u8>, line: &[u8]) -> io::Result<()> {
+// What stands before each colon, and a colon. That a write fails is nothing that the program reports.
+fn label<W: Write>(output: &mut W, line: &[u8]) {
     for (at, byte) in line.iter().enumerate() {
         if *byte == b':' {
-            out.extend_from_slice(&line[..at])?;
-            out.extend_from_slice(b": ")?;
+            let _label = output.write_all(&line[..at]);
+            let _colon = output.write_all(b": ");
         }
     }
-    Ok(())
 }
 
-// What the lines print: their labels, and what calls reply. A last line that does not end is not obeyed.
-fn run(input: &[u8], alloc: Global) -> io::Result<Vec<u8>> {
-    let mut out = Vec::new(alloc);
+// Prints what the lines print, each as it is read, so that no more than the replies of one line is held: their labels, and what calls reply. A last line
+// that does not end is not obeyed.
+fn run<W: Write>(input: &[u8], output: &mut W, alloc: Global) -> io::Result<()> {
     let mut yard = Yard::new();
     for line in input.split_inclusive(|byte| *byte == b'\n') {
-        label(&mut out, line)?;
+        label(output, line);
         if let Some(whole) = line.strip_suffix(b"\n") {
             let text = whole.rsplit(|byte| *byte == b':').next().unwrap_or(whole);
+            let mut out = Vec::new(alloc);
             obey(&mut out, &mut yard, &Line::from(text), alloc)?;
+            let _written = output.write_all(&out);
         }
     }
-    Ok(out)
+    Ok(())
 }
 
-// That a write fails is nothing that the program reports.
 fn main(rt: HostRuntime) -> io::Result<()> {
     let input = console::read_input(rt.stdin(), ROOM, rt.alloc())?;
-    let text = run(&input, rt.alloc())?;
-    let _written = io::writer(&rt).write_all(&text);
-    Ok(())
+    run(&input, &mut io::writer(&rt), rt.alloc())
 }

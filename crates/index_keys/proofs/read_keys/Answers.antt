@@ -1,10 +1,11 @@
 -- `index_keys::read_keys` meets its contract: what a loop reads plan by plan.
 use Rattle.std.proofs.Common.{rules, sym, ap, ◌∙◌, arith, ℕ}
+use mathlib.Core.Path.{subst⁻¹}
 use Rattle.std.proofs.lemmas.List.{set-get_or}
 use Rattle.network.specs.PlanList.{plan_mark, plan_size}
 use Rattle.network.specs.Fetching.{head_ceilings, head_tree_size}
 use Rattle.planlist_fetching.specs.Found.{whole}
-use Rattle.index_keys.specs.Key.{slots-least}
+use Rattle.index_keys.specs.Key.{KeysRead, slots-least}
 use Rattle.index_keys.specs.Reading.{reading-end, reading-inside, reading-start, reading-stops, reading-turn}
 use Rattle.index_keys.proofs.read_keys.Goals as goal
 
@@ -23,7 +24,8 @@ mark_at-requires c = omega (arith, reading-inside c.loop-key.invariant (omega (a
 pub returns-then-not-mark_at : goal.returns-then-not-mark_at
 returns-then-not-mark_at c =
     let mark = c.plan_mark-mark.ensures ∙ ap plan_mark c.plan_slots-slots.ensures.0 in
-    rw (set-get_or c.loop-key.key-items c.loop-key.key-index 0, c.of.ensures) (reading-stops c.loop-key.invariant (omega (arith, c.loop-key.auto)) mark (sym c.if-not-mark_at.true ∙ c.mark_at.ensures))
+    let stops = reading-stops c.loop-key.invariant (omega (arith, c.loop-key.auto)) mark (sym c.if-not-mark_at.true ∙ c.mark_at.ensures) in
+    rw (set-get_or c.loop-key.key-items c.loop-key.key-index 0) (subst⁻¹ (KeysRead _ _) (search rules) stops)
 
 pub key_at-requires : goal.key_at-requires
 key_at-requires c =

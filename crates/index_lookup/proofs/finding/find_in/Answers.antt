@@ -15,7 +15,7 @@ answer : (c : After-ok_or) → cheapest_by c.args.keys.now (raised16 (bits_of w1
 unfolding bits_of
 answer c =
     let bits = rw (to_z-of_z c.ranges.y) at c.cast_unsigned.ensures in
-    sym (c.cheapest_plan.ensures.0 ∙ ap (cheapest_by c.args.keys.now) (c.raised16.ensures ∙ ap raised16 bits))
+    sym (c.cheapest_plan.ensures.0 ∙ ap (cheapest_by c.args.keys.now) (c.raised16-bound.ensures ∙ ap raised16 bits))
 
 pub returns-then-not-holds_index : goal.returns-then-not-holds_index
 returns-then-not-holds_index c =

@@ -21,5 +21,5 @@ returns c =
     let a = c.args in
     let before = key_before a.keys.now in
     all_from_yields_List (λ r. before (u16_at a.index.now ((r - 1) * 2)) (u16_at a.index.now (r * 2))) _ _ c.all.result c.all.ensures.ran
-    (YieldsList-from_range 1 a.n (a.n - 1) refl refl) (λ x b q k. search (rules, tests))
+    (YieldsList-from_range 1 _ (a.n - 1) refl (omega arith)) (λ x b q k. search (rules, tests))
     ∙ read-rises a.index.now a.n before

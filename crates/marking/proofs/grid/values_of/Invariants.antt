@@ -8,4 +8,6 @@ use Rattle.marking.specs.Parts.{Filled}
 use Rattle.marking.proofs.grid.values_of.Given as goal
 
 abbrev pub invariant-loop-i : goal.invariant-loop-i
-invariant-loop-i l = (length l.values ≡ length l.initial.values) × (length l.counts ≡ ceilings_held) × (l.from ≡ l.i * l.m) × Filled (usable_at l.net.shape.rest l.net.ends.now) l.m l.net.costs.now l.values l.counts l.i
+invariant-loop-i l =
+    (length l.values ≡ length l.initial.values) × (length l.counts ≡ ceilings_held) × (l.from ≡ l.i * l.m)
+    × Filled (usable_at l.shape.rest l.ends) l.m l.costs l.values l.counts l.i

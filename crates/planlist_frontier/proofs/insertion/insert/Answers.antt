@@ -59,13 +59,13 @@ free_place-requires c =
       c.requires.writable.held,
     )
 
-pub returns-in-None : goal.returns-in-None
-returns-in-None c =
+pub returns-in_default : goal.returns-in_default
+returns-in_default c =
     let a = c.args in
     let t = length a.links.now in
     let stored = plan_records a.slots t a.count a.plans.now in
     let counted = length-blocks (plan_size a.slots t) a.count a.plans.now in
-    let e = sym (ap (free_place a.slots a.v) (stored-are ((goal.at.returns-in-None c).After-plan_size-size))) ∙ c.in-None.ensures in
+    let e = sym (ap (free_place a.slots a.v) (stored-are ((goal.at.returns-in_default c).After-plan_size-size))) ∙ c.in_default.ensures in
     let covered = free-covered a.slots a.v stored c.requires.rise c.requires.level (omega (arith, counted, e)) in
     record {
       writable = c.requires.writable;
@@ -100,14 +100,14 @@ put-requires c =
       c.requires.few-links,
     )
 
-pub returns-in-Some : goal.returns-in-Some
-returns-in-Some c =
+pub returns : goal.returns
+returns c =
     let a = c.args in
     let t = length a.links.now in
     let i = c.in-Some.front in
     let few = c.in-Some.ensures.0 in
-    let room = fits ((goal.at.returns-in-Some c).In-Some) in
-    let e = sym (ap (free_place a.slots a.v) (stored-are ((goal.at.returns-in-Some c).After-plan_size-size))) ∙ c.in-Some.ensures.1 in
+    let room = fits ((goal.at.returns c).In-Some) in
+    let e = sym (ap (free_place a.slots a.v) (stored-are ((goal.at.returns c).After-plan_size-size))) ∙ c.in-Some.ensures.1 in
     let is_free = free a.slots t a.count i a.v a.plans.now c.requires e few in
     let d = a.plans.now in
     let links = a.links.now in

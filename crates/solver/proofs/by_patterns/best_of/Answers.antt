@@ -5,7 +5,7 @@ use Rattle.order.specs.Lists.{filter}
 use Rattle.kruskal.specs.Base.{Based}
 use Rattle.exceptions.specs.Patterns.{normal}
 use Rattle.search_trials.specs.BaseAlone.{lead-flagged}
-use Rattle.solver.specs.Assembled.{assembled, base-distinct, base-in-order, base-ready, base-trial, found-reports, none-reports, rows-each}
+use Rattle.solver.specs.Assembled.{assembled, base-distinct, base-in-order, base-ready, base-trial, found-reports, none-reports}
 use Rattle.solver.specs.Assembled.{normals-in-order, normals-joinable}
 use Rattle.solver.proofs.by_patterns.best_of.Goals as goal
 use Rattle.solver.proofs.by_patterns.best_of.Goals.{After-put_base-kept}
@@ -35,12 +35,7 @@ invariant_of-basis c =
     let base = based ((goal.at.invariant_of-basis c).After-put_base-kept) in
     let v = normals-in-order _ p.1 in
     let j = normals-joinable _ p.3 in
-    record {
-      ready = base-ready p.0 v j base;
-      each = rows-each base;
-      sorted = rw base.links (base-in-order p.0 v j).sorted;
-      distinct = rw base.links (base-distinct p.0 v j);
-    }
+    record { ready = base-ready p.0 v j base }
 
 pub rest_of-requires : goal.rest_of-requires
 unfolding sum_of
@@ -50,13 +45,28 @@ rest_of-requires c =
 
 pub invariant_of-s : goal.invariant_of-s
 invariant_of-s c =
+    let p = c.requires in
     let base = based ((goal.at.invariant_of-s c).After-put_base-kept) in
-    record { patterned = c.requires.2; base_alone = rw base.links (base-trial base c.trial_of.ensures); beside = c.rest_of.ensures }
+    let v = normals-in-order _ p.1 in
+    let j = normals-joinable _ p.3 in
+    record {
+      sorted = rw base.links (base-in-order p.0 v j).sorted;
+      distinct = rw base.links (base-distinct p.0 v j);
+      base_alone = rw base.links (base-trial base c.trial_of.ensures);
+      beside = c.rest_of.ensures;
+    }
 
 pub best_from-requires : goal.best_from-requires
 best_from-requires c =
     let p = c.requires in
-    (p.1, p.3, c.slack_of-largest.ensures, omega (arith, c.slack_of-largest.ensures, p.4), rw c.base_alone.ensures (lead-flagged _ _))
+    (p.2, p.1, p.3, c.slack_of-largest.ensures, omega (arith, c.slack_of-largest.ensures, p.4), rw c.base_alone.ensures (lead-flagged _ _))
+
+pub put_flags-requires : goal.put_flags-requires
+put_flags-requires c =
+    let at = (goal.at.put_flags-requires c).After-put_base-kept in
+    let p = at.requires in
+    let base = based at in
+    (p.5, rw base.links (base-distinct p.0 (normals-in-order _ p.1) (normals-joinable _ p.3)), c.in_ok-best.ensures.1)
 
 pub returns-in_err-best : goal.returns-in_err-best
 returns-in_err-best c =

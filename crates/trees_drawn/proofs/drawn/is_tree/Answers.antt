@@ -10,4 +10,6 @@ returns-then-links-shape c =
 
 pub returns-else-links-shape : goal.returns-else-links-shape
 returns-else-links-shape c =
-    ne_eqb _ _ c.if-links-shape.false ∙ size-drawn c.args.shape _ c.requires c.args.links.now c.if-links-shape.false
+    let no = ne_eqb _ _ c.if-links-shape.false in
+    let none = size-drawn c.args.shape _ c.requires c.args.links.now c.if-links-shape.false in
+    cc

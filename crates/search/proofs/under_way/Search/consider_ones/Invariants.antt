@@ -5,8 +5,8 @@ use Rattle.search_trials.specs.Stands.{best_by}
 use Rattle.search.specs.Loops.{tried_ones}
 use Rattle.search.proofs.under_way.Search.consider_ones.Given as goal
 
-abbrev pub invariant-loop-link : goal.invariant-loop-link
-invariant-loop-link l =
+abbrev pub invariant-loop-i : goal.invariant-loop-i
+invariant-loop-i l =
     let b = l.self.basis in
     let tried = tried_ones b.ends.now b.sums.now l.self.goal b.base.now in
-    IfSome l.best Flagged × (tried (best_by b.base.now l.best) l.odd l.link-index ≡ tried (best_by b.base.now l.initial.best) l.odd 0)
+    IfSome l.best Flagged × (tried (best_by b.base.now l.best) l.odd l.i ≡ tried (best_by b.base.now l.initial.best) l.odd 0)

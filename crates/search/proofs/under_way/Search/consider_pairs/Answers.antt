@@ -10,7 +10,7 @@ use Rattle.search.proofs.under_way.Search.consider_pairs.Goals.{Start, In-loop-o
 
 -- the first link of each pair
 first : (c : Start) → Joining c.args.self.now.basis.ends.now c.args.self.now.basis.sums.now c.args.link
-first c = joining-at c.requires.0 0 (omega arith)
+first c = joining-at c.requires.1 0 (omega arith)
 
 -- the place of the other in the list
 within : (c : In-loop-other) → suc c.loop-other.other-index < length (c.args.link ∷ c.args.later.now)
@@ -18,24 +18,24 @@ within c = omega arith
 
 -- the other
 other : (c : In-loop-other) → Joining c.args.self.now.basis.ends.now c.args.self.now.basis.sums.now (get_or c.args.later.now c.loop-other.other-index 0)
-other c = joining-at c.requires.0 (suc c.loop-other.other-index) (within c)
+other c = joining-at c.requires.1 (suc c.loop-other.other-index) (within c)
 
 -- what is left of the base beside both
 rest : (c : Start) → let s = c.args.self.now in s.rest ≡ rest_of s.basis.sums.now s.basis.base.now s.goal 2
-rest c = rw c.requires.1 at c.args.self.now.beside
+rest c = rw c.requires.2 at c.args.self.now.beside
 
 -- both costs are in range
 costs : (c : After-sum_at) → c.sum_at-cost.result + c.sum_at.result ≤ 2 * sum_held
 costs c =
-    let first = joining-at c.requires.0 0 (omega arith) in
-    let other = joining-at c.requires.0 (suc c.loop-other.other-index) (omega arith) in
+    let first = joining-at c.requires.1 0 (omega arith) in
+    let other = joining-at c.requires.1 (suc c.loop-other.other-index) (omega arith) in
     omega (arith, first.usable.cheap, other.usable.cheap, c.sum_at-cost.ensures, c.sum_at.ensures)
 
 pub sum_at-cost-requires : goal.sum_at-cost-requires
 sum_at-cost-requires c = (first ((goal.at.sum_at-cost-requires c).Start)).usable.below
 
 pub loop-other-init : goal.loop-other-init
-loop-other-init c = (c.requires.3, refl)
+loop-other-init c = (c.requires.4, refl)
 
 pub sum_at-requires : goal.sum_at-requires
 sum_at-requires c = (other ((goal.at.sum_at-requires c).In-loop-other)).usable.below
@@ -51,19 +51,19 @@ pub returns-then-loses : goal.returns-then-loses
 returns-then-loses c =
     let v = c.loop-other.invariant in
     let lost = by-loses c.args.self.now.basis.base.now c.loop-other.best c.args.self.now.rest (c.sum_at-cost.result + c.sum_at.result) (sym c.loses.ensures ∙ c.if-loses.true) in (
-      pairs-lose _ _ _ _ _ _ c.args.self.now.basis.sorted _ _ _ _ _ _ _ c.requires.0.order.sorted (within ((goal.at.returns-then-loses c).In-loop-other))
+      pairs-lose _ _ _ _ _ _ c.args.self.now.sorted _ _ _ _ _ _ _ c.requires.1.order.sorted (within ((goal.at.returns-then-loses c).In-loop-other))
           (rest ((goal.at.returns-then-loses c).Start)) c.sum_at-cost.ensures c.sum_at.ensures lost v.1,
       v.0,
     )
 
 pub fit_together-requires : goal.fit_together-requires
 fit_together-requires c =
-    ((first ((goal.at.fit_together-requires c).Start)).usable.below, (other ((goal.at.fit_together-requires c).In-loop-other)).usable.below)
+    (c.requires.0, (first ((goal.at.fit_together-requires c).Start)).usable.below, (other ((goal.at.fit_together-requires c).In-loop-other)).usable.below)
 
 pub with_two-two-requires : goal.with_two-two-requires
 with_two-two-requires c =
     let ringless = fitting-ringless _ _ _ _ _ _ (sym c.fit_together.ensures ∙ c.if-fit_together.true) in
-    (first ((goal.at.with_two-two-requires c).Start), other ((goal.at.with_two-two-requires c).In-loop-other), c.requires.2, ringless)
+    (first ((goal.at.with_two-two-requires c).Start), other ((goal.at.with_two-two-requires c).In-loop-other), c.requires.3, ringless)
 
 pub compete-requires : goal.compete-requires
 compete-requires c = (c.loop-other.invariant.0, c.with_two-two.ensures.1)

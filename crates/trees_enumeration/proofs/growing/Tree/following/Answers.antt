@@ -3,7 +3,7 @@ use mathlib.Core.Path.{sym, ◌∙◌}
 use native.Mathlib.Omega.{arith}
 use borrow.Author.Rules.{rules}
 use Rattle.trees_enumeration.specs.Enumerated.{ahead-none}
-use Rattle.trees_enumeration.specs.Growing.{Roomy, back-standing, later-coming, later-none, roomy, whole-left}
+use Rattle.trees_enumeration.specs.Growing.{Roomy, later-coming, later-none, roomy, whole-standing}
 use Rattle.trees_enumeration.specs.Taken.{last-none, last-some}
 use Rattle.trees_enumeration.proofs.growing.Tree.following.Goals as goal
 
@@ -18,7 +18,7 @@ grow-requires c =
     let room : Roomy tree.shape tree.taken.links tree.taken.history = roomy tree.growable (search rules) (search rules) in
     let left = c.in_ok-last.ensures in
     let last = last-some _ _ left.link in
-    (tree.growable, rw (left.others.0, left.others.1, left.others.2, last.1) (back-standing _ _ tree.growable room (whole-left tree.whole) last.0))
+    (tree.growable, rw (left.others.0, left.others.1, left.others.2, last.1) (whole-standing _ _ tree.growable room last.0 tree.whole))
 
 pub returns : goal.returns
 returns c =

@@ -3,7 +3,7 @@ use native.Mathlib.Omega.{arith}
 use lib.ListN.{length, length-set}
 use Rattle.order.specs.Columns.{tabled}
 use Rattle.order.proofs.Columns.{tabled-end, tabled_start, tabled-turn}
-use Rattle.index_building.proofs.entries.count_up.Goals as goal
+use Rattle.index_building.proofs.ordering.count_up.Goals as goal
 
 pub loop-r-init : goal.loop-r-init
 loop-r-init c = let a = c.args.numbers in (tabled_start (λ x. x) a.now, omega arith, refl)

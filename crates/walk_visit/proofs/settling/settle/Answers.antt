@@ -1,10 +1,10 @@
--- `walk_visit::gridded::GriddedNet::settle` meets its contract: the box with the sides of the answer is marked.
+-- `walk_visit::settling::settle` meets its contract: the box with the sides of the answer is marked.
 use mathlib.Core.List.{List}
 use mathlib.Core.Path.{ap, ◌∙◌}
 use Rattle.marking.specs.Paint.{paint}
 use Rattle.marking.specs.declared.mark.Side.{Side}
 use Rattle.walk_visit.specs.Answered.{settled_by}
-use Rattle.walk_visit.proofs.gridded.GriddedNet.settle.Goals as goal
+use Rattle.walk_visit.proofs.settling.settle.Goals as goal
 
 pub returns : goal.returns
 unfolding settled_by

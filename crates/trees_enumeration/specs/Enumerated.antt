@@ -1,25 +1,22 @@
 -- The trees of a yard from one that was found on.
-use Rattle.std.specs.Prelude.{ℕ, ◌≡◌, List, [], ◌∷◌, Option, Some, None, take}
-use Rattle.trees_enumeration.specs.Growing.{later}
-use Rattle.trees_enumeration.specs.declared.growing.Tree.{Tree}
+use Rattle.std.specs.Prelude.{ℕ, ◌≡◌, List, [], ◌∷◌, true, false, take}
+use Rattle.trees_enumeration.specs.Growing.{ahead_from, from-none, from-some, later}
+use Rattle.trees_enumeration.specs.declared.growing.Trees.{Trees}
 
 -- its links
-abbrev pub links_of : Tree → List ℕ
-links_of tree = take tree.shape.t tree.taken.links
+abbrev pub links_of : Trees → List ℕ
+links_of trees = take trees.shape.t trees.taken.links
 
 -- the trees after it
-abbrev pub later_than : Tree → List (List ℕ)
-later_than tree = later tree.shape tree.ends.now tree.taken.links
+abbrev pub later_than : Trees → List (List ℕ)
+later_than trees = later trees.shape trees.ends.now trees.taken.links
 
 -- the trees from it on, where one was found
-unfoldable pub ahead : Option Tree → List (List ℕ)
-ahead None = []
-ahead (Some tree) = links_of tree ∷ later_than tree
+abbrev pub ahead : Trees → List (List ℕ)
+ahead trees = ahead_from trees.shape trees.ends.now trees.found trees.taken.links
 
-pub ahead-none : {found : Option Tree} → found ≡ None → [] ≡ ahead found
-unfolding ahead
-ahead-none e = rw e
+pub ahead-some : (trees : Trees) → trees.found ≡ true → ahead trees ≡ links_of trees ∷ later_than trees
+ahead-some trees = from-some trees.shape trees.ends.now trees.taken.links
 
-pub ahead-some : {found : Option Tree} (tree : Tree) → found ≡ Some tree → ahead found ≡ links_of tree ∷ later_than tree
-unfolding ahead
-ahead-some tree e = rw e
+pub ahead-none : (trees : Trees) → trees.found ≡ false → ahead trees ≡ []
+ahead-none trees = from-none trees.shape trees.ends.now trees.taken.links

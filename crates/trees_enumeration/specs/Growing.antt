@@ -1,14 +1,15 @@
 -- Where the search through the trees of a yard stands: the links that are taken, the groups after each of them, and the link that is looked at next.
-use Rattle.std.specs.Prelude.{Bool, true, false, ◌&&◌, ◌⊎◌, ◌≡◌, ℕ, zero, suc, ◌+◌, ◌*◌, ◌-◌, ◌^◌, ◌≤◌, ◌<◌, ℤ}
+use Rattle.std.specs.Prelude.{Bool, true, false, ◌&&◌, not, eqb, ◌⊎◌, ◌≡◌, ℕ, zero, suc, ◌+◌, ◌*◌, ◌-◌, ◌^◌, ◌≤◌, ◌<◌, ℤ}
 use mathlib.Core.List.Memᴰ
 use mathlib.Core.List.Memᴰ.{head as here}
 use mathlib.Core.List.{List, [], ◌∷◌, ◌++◌, map}
-use Rattle.std.proofs.Common.{inl, inr, le-leb, lt-ltb, ◌∙◌, subst, add-one, take-suc, take-suc-set}
+use Rattle.std.proofs.Common.{inl, inr, ◌∙◌, subst, add-one, take-suc, take-suc-set}
 use Rattle.std.proofs.Math.Path.{refl, sym, ap, ap₂, subst⁻¹}
 use Rattle.std.proofs.Math.Nat.{pow-le-pow_right, sub-zero}
 use native.Mathlib.Omega.{arith}
 use Rattle.std.proofs.Math.ListN.{get_or, length, length-set, set, take}
-use Rattle.std.proofs.Math.Seq.{length-take-le}
+use Rattle.std.proofs.Math.Seq.{get_or-set_same, length-take-le, take-set-le}
+use Rattle.order.specs.Test.{clash}
 use Rattle.order.specs.Lists.{◌∈◌}
 use Rattle.spanning.proofs.Branches.{branches-all, come-back, come-empty, come-left, come-none, come-taken, come-whole, fewer-back, fewer-left, fewer-taken}
 use Rattle.spanning.specs.Branches.{steps_to_come, takes, to_come}
@@ -23,12 +24,10 @@ use Rattle.network.proofs.Resting.{joins-within, working-apart, working-few}
 use Rattle.network.specs.Shaped.{Plannable}
 use Rattle.network.specs.Yard.{ends_at, usable_at, working}
 use Rattle.network.specs.declared.Shape.{Shape}
-use Rattle.forest.specs.Groups.{Led, joined}
+use Rattle.forest.specs.Groups.{Led, joined, leaders-joined, leaders-test}
 use Rattle.forest.specs.History.{groups-labels, groups-led, groups-more, groups_after}
 use Rattle.forest.specs.declared.Forest.{Forest}
-use Rattle.trees_drawn.specs.Drawing.{keeps, with_link}
 use Rattle.trees_drawn.specs.Drawn.{Drawable, drawable}
-use Rattle.trees_drawn.specs.declared.drawing.Drawn.{Drawn}
 use Rattle.trees_enumeration.specs.History.{Recorded, groups-recorded, groups_at, recorded-fewer, recorded_more}
 
 -- all trees of a shape and its ends, in dictionary order
@@ -62,9 +61,9 @@ pub roomy : {shape : Shape} {ends links : List ℕ} {history : List Forest} → 
     → Roomy shape links history
 roomy can e f = record { room = omega (arith, can.small, e); rows = omega (arith, can.small, f) }
 
--- the first `taken` of the links are taken, no more than a tree has, with the groups after each of them, and `link` is looked at next
+-- the first `taken` of the links are taken, fewer than a tree has, with the groups after each of them, and `link` is looked at next
 pub record Standing (m t : ℕ) (ends : List ℕ) (taken link : ℕ) (links : List ℕ) (history : List Forest) : Type 0 where
-  pub fewer : taken ≤ t
+  pub fewer : taken ≤ t - 1
   pub inside : link ≤ m
   pub known : (c : ℕ) → c ∈ take taken links → c < m
   pub rows : Recorded ends (take taken links) history
@@ -86,6 +85,31 @@ later_by (suc k) shape ends links = coming shape.rest shape.m shape.t ends k (su
 
 unfoldable pub later : Shape → List ℕ → List ℕ → List (List ℕ)
 later shape ends links = later_by shape.t shape ends links
+
+-- the trees from the one that is the first t of the links on, where there is one
+unfoldable pub ahead_from : Shape → List ℕ → Bool → List ℕ → List (List ℕ)
+ahead_from shape ends true links = take shape.t links ∷ later shape ends links
+ahead_from shape ends false links = []
+
+-- a search through some trees has come to the first of them, or has found that there is none
+pub record Reached (shape : Shape) (ends : List ℕ) (all : List (List ℕ)) (found : Bool) (taken : ℕ) (links : List ℕ) (history : List Forest) : Type 0 where
+  pub trees : all ≡ ahead_from shape ends found links
+  pub whole : found ≡ true → Whole shape ends taken links history
+
+-- the same trees, found from elsewhere on
+pub reached-from : {shape : Shape} {ends : List ℕ} {from all : List (List ℕ)} {found : Bool} {taken : ℕ} {links : List ℕ} {history : List Forest} → all ≡ from
+    → Reached shape ends all found taken links history → Reached shape ends from found taken links history
+reached-from e r = record { trees = sym e ∙ r.trees; whole = r.whole }
+
+-- what is ahead of a tree that was found, and of none
+module _ (shape : Shape) (ends links : List ℕ) {found : Bool} where
+  pub from-some : found ≡ true → ahead_from shape ends found links ≡ take shape.t links ∷ later shape ends links
+  unfolding ahead_from
+  from-some e = rw e
+
+  pub from-none : found ≡ false → ahead_from shape ends found links ≡ []
+  unfolding ahead_from
+  from-none e = rw e
 
 -- of at most 12 links there are no more trees than sets of links
 pub trees-limit : (shape : Shape) (ends : List ℕ) → shape.m ≤ max_enumerated → length (trees_in shape ends) ≤ 2 ^ max_enumerated
@@ -136,6 +160,16 @@ module _ (shape : Shape) (ends : List ℕ) (can : Growable shape ends) where
       (working-apart shape.n shape.rest)
       (λ c h u. let w = d.within c h in joins-within shape.n shape.rest (ends_at ends c) w.0 w.1 u))
 
+  -- before all links
+  pub standing-none : (links : List ℕ) (history : List Forest) → Standing shape.m shape.t ends 0 0 links history
+  standing-none links history =
+      record {
+        fewer = omega arith;
+        inside = omega arith;
+        known = λ c m. elim m [ ];
+        rows = record { room = omega arith; row = λ k h. absurd (omega arith) };
+      }
+
   -- the trees to come, by what is taken
   abbrev come : List ℕ → ℕ → List (List ℕ)
   come ts k = to_come (ends_at ends) (usable_at shape.rest ends) identity shape.m shape.t ts k
@@ -172,39 +206,33 @@ module _ (shape : Shape) (ends : List ℕ) (can : Growable shape ends) where
       pub led-here : {f : Forest} → f ≡ groups_after ends (take taken links) → Led f
       led-here is = subst⁻¹ Led is (groups-led ends (take taken links) near)
 
-      -- as many are taken as a tree has
-      pub whole : shape.t ≤ taken → Whole shape ends taken links history
-      whole h =
-          let all : taken ≡ shape.t = omega (arith, at.fewer) in
+      -- no links are a tree
+      pub reached-empty : shape.t ≤ taken → Reached shape ends (coming shape.rest shape.m shape.t ends taken link links) true taken links history
+      unfolding coming ahead_from later later_by
+      reached-empty h =
+          let none : taken ≡ 0 = omega (arith, at.fewer) in
+          let size : shape.t ≡ 0 = omega (arith, at.fewer) in
+          let all : shape.t ≡ taken = omega arith in
+          let rows : shape.t - 1 ≡ taken = omega arith in
           record {
-            all = all;
-            known = λ c m. at.known c (subst⁻¹ (λ (n : ℕ). c ∈ take n links) all m);
-            rows = go shape.t (omega (arith, lent.room)) (subst (λ (n : ℕ). Recorded ends (take n links) history) all at.rows);
+            trees = rw (none, size) (come-empty (ends_at ends) (usable_at shape.rest ends) identity shape.m link);
+            whole = λ q. record {
+              all = sym all;
+              known = λ c m. at.known c (subst (λ (n : ℕ). c ∈ take n links) all m);
+              rows = rw rows at.rows;
+            };
           }
-        where
-          go : (t : ℕ) → t ≤ length links → Recorded ends (take t links) history → Recorded ends (take (t - 1) links) history
-          go zero h rows = rows
-          go (suc k) h rows =
-              let e : suc k - 1 ≡ k = omega arith in
-              rw e (recorded-fewer ends (take k links) (get_or links k 0) history
-              (subst (λ (ts : List ℕ). Recorded ends ts history) (take-suc links k 0 (omega arith)) rows))
-
-      pub whole-coming : shape.t ≤ taken → coming shape.rest shape.m shape.t ends taken link links ≡ take shape.t links ∷ later shape ends links
-      unfolding coming later later_by
-      whole-coming h = let all : taken ≡ shape.t = omega (arith, at.fewer) in rw all (go shape.t refl)
-        where
-          go : (t : ℕ) → t ≡ shape.t → come (take t links) link ≡ take t links ∷ later_by t shape ends links
-          go zero e = rw (← e) (come-empty (ends_at ends) (usable_at shape.rest ends) identity shape.m link)
-          go (suc k) e =
-              let l : take (suc k) links ≡ take k links ++ (get_or links k 0 ∷ []) = take-suc links k 0 (omega (arith, lent.room)) in
-              let size : length (take k links) ≡ k = length-take-le k links (omega (arith, lent.room)) in
-              rw l (come-whole (ends_at ends) (usable_at shape.rest ends) identity shape.m shape.t (take k links) (get_or links k 0) link (omega arith))
 
       -- too few links are left, and none is taken
-      pub none-coming : shape.m - link < shape.t - taken → taken ≡ 0 → coming shape.rest shape.m shape.t ends taken link links ≡ []
-      unfolding coming
-      none-coming few e =
-          ap (λ (n : ℕ). come (take n links) link) e ∙ come-none (ends_at ends) (usable_at shape.rest ends) identity shape.m shape.t link (omega arith)
+      pub reached-none : shape.m - link < shape.t - taken → taken ≡ 0 → {taken' : ℕ} {links' : List ℕ} {history' : List Forest}
+          → Reached shape ends (coming shape.rest shape.m shape.t ends taken link links) false taken' links' history'
+      unfolding coming ahead_from
+      reached-none few e =
+          record {
+            trees = ap (λ (n : ℕ). come (take n links) link) e
+                ∙ come-none (ends_at ends) (usable_at shape.rest ends) identity shape.m shape.t link (omega arith);
+            whole = λ q. clash q refl;
+          }
 
       -- the last link taken is left instead
       module _ (some : 0 < taken) where
@@ -245,16 +273,14 @@ module _ (shape : Shape) (ends : List ℕ) (can : Growable shape ends) where
         link-known = omega (arith, at.inside)
 
         -- the test of a link, as the program makes it
-        pub test-takes : (f : Forest) → f ≡ groups_after ends (take taken links)
-            → keeps shape.rest ends shape.m (record { groups = f; low = link }) link
-            ≡ takes (ends_at ends) (usable_at shape.rest ends) (merge_all identity (map (ends_at ends) (take taken links))) link
+        pub test-takes : (f : Forest) → f ≡ groups_after ends (take taken links) → {u : Bool} {new old : ℕ} → u ≡ usable_at shape.rest ends link
+            → new ≡ label_of f.leader (ends_at ends link).a → old ≡ label_of f.leader (ends_at ends link).b
+            → u && not (eqb new old) ≡ takes (ends_at ends) (usable_at shape.rest ends) (merge_all identity (map (ends_at ends) (take taken links))) link
         unfolding takes
-        test-takes f is =
-            let low = le-leb link link (omega arith) in
-            let known = lt-ltb link shape.m link-known in
-            rw (low, known)
-            (ap (λ (L : Labelling). usable_at shape.rest ends link && crosses L (ends_at ends link))
-            (ap (λ (g : Forest). label_of g.leader) is ∙ groups-labels ends (take taken links) near))
+        test-takes f is u p q =
+            ap₂ (λ (a b : Bool). a && b) u
+            (leaders-test f _ _ p q
+            ∙ ap (λ (L : Labelling). crosses L (ends_at ends link)) (ap (λ (g : Forest). label_of g.leader) is ∙ groups-labels ends (take taken links) near))
 
         abbrev taking : Bool
         taking = takes (ends_at ends) (usable_at shape.rest ends) (merge_all identity (map (ends_at ends) (take taken links))) link
@@ -286,12 +312,14 @@ module _ (shape : Shape) (ends : List ℕ) (can : Growable shape ends) where
               ∙ ap₂ come (sym more) (sym (add-one link))
 
           -- the groups with it, as the program joins them
-          pub more-groups : (f : Forest) → f ≡ groups_after ends (take taken links) → {d : Drawn} → d ≡ with_link ends (record { groups = f; low = link }) link
-              → d.groups ≡ groups_after ends (take (taken + 1) (set links taken link))
-          unfolding with_link
-          more-groups f is q =
-              ap (λ (d : Drawn). d.groups) q
-              ∙ ap (λ (g : Forest). joined g (ends_at ends link).a (ends_at ends link).b) is
+          pub more-groups : {f f' : Forest} {new old : ℕ} → f ≡ groups_after ends (take taken links) → new ≡ label_of f.leader (ends_at ends link).a
+              → old ≡ label_of f.leader (ends_at ends link).b → f' ≡ joined f new old → f' ≡ groups_after ends (take (taken + 1) (set links taken link))
+          more-groups {f} is p q e =
+              let a = (ends_at ends link).a in
+              let b = (ends_at ends link).b in
+              e
+              ∙ leaders-joined f a b p q (led-here is)
+              ∙ ap (λ (g : Forest). joined g a b) is
               ∙ sym (groups-more ends (take taken links) link)
               ∙ ap (groups_after ends) (sym more)
 
@@ -302,8 +330,41 @@ module _ (shape : Shape) (ends : List ℕ) (can : Growable shape ends) where
               go (inl k) = at.known c k
               go (inr k) = let e = Memᴰ.eq_of_singleton k in omega (arith, link-known)
 
-          -- the groups after it stand behind the others
-          module _ {links' : List ℕ} {history' : List Forest} {f : Forest} (groups : f ≡ groups_after ends (take (taken + 1) (set links taken link)))
+          -- and makes a tree
+          made : taken + 1 ≡ shape.t
+              → Reached shape ends (coming shape.rest shape.m shape.t ends taken link links) true (taken + 1) (set links taken link) history
+          unfolding ahead_from coming
+          made full =
+              let new = set links taken link in
+              let whole : take shape.t new ≡ take taken links ++ (link ∷ []) = ap (λ (n : ℕ). take n new) (sym full) ∙ more in
+              let behind : shape.t - 1 ≡ taken = omega arith in
+              let kept : take taken new ≡ take taken links = take-set-le taken links taken link (omega arith) in
+              let own : get_or new taken 0 ≡ link = get_or-set_same links taken link 0 (omega (arith, lent.room)) in
+              let rest : later shape ends new ≡ come (take taken links) (suc link) =
+              sym (later-coming shape ends new (omega arith))
+              ∙ ap (λ (n : ℕ). coming shape.rest shape.m shape.t ends n (get_or new n 0 + 1) new) behind
+              ∙ ap₂ (λ (ts : List ℕ) (c : ℕ). come ts (c + 1)) kept own
+              ∙ ap (come (take taken links)) (add-one link) in
+              record {
+                trees = more-coming
+                    ∙ ap (λ (ts : List ℕ). come ts (link + 1)) more
+                    ∙ come-whole (ends_at ends) (usable_at shape.rest ends) identity shape.m shape.t (take taken links) link (link + 1)
+                    (omega (arith, count))
+                    ∙ ap₂ (λ (ts : List ℕ) (l : List (List ℕ)). ts ∷ l) (sym whole) (sym rest);
+                whole = λ q. record {
+                  all = full;
+                  known = λ c m. more-known c (subst⁻¹ (λ (n : ℕ). c ∈ take n new) full m);
+                  rows = subst⁻¹ (λ (n : ℕ). Recorded ends (take n new) history) behind (subst⁻¹ (λ (ts : List ℕ). Recorded ends ts history) kept at.rows);
+                };
+              }
+
+          pub reached-whole : taken + 1 ≡ shape.t → {taken' : ℕ} {links' : List ℕ} {history' : List Forest} → links' ≡ set links taken link → history' ≡ history
+              → taken' ≡ taken + 1 → Reached shape ends (coming shape.rest shape.m shape.t ends taken link links) true taken' links' history'
+          reached-whole full e f g = rw (e, f, g) (made full)
+
+          -- or is one of more, and the groups after it stand behind the others
+          module _ (part : ¬ (taken + 1 ≡ shape.t)) {links' : List ℕ} {history' : List Forest} {f : Forest}
+              (groups : f ≡ groups_after ends (take (taken + 1) (set links taken link)))
               (put : links' ≡ set links taken link) (put_groups : history' ≡ set history taken f) where
             pub taken-roomy : Roomy shape links' history'
             taken-roomy =

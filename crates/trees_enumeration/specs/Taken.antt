@@ -8,6 +8,10 @@ use Rattle.trees_enumeration.specs.declared.taken.Taken.{Taken}
 abbrev pub WithMore : Taken → ℕ → Forest → Taken → Type 0
 WithMore t c groups more = (more.links ≡ set t.links t.count c) × (more.history ≡ set t.history t.count groups) × (more.count ≡ t.count + 1)
 
+-- with a last link, and the groups as they were
+abbrev pub WithLast : Taken → ℕ → Taken → Type 0
+WithLast t c more = (more.links ≡ set t.links t.count c) × (more.history ≡ t.history) × (more.count ≡ t.count + 1)
+
 -- the last of the first so many links, if there is one
 unfoldable pub last_at : ℕ → List ℕ → Option ℕ
 last_at zero links = None

@@ -1,39 +1,95 @@
 // The trees of a yard one after another: links are gone through in order, and each that is usable and joins two groups is first taken and later left.
-ghost use Rattle.std.specs.Prelude.{◌≡◌};
-ghost use Rattle.trees_enumeration.specs.Growing.{Growable, Standing, Whole, coming, trees_in};
+ghost use Rattle.std.specs.Prelude.{◌≡◌, true};
+ghost use Rattle.trees_enumeration.specs.Growing.{Growable, Reached, Standing, Whole, coming, trees_in};
 
 use crate::taken::Taken;
 use network::Shape;
-use trees_drawn::drawing::{Drawn, draw};
+use stations::is_usable;
 
-// A tree that was found: its links, from which the search goes on to the next.
+// The trees of a yard, one after another: whether one was found, and its links, from which the search goes on to the next.
 #[derive(Clone, Copy)]
-pub struct Tree<'a> {
+pub struct Trees<'a> {
     pub shape: Shape,
     pub ends: &'a [u8],
     pub taken: Taken,
+    pub found: bool,
     pub ghost growable: { Growable shape ends.now },
-    pub ghost whole: { Whole shape ends.now taken.count taken.links taken.history },
+    pub ghost whole: { found ≡ true → Whole shape ends.now taken.count taken.links taken.history },
 }
 
-impl<'a> Tree<'a> {
+// Goes on from a branch to its first tree, and says whether there is one. The branch has taken some links and looks at `next` next. Where too few links
+// are left, the last one taken is left instead. After the last link of a tree no groups are joined: no link is looked at behind it.
+fn grow(shape: Shape, ends: &[u8], taken: &mut Taken, next: usize) -> bool
+    requires { Growable shape ends.now × Standing shape.m shape.t ends.now taken.old.count next taken.old.links taken.old.history }
+    ensures { Reached shape ends.now (coming shape.rest shape.m shape.t ends.now taken.old.count next taken.old.links) result
+        taken.new.count taken.new.links taken.new.history }
+{
+    let t = shape.t as usize;
+    let mut link = next;
+    let mut groups = taken.groups();
+    while taken.count < t {
+        if shape.m - link < t - taken.count {
+            let Some(last) = taken.leave() else {
+                return false;
+            };
+            link = last as usize + 1;
+            groups = taken.groups();
+        } else {
+            let new = groups.find(ends[2 * link]);
+            let old = groups.find(ends[2 * link + 1]);
+            let joins = is_usable(shape.rest, ends, link) & (new != old);
+            if joins {
+                if taken.count + 1 == t {
+                    taken.close(link as u8);
+                    return true;
+                }
+                groups = groups.join(new, old);
+                taken.take(link as u8, groups);
+                link += 1;
+            } else {
+                link += 1;
+            }
+        }
+    }
+    true
+}
+
+impl<'a> Trees<'a> {
     ghost use Rattle.trees_enumeration.specs.Enumerated.{ahead, later_than, links_of};
 
-    // The first tree of a yard.
-    pub fn first(shape: Shape, ends: &'a [u8]) -> Option<Tree<'a>>
+    // Those of a yard, before the first.
+    pub fn of(shape: Shape, ends: &'a [u8]) -> Trees<'a>
         requires { Growable shape ends.now }
-        ensures { trees_in shape ends.now ≡ ahead result }
+        ensures { (result.shape ≡ shape) × (result.ends.now ≡ ends.now) }
     {
-        Tree::grow(shape, ends, Taken::none(), 0)
+        Trees {
+            shape,
+            ends,
+            taken: Taken::none(),
+            found: false,
+        }
     }
 
-    // The next tree.
-    pub fn following(self) -> Option<Tree<'a>>
-        ensures { later_than self.entry ≡ ahead result }
+    // To the first tree.
+    pub fn first(&mut self)
+        ensures trees { trees_in self.old.shape self.old.ends.now ≡ ahead self.new }
+        ensures yard { (self.new.shape ≡ self.old.shape) × (self.new.ends.now ≡ self.old.ends.now) }
     {
-        let mut taken = self.taken;
-        let last = taken.leave()?;
-        Tree::grow(self.shape, self.ends, taken, last as usize + 1)
+        self.taken.count = 0;
+        self.found = grow(self.shape, self.ends, &mut self.taken, 0);
+    }
+
+    // On to the next tree.
+    pub fn advance(&mut self)
+        requires { self.old.found ≡ true }
+        ensures trees { later_than self.old ≡ ahead self.new }
+        ensures yard { (self.new.shape ≡ self.old.shape) × (self.new.ends.now ≡ self.old.ends.now) }
+    {
+        let last = self.taken.leave();
+        self.found = match last {
+            Some(link) => grow(self.shape, self.ends, &mut self.taken, link as usize + 1),
+            None => false,
+        };
     }
 
     // Its links.
@@ -41,29 +97,5 @@ impl<'a> Tree<'a> {
         ensures { result.now ≡ links_of self.now }
     {
         &self.taken.links[..self.shape.t as usize]
-    }
-
-    // The first tree from a branch on, which has taken some links and looks at `link` next. Where too few are left, the last one taken is left instead.
-    fn grow(shape: Shape, ends: &'a [u8], mut taken: Taken, mut link: usize) -> Option<Tree<'a>>
-        requires { Growable shape ends.now × Standing shape.m shape.t ends.now taken.count link taken.links taken.history }
-        ensures { coming shape.rest shape.m shape.t ends.now taken.count link taken.links ≡ ahead result }
-    {
-        let t = shape.t as usize;
-        let mut groups = taken.groups();
-        while taken.count < t {
-            if shape.m - link < t - taken.count {
-                let last = taken.leave()?;
-                link = last as usize + 1;
-                groups = taken.groups();
-            } else {
-                let drawn = Drawn { groups, low: link };
-                if let Some(more) = draw(drawn, shape.rest, ends, shape.m, link as u8) {
-                    groups = more.groups;
-                    taken.take(link as u8, groups);
-                }
-                link += 1;
-            }
-        }
-        Some(Tree { shape, ends, taken })
     }
 }

@@ -3,7 +3,7 @@ ghost use Rattle.std.specs.Prelude.{◌≡◌, ◌≤◌, length};
 ghost use Rattle.network.specs.Shaped.{net_of};
 ghost use Rattle.trees_enumeration.specs.Numbering.{numbered_after, numbered_by};
 
-use crate::growing::Tree;
+use crate::growing::Trees;
 use buffers::copies::copy_in;
 use network::{Costs, Net, Refusal, Rule};
 use trees_costs::costs::tree_costs;
@@ -14,16 +14,17 @@ pub fn hand_out(net: Net, r: u32, tree: &mut [u8]) -> Result<Costs, Refusal>
     ensures reply { result ≡ numbered_by (net_of net.entry.shape net.entry.ends.now net.entry.sums.now net.entry.costs.now) r }
     ensures leaves { tree.new ≡ numbered_after (net_of net.entry.shape net.entry.ends.now net.entry.sums.now net.entry.costs.now) r tree.old }
 {
-    let mut found = Tree::first(net.shape, net.ends);
+    let mut trees = Trees::of(net.shape, net.ends);
+    trees.first();
     let mut left = r;
-    while let Some(passed) = found {
+    while trees.found {
         if left == 0 {
-            let links = passed.links();
+            let links = trees.links();
             copy_in(tree, 0, links);
             return Ok(tree_costs(net.shape, net.sums, net.costs, links));
         }
         left -= 1;
-        found = passed.following();
+        trees.advance();
     }
     Err(Refusal::of(Rule::NoSuchPlan))
 }

@@ -3,7 +3,7 @@ ghost use Rattle.std.specs.Prelude.{◌≡◌, ◌≤◌, ◌<◌};
 ghost use Rattle.network.specs.Capacities.{tree_held};
 
 use forest::Forest;
-use network::capacities::TREE_HELD;
+use network::capacities::{STATIONS_HELD, TREE_HELD};
 
 // The first `count` of the links are taken, with the groups after each of them. No heap: arrays of the most, and how many there are.
 #[derive(Clone, Copy)]
@@ -16,7 +16,7 @@ pub struct Taken {
 
 impl Taken {
     ghost use Rattle.trees_enumeration.specs.History.{groups_at};
-    ghost use Rattle.trees_enumeration.specs.Taken.{WithMore, WithoutLast, last_of};
+    ghost use Rattle.trees_enumeration.specs.Taken.{WithLast, WithMore, WithoutLast, last_of};
 
     // No link.
     pub fn none() -> Taken
@@ -24,7 +24,9 @@ impl Taken {
     {
         Taken {
             links: [0; TREE_HELD],
-            history: [Forest::new(); TREE_HELD],
+            history: [Forest {
+                leader: [0; STATIONS_HELD],
+            }; TREE_HELD],
             count: 0,
         }
     }
@@ -44,8 +46,18 @@ impl Taken {
         requires { self.old.count < tree_held }
         ensures { WithMore self.old link groups self.new }
     {
+        let at = self.count;
+        self.links[at] = link;
+        self.history[at] = groups;
+        self.count = at + 1;
+    }
+
+    // Takes a last one, after which no groups are asked for.
+    pub fn close(&mut self, link: u8)
+        requires { self.old.count < tree_held }
+        ensures { WithLast self.old link self.new }
+    {
         self.links[self.count] = link;
-        self.history[self.count] = groups;
         self.count += 1;
     }
 

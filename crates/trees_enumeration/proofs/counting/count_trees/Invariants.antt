@@ -6,8 +6,8 @@ use Rattle.trees_enumeration.specs.Enumerated.{ahead}
 use Rattle.trees_enumeration.specs.Growing.{trees_in}
 use Rattle.trees_enumeration.proofs.counting.count_trees.Given as goal
 
-abbrev pub invariant-loop-found : goal.invariant-loop-found
-invariant-loop-found l = l.count + length (ahead l.found) ≡ length (trees_in l.fn.shape l.ends)
+abbrev pub invariant-loop-trees : goal.invariant-loop-trees
+invariant-loop-trees l = l.count + length (ahead l.trees) ≡ length (trees_in l.fn.shape l.ends)
 
-abbrev pub decreases-loop-found : goal.decreases-loop-found
-decreases-loop-found l = length (ahead l.found)
+abbrev pub decreases-loop-trees : goal.decreases-loop-trees
+decreases-loop-trees l = length (ahead l.trees)

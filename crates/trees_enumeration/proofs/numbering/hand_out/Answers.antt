@@ -1,8 +1,8 @@
 -- The trees from number r on, less those still to be passed, are ahead.
-use Prim.Native.Nat.{ℕ, ◌<◌}
+use Prim.Native.Nat.{ℕ, ◌-◌, ◌<◌}
 use mathlib.Core.Bool.{true}
 use mathlib.Core.List.{List}
-use mathlib.Core.Path.{◌≡◌, sym, ap, ◌∙◌, subst}
+use mathlib.Core.Path.{◌≡◌, refl, sym, ap, ◌∙◌, subst}
 use native.Mathlib.Omega.{arith}
 use lib.ListN.{length}
 use Rattle.buffers.specs.Overwrite.{overwrite}
@@ -23,7 +23,8 @@ network a = net_of a.args.net.shape a.args.net.ends.now a.args.net.sums.now a.ar
 
 found : (a : After-links-links) → (a.args.r < tree_count (network a)) × (a.links-links.result.now ≡ tree_at (network a) a.args.r)
 found a =
-    let h = at_last (network a) a.args.r a.loop-found.left a.if-left-eq0.true (a.loop-found.invariant.2 ∙ ahead-some _ a.in-Some.is) in
+    let v = a.loop-trees in
+    let h = at_last (network a) a.args.r v.left a.if-left-eq0.true (v.invariant.2 ∙ ahead-some v.trees a.loop-trees-test.true) in
     (h.0, a.links-links.ensures ∙ sym h.1)
 
 known : (a : After-links-links) → TreeLinks (network a) a.links-links.result.now
@@ -31,8 +32,8 @@ known a =
     let h = found a in
     tree-links _ _ (subst (λ (ts : List ℕ). is_tree (network a) ts ≡ true) (sym h.1) (passes (network a) a.args.r h.0))
 
-pub first-found-requires : goal.first-found-requires
-first-found-requires c = growable c.args.net.plannable
+pub of-trees-requires : goal.of-trees-requires
+of-trees-requires c = growable c.args.net.plannable
 
 pub copy_in-requires : goal.copy_in-requires
 copy_in-requires c =
@@ -49,37 +50,44 @@ returns-then-left-eq0-clause-reply c =
     let a = (goal.at.returns-then-left-eq0-clause-reply c).After-links-links in
     let h = found a in
     (handed (network a) c.args.r c.args.tree.now _ _ _ h.0 h.1 (c.tree_costs.ensures ∙ costs-net _ _ _ _ c.args.net.plannable _)
-    (c.copy_in.ensures ∙ ap (λ (t : List ℕ). overwrite t 0 c.links-links.result.now) c.loop-found.invariant.0)).0
+    (c.copy_in.ensures ∙ ap (λ (t : List ℕ). overwrite t 0 c.links-links.result.now) c.loop-trees.invariant.0)).0
 
 pub returns-then-left-eq0-clause-leaves : goal.returns-then-left-eq0-clause-leaves
 returns-then-left-eq0-clause-leaves c =
     let a = (goal.at.returns-then-left-eq0-clause-leaves c).After-links-links in
     let h = found a in
     (handed (network a) c.args.r c.args.tree.now _ _ _ h.0 h.1 (c.tree_costs.ensures ∙ costs-net _ _ _ _ c.args.net.plannable _)
-    (c.copy_in.ensures ∙ ap (λ (t : List ℕ). overwrite t 0 c.links-links.result.now) c.loop-found.invariant.0)).1
+    (c.copy_in.ensures ∙ ap (λ (t : List ℕ). overwrite t 0 c.links-links.result.now) c.loop-trees.invariant.0)).1
 
-pub loop-found-smaller : goal.loop-found-smaller
-loop-found-smaller c = omega (arith, ap length (ahead-some _ c.in-Some.is), ap length c.following-found.ensures)
+pub loop-trees-init : goal.loop-trees-init
+loop-trees-init c =
+    let yard = c.of-trees.ensures in
+    let none : c.args.r - c.args.r ≡ 0 = omega arith in
+    (refl, omega arith, rw none (rw (yard.0, yard.1) at c.first.ensures.trees))
 
-pub loop-found-preserved : goal.loop-found-preserved
-loop-found-preserved c =
+pub loop-trees-smaller : goal.loop-trees-smaller
+loop-trees-smaller c = omega (arith, ap length (ahead-some c.loop-trees.trees c.loop-trees-test.true), ap length c.advance.ensures.trees)
+
+pub loop-trees-preserved : goal.loop-trees-preserved
+loop-trees-preserved c =
     let net = net_of c.args.net.shape c.args.net.ends.now c.args.net.sums.now c.args.net.costs.now in
-    let v = c.loop-found in (
+    let v = c.loop-trees in (
       v.invariant.0,
       omega (arith, v.invariant.1),
-      passed net c.args.r v.left (omega (arith, c.if-left-eq0.false)) v.invariant.1 (v.invariant.2 ∙ ahead-some _ c.in-Some.is) ∙ c.following-found.ensures,
+      passed net c.args.r v.left (omega (arith, c.if-left-eq0.false)) v.invariant.1 (v.invariant.2 ∙ ahead-some v.trees c.loop-trees-test.true)
+          ∙ c.advance.ensures.trees,
     )
 
 pub returns-clause-reply : goal.returns-clause-reply
 returns-clause-reply c =
     let net = net_of c.args.net.shape c.args.net.ends.now c.args.net.sums.now c.args.net.costs.now in
-    let v = c.loop-found in
-    let none = v.invariant.2 ∙ sym (ahead-none c.in_default.is) in
+    let v = c.loop-trees in
+    let none = v.invariant.2 ∙ ahead-none c.loop-trees.trees c.loop-trees-test.false in
     rw c.of.ensures (not_there net c.args.r c.args.tree.now (past-last net c.args.r v.left none)).0
 
 pub returns-clause-leaves : goal.returns-clause-leaves
 returns-clause-leaves c =
     let net = net_of c.args.net.shape c.args.net.ends.now c.args.net.sums.now c.args.net.costs.now in
-    let v = c.loop-found in
-    let none = v.invariant.2 ∙ sym (ahead-none c.in_default.is) in
+    let v = c.loop-trees in
+    let none = v.invariant.2 ∙ ahead-none c.loop-trees.trees c.loop-trees-test.false in
     v.invariant.0 ∙ (not_there net c.args.r c.args.tree.now (past-last net c.args.r v.left none)).1

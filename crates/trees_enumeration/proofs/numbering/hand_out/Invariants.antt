@@ -6,9 +6,9 @@ use Rattle.trees_enumeration.specs.Enumerated.{ahead}
 use Rattle.trees_enumeration.specs.Growing.{trees_in}
 use Rattle.trees_enumeration.proofs.numbering.hand_out.Given as goal
 
-abbrev pub invariant-loop-found : goal.invariant-loop-found
-invariant-loop-found l =
-    (l.tree ≡ l.fn.tree) × (l.left ≤ l.r) × (drop (l.r - l.left) (trees_in l.net.shape l.net.ends.now) ≡ ahead l.found)
+abbrev pub invariant-loop-trees : goal.invariant-loop-trees
+invariant-loop-trees l =
+    (l.tree ≡ l.fn.tree) × (l.left ≤ l.r) × (drop (l.r - l.left) (trees_in l.net.shape l.net.ends.now) ≡ ahead l.trees)
 
-abbrev pub decreases-loop-found : goal.decreases-loop-found
-decreases-loop-found l = length (ahead l.found)
+abbrev pub decreases-loop-trees : goal.decreases-loop-trees
+decreases-loop-trees l = length (ahead l.trees)

@@ -24,11 +24,11 @@ use Rattle.network.proofs.Resting.{joins-within, working-apart, working-few}
 use Rattle.network.specs.Shaped.{Plannable}
 use Rattle.network.specs.Yard.{ends_at, usable_at, working}
 use Rattle.network.specs.declared.Shape.{Shape}
-use Rattle.forest.specs.Groups.{Led, joined, leaders-joined, leaders-test}
-use Rattle.forest.specs.History.{groups-labels, groups-led, groups-more, groups_after}
+use Rattle.forest.specs.Groups.{Led, joined, leaders-test}
+use Rattle.forest.specs.History.{groups-labels, groups_after}
 use Rattle.forest.specs.declared.Forest.{Forest}
 use Rattle.trees_drawn.specs.Drawn.{Drawable, drawable}
-use Rattle.trees_enumeration.specs.History.{Recorded, groups-recorded, groups_at, recorded-fewer, recorded_more}
+use Rattle.trees_enumeration.specs.History.{Recorded, groups-recorded, groups_at, joined-after, led-after, recorded-fewer, recorded_more}
 
 -- all trees of a shape and its ends, in dictionary order
 abbrev pub trees_in : Shape → List ℕ → List (List ℕ)
@@ -69,10 +69,16 @@ pub record Standing (m t : ℕ) (ends : List ℕ) (taken link : ℕ) (links : Li
   pub rows : Recorded ends (take taken links) history
 
 -- those that are taken are a tree, with the groups after each but the last
-pub record Whole (shape : Shape) (ends : List ℕ) (taken : ℕ) (links : List ℕ) (history : List Forest) : Type 0 where
+pub record TreeTaken (shape : Shape) (ends : List ℕ) (taken : ℕ) (links : List ℕ) (history : List Forest) : Type 0 where
   pub all : taken ≡ shape.t
   pub known : (c : ℕ) → c ∈ take shape.t links → c < shape.m
   pub rows : Recorded ends (take (shape.t - 1) links) history
+
+-- those that are taken are a tree, with the groups after each
+pub record Whole (shape : Shape) (ends : List ℕ) (taken : ℕ) (links : List ℕ) (history : List Forest) : Type 0 where
+  pub all : taken ≡ shape.t
+  pub known : (c : ℕ) → c ∈ take taken links → c < shape.m
+  pub rows : Recorded ends (take taken links) history
 
 -- the trees that are still to come from a branch on
 unfoldable pub coming : ℕ → ℕ → ℕ → List ℕ → ℕ → ℕ → List ℕ → List (List ℕ)
@@ -94,7 +100,7 @@ ahead_from shape ends false links = []
 -- a search through some trees has come to the first of them, or has found that there is none
 pub record Reached (shape : Shape) (ends : List ℕ) (all : List (List ℕ)) (found : Bool) (taken : ℕ) (links : List ℕ) (history : List Forest) : Type 0 where
   pub trees : all ≡ ahead_from shape ends found links
-  pub whole : found ≡ true → Whole shape ends taken links history
+  pub whole : found ≡ true → TreeTaken shape ends taken links history
 
 -- the same trees, found from elsewhere on
 pub reached-from : {shape : Shape} {ends : List ℕ} {from all : List (List ℕ)} {found : Bool} {taken : ℕ} {links : List ℕ} {history : List Forest} → all ≡ from
@@ -129,7 +135,7 @@ one_more : (l : List ℕ) (k e : ℕ) → k < length l → take (k + 1) (set l k
 one_more l k e h = rw (add-one k) (take-suc-set l k e h)
 
 -- the last link taken
-last_taken : (l : List ℕ) (k : ℕ) → 0 < k → k ≤ length l → take k l ≡ take (k - 1) l ++ (get_or l (k - 1) 0 ∷ [])
+pub last_taken : (l : List ℕ) (k : ℕ) → 0 < k → k ≤ length l → take k l ≡ take (k - 1) l ++ (get_or l (k - 1) 0 ∷ [])
 last_taken l zero h g = absurd (omega arith)
 last_taken l (suc k) h g = let e : suc k - 1 ≡ k = omega arith in rw e (take-suc l k 0 (omega arith))
 
@@ -176,7 +182,7 @@ module _ (shape : Shape) (ends : List ℕ) (can : Growable shape ends) where
 
   module _ {links : List ℕ} {history : List Forest} (lent : Roomy shape links history) where
     -- from a tree on: its last link is left instead
-    pub whole-standing : {taken : ℕ} → 0 < taken → Whole shape ends taken links history
+    pub whole-standing : {taken : ℕ} → 0 < taken → TreeTaken shape ends taken links history
         → Standing shape.m shape.t ends (taken - 1) (get_or links (taken - 1) 0 + 1) links history
     whole-standing some w =
         let all = w.all in
@@ -204,7 +210,7 @@ module _ (shape : Shape) (ends : List ℕ) (can : Growable shape ends) where
       groups-here = ap (groups_at history) (sym count) ∙ groups-recorded ends (take taken links) history at.rows
 
       pub led-here : {f : Forest} → f ≡ groups_after ends (take taken links) → Led f
-      led-here is = subst⁻¹ Led is (groups-led ends (take taken links) near)
+      led-here is = led-after ends (take taken links) near is
 
       -- no links are a tree
       pub reached-empty : shape.t ≤ taken → Reached shape ends (coming shape.rest shape.m shape.t ends taken link links) true taken links history
@@ -314,14 +320,7 @@ module _ (shape : Shape) (ends : List ℕ) (can : Growable shape ends) where
           -- the groups with it, as the program joins them
           pub more-groups : {f f' : Forest} {new old : ℕ} → f ≡ groups_after ends (take taken links) → new ≡ label_of f.leader (ends_at ends link).a
               → old ≡ label_of f.leader (ends_at ends link).b → f' ≡ joined f new old → f' ≡ groups_after ends (take (taken + 1) (set links taken link))
-          more-groups {f} is p q e =
-              let a = (ends_at ends link).a in
-              let b = (ends_at ends link).b in
-              e
-              ∙ leaders-joined f a b p q (led-here is)
-              ∙ ap (λ (g : Forest). joined g a b) is
-              ∙ sym (groups-more ends (take taken links) link)
-              ∙ ap (groups_after ends) (sym more)
+          more-groups is p q e = joined-after ends (take taken links) near is link p q e ∙ ap (groups_after ends) (sym more)
 
           more-known : (c : ℕ) → c ∈ take (taken + 1) (set links taken link) → c < shape.m
           more-known c m = go (Memᴰ.append_cases (take taken links) (subst (λ (ts : List ℕ). c ∈ ts) more m))

@@ -1,11 +1,16 @@
 -- The groups after each link that is taken, as an array has them.
 use Rattle.std.specs.Prelude.{ℕ, zero, suc, ◌+◌, ◌-◌, ◌≤◌, ◌<◌, ◌≡◌, refl, length, set, take, get_or}
-use Rattle.std.proofs.Math.Path.{ap}
+use Rattle.std.proofs.Math.Path.{ap, subst⁻¹}
 use mathlib.Core.List.{List, [], ◌∷◌, ◌++◌}
 use Rattle.std.proofs.Common.{⊎_elim, sym, ◌∙◌, eq-or-lt_of_le, le_of_suc-le-suc, take_all, get_or-set_other, get_or-set_same, add-one, arith, length-append, length-set}
 use Rattle.std.proofs.lemmas.List.{take-append-le}
-use Rattle.forest.specs.Groups.{apart, nobody}
-use Rattle.forest.specs.History.{groups_after}
+use Rattle.order.specs.Lists.{◌∈◌}
+use Rattle.spanning.specs.LabelList.{label_of}
+use Rattle.spanning.specs.Tree.{EndsBelow}
+use Rattle.network.specs.Capacities.{stations_held}
+use Rattle.network.specs.Yard.{ends_at}
+use Rattle.forest.specs.Groups.{Led, apart, joined, leaders-joined, nobody}
+use Rattle.forest.specs.History.{groups-led, groups-more, groups_after}
 use Rattle.forest.specs.declared.Forest.{Forest}
 
 -- an array has the groups after each link of a list
@@ -27,6 +32,18 @@ pub groups_some : (history : List Forest) (count : ℕ) → (count ≡ 0 → ⊥
 unfolding groups_at
 groups_some history zero n = absurd (n refl)
 groups_some history (suc k) n = let e : suc k - 1 ≡ k = omega arith in rw e
+
+-- the groups of a list between stations, and with a link more, as the program joins them
+module _ (ends l : List ℕ) (near : (c : ℕ) → c ∈ l → EndsBelow stations_held (ends_at ends c)) {f : Forest} (is : f ≡ groups_after ends l) where
+  pub led-after : Led f
+  led-after = subst⁻¹ Led is (groups-led ends l near)
+
+  pub joined-after : (e : ℕ) {f' : Forest} {new old : ℕ} → new ≡ label_of f.leader (ends_at ends e).a → old ≡ label_of f.leader (ends_at ends e).b
+      → f' ≡ joined f new old → f' ≡ groups_after ends (l ++ (e ∷ []))
+  joined-after e p q j =
+      let a = (ends_at ends e).a in
+      let b = (ends_at ends e).b in
+      j ∙ leaders-joined f a b p q led-after ∙ ap (λ (g : Forest). joined g a b) is ∙ sym (groups-more ends l e)
 
 -- a link more
 module _ {ends l : List ℕ} {history : List Forest} (e : ℕ) {f : Forest} (R : Recorded ends l history) (room : length l + 1 ≤ length history)

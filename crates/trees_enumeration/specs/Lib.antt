@@ -4,6 +4,8 @@ pub mod Growing
 pub mod History
 -- the links that it has taken
 pub mod Taken
+-- a tree with its last link taken once more, and the groups after it
+pub mod Retaken
 -- the trees from one that was found on
 pub mod Enumerated
 -- tree r handed out

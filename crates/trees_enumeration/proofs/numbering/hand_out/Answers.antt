@@ -11,7 +11,7 @@ use Rattle.network.specs.Network.{Network}
 use Rattle.network.specs.Shaped.{net_of}
 use Rattle.network.specs.Yard.{is_tree}
 use Rattle.trees_costs.specs.TreeCosts.{TreeLinks, costs-net, priceable, tree-links}
-use Rattle.trees_enumeration.specs.Enumerated.{ahead-none, ahead-some}
+use Rattle.trees_enumeration.specs.Enumerated.{ahead_in-none, ahead_in-some}
 use Rattle.trees_enumeration.specs.Growing.{growable}
 use Rattle.trees_enumeration.specs.Numbering.{at_last, handed, not_there, passed, passes, past-last}
 use Rattle.trees_enumeration.proofs.numbering.hand_out.Goals as goal
@@ -24,7 +24,7 @@ network a = net_of a.args.net.shape a.args.net.ends.now a.args.net.sums.now a.ar
 found : (a : After-links-links) → (a.args.r < tree_count (network a)) × (a.links-links.result.now ≡ tree_at (network a) a.args.r)
 found a =
     let v = a.loop-trees in
-    let h = at_last (network a) a.args.r v.left a.if-left-eq0.true (v.invariant.2 ∙ ahead-some v.trees a.loop-trees-test.true) in
+    let h = at_last (network a) a.args.r v.left a.if-left-eq0.true (v.invariant.2 ∙ ahead_in-some v.trees a.loop-trees-test.true) in
     (h.0, a.links-links.ensures ∙ sym h.1)
 
 known : (a : After-links-links) → TreeLinks (network a) a.links-links.result.now
@@ -66,7 +66,7 @@ loop-trees-init c =
     (refl, omega arith, rw none (rw (yard.0, yard.1) at c.first.ensures.trees))
 
 pub loop-trees-smaller : goal.loop-trees-smaller
-loop-trees-smaller c = omega (arith, ap length (ahead-some c.loop-trees.trees c.loop-trees-test.true), ap length c.advance.ensures.trees)
+loop-trees-smaller c = omega (arith, ap length (ahead_in-some c.loop-trees.trees c.loop-trees-test.true), ap length c.advance.ensures.trees)
 
 pub loop-trees-preserved : goal.loop-trees-preserved
 loop-trees-preserved c =
@@ -74,7 +74,7 @@ loop-trees-preserved c =
     let v = c.loop-trees in (
       v.invariant.0,
       omega (arith, v.invariant.1),
-      passed net c.args.r v.left (omega (arith, c.if-left-eq0.false)) v.invariant.1 (v.invariant.2 ∙ ahead-some v.trees c.loop-trees-test.true)
+      passed net c.args.r v.left (omega (arith, c.if-left-eq0.false)) v.invariant.1 (v.invariant.2 ∙ ahead_in-some v.trees c.loop-trees-test.true)
           ∙ c.advance.ensures.trees,
     )
 
@@ -82,12 +82,12 @@ pub returns-clause-reply : goal.returns-clause-reply
 returns-clause-reply c =
     let net = net_of c.args.net.shape c.args.net.ends.now c.args.net.sums.now c.args.net.costs.now in
     let v = c.loop-trees in
-    let none = v.invariant.2 ∙ ahead-none c.loop-trees.trees c.loop-trees-test.false in
+    let none = v.invariant.2 ∙ ahead_in-none c.loop-trees.trees c.loop-trees-test.false in
     rw c.of.ensures (not_there net c.args.r c.args.tree.now (past-last net c.args.r v.left none)).0
 
 pub returns-clause-leaves : goal.returns-clause-leaves
 returns-clause-leaves c =
     let net = net_of c.args.net.shape c.args.net.ends.now c.args.net.sums.now c.args.net.costs.now in
     let v = c.loop-trees in
-    let none = v.invariant.2 ∙ ahead-none c.loop-trees.trees c.loop-trees-test.false in
+    let none = v.invariant.2 ∙ ahead_in-none c.loop-trees.trees c.loop-trees-test.false in
     v.invariant.0 ∙ (not_there net c.args.r c.args.tree.now (past-last net c.args.r v.left none)).1

@@ -4,13 +4,10 @@ use Rattle.std.proofs.Math.Path.{ap, subst⁻¹}
 use mathlib.Core.List.{List, [], ◌∷◌, ◌++◌}
 use Rattle.std.proofs.Common.{⊎_elim, sym, ◌∙◌, eq-or-lt_of_le, le_of_suc-le-suc, take_all, get_or-set_other, get_or-set_same, add-one, arith, length-append, length-set}
 use Rattle.std.proofs.lemmas.List.{take-append-le}
-use Rattle.order.specs.Lists.{◌∈◌}
 use Rattle.spanning.specs.LabelList.{label_of}
-use Rattle.spanning.specs.Tree.{EndsBelow}
-use Rattle.network.specs.Capacities.{stations_held}
 use Rattle.network.specs.Yard.{ends_at}
 use Rattle.forest.specs.Groups.{Led, apart, joined, leaders-joined, nobody}
-use Rattle.forest.specs.History.{groups-led, groups-more, groups_after}
+use Rattle.forest.specs.History.{Near, groups-led, groups-more, groups_after}
 use Rattle.forest.specs.declared.Forest.{Forest}
 
 -- an array has the groups after each link of a list
@@ -34,7 +31,7 @@ groups_some history zero n = absurd (n refl)
 groups_some history (suc k) n = let e : suc k - 1 ≡ k = omega arith in rw e
 
 -- the groups of a list between stations, and with a link more, as the program joins them
-module _ (ends l : List ℕ) (near : (c : ℕ) → c ∈ l → EndsBelow stations_held (ends_at ends c)) {f : Forest} (is : f ≡ groups_after ends l) where
+module _ (ends l : List ℕ) (near : Near ends l) {f : Forest} (is : f ≡ groups_after ends l) where
   pub led-after : Led f
   led-after = subst⁻¹ Led is (groups-led ends l near)
 

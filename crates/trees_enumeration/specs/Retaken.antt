@@ -7,12 +7,10 @@ use Rattle.std.proofs.Math.Seq.{length-take-le}
 use Rattle.std.proofs.lemmas.List.{set-get_or}
 use Rattle.order.specs.Lists.{◌∈◌}
 use Rattle.spanning.specs.LabelList.{label_of}
-use Rattle.spanning.specs.Tree.{EndsBelow}
-use Rattle.network.specs.Capacities.{stations_held}
 use Rattle.network.specs.Yard.{ends_at}
 use Rattle.network.specs.declared.Shape.{Shape}
 use Rattle.forest.specs.Groups.{Led, joined}
-use Rattle.forest.specs.History.{groups_after}
+use Rattle.forest.specs.History.{Near, groups_after}
 use Rattle.forest.specs.declared.Forest.{Forest}
 use Rattle.trees_enumeration.specs.Growing.{Growable, Roomy, Standing, TreeTaken, Whole, groups-here, last_taken, whole-standing}
 use Rattle.trees_enumeration.specs.History.{Recorded, groups_at, joined-after, led-after, recorded_more}
@@ -32,7 +30,7 @@ whole-none {shape} {ends} {links} {history} {taken} tree none =
 module _ (shape : Shape) (ends : List ℕ) (can : Growable shape ends) {links : List ℕ} {history : List Forest} (lent : Roomy shape links history) where
   module _ {taken : ℕ} (tree : TreeTaken shape ends taken links history) (some : 0 < taken) {e : ℕ} (last : e ≡ get_or links (taken - 1) 0) where
     -- the ends of links are stations
-    near : (c : ℕ) → c ∈ take (taken - 1) links → EndsBelow stations_held (ends_at ends c)
+    near : Near ends (take (taken - 1) links)
     near c m = can.drawable.stations.within c
 
     -- without the last link
@@ -65,9 +63,11 @@ module _ (shape : Shape) (ends : List ℕ) (can : Growable shape ends) {links : 
         last_taken links taken some (omega (arith, size, lent.room)) ∙ ap (λ (c : ℕ). front ++ (c ∷ [])) (sym last) in
         let count : length front ≡ taken - 1 = length-take-le (taken - 1) links (omega (arith, size, lent.room)) in
         let fits : length front + 1 ≤ length history = omega (arith, count, size, lent.rows, some) in
+        let rows : Recorded ends (front ++ (e ∷ [])) (set history (length front) f') =
+        recorded_more e before.rows fits (joined-after ends front near (here is) e p q j) in
         rw (all, same-links) (record {
           all = size;
           known = subst (λ (n : ℕ). (c : ℕ) → c ∈ take n links → c < shape.m) (sym size) tree.known;
           rows = subst (λ (ts : List ℕ). Recorded ends ts (set history (taken - 1) f')) (sym parted)
-              (subst (λ (n : ℕ). Recorded ends (front ++ (e ∷ [])) (set history n f')) count (recorded_more e before.rows fits (joined-after ends front near (here is) e p q j)));
+              (subst (λ (n : ℕ). Recorded ends (front ++ (e ∷ [])) (set history n f')) count rows);
         })

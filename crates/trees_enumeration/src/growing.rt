@@ -1,5 +1,5 @@
 // The trees of a yard one after another: links are gone through in order, and each that is usable and joins two groups is first taken and later left.
-ghost use Rattle.std.specs.Prelude.{◌≡◌, true};
+ghost use Rattle.std.specs.Prelude.{◌≡◌, true, IfSome};
 ghost use Rattle.trees_enumeration.specs.Growing.{Growable, Reached, Standing, TreeTaken, Whole, coming, trees_in};
 
 use crate::taken::Taken;
@@ -117,7 +117,8 @@ impl<'a> Tree<'a> {
     // The first tree of a yard.
     pub fn first(shape: Shape, ends: &'a [u8]) -> Option<Tree<'a>>
         requires { Growable shape ends.now }
-        ensures { trees_in shape ends.now ≡ ahead result }
+        ensures trees { trees_in shape ends.now ≡ ahead result }
+        ensures yard { IfSome result (λ tree. (tree.shape ≡ shape) × (tree.ends.now ≡ ends.now)) }
     {
         let mut trees = Trees::of(shape, ends);
         trees.first();
@@ -126,7 +127,8 @@ impl<'a> Tree<'a> {
 
     // The next tree.
     pub fn following(self) -> Option<Tree<'a>>
-        ensures { later_than self.entry ≡ ahead result }
+        ensures trees { later_than self.entry ≡ ahead result }
+        ensures yard { IfSome result (λ tree. (tree.shape ≡ self.entry.shape) × (tree.ends.now ≡ self.entry.ends.now)) }
     {
         let mut trees = Trees {
             shape: self.shape,
@@ -147,7 +149,8 @@ impl<'a> Tree<'a> {
 
     // The tree that a search has come to, if any: its last link is taken once more, with the groups after it.
     fn of(trees: Trees<'a>) -> Option<Tree<'a>>
-        ensures { ahead_in trees.entry ≡ ahead result }
+        ensures trees { ahead_in trees.entry ≡ ahead result }
+        ensures yard { IfSome result (λ tree. (tree.shape ≡ trees.entry.shape) × (tree.ends.now ≡ trees.entry.ends.now)) }
     {
         if !trees.found {
             return None;

@@ -24,8 +24,8 @@ known trees room found is =
     let inside = last-known _ _ trees.growable room (trees.whole found) last.0 last.1 in
     omega (arith, inside, trees.growable.size)
 
-pub returns-then-not-trees : goal.returns-then-not-trees
-returns-then-not-trees c = ahead_in-none c.args.trees c.if-not-trees.true ∙ ahead-none refl
+pub returns-then-not-trees-clause-trees : goal.returns-then-not-trees-clause-trees
+returns-then-not-trees-clause-trees c = ahead_in-none c.args.trees c.if-not-trees.true ∙ ahead-none refl
 
 pub bounds-ends-link : goal.bounds-ends-link
 bounds-ends-link c =
@@ -48,6 +48,7 @@ join-requires c =
     let groups = rw (left.others.1, left.others.2) at c.groups-groups.ensures in
     let lead = leaders-lead c.groups-groups.result _ _ c.find-new.ensures c.find-old.ensures
     (led-before _ _ trees.growable room (trees.whole c.if-not-trees.false) last.0 last.1 groups) in
+    -- each half of the goal is one of these two, whichever leaders are joined
     let new = lead.0 in
     let old = lead.1 in
     (cc, cc)
@@ -74,8 +75,8 @@ invariant_of-result c =
       ];
     }
 
-pub returns : goal.returns
-returns c =
+pub returns-clause-trees : goal.returns-clause-trees
+returns-clause-trees c =
     let trees = c.args.trees in
     let found = c.if-not-trees.false in
     let room : Roomy trees.shape trees.taken.links trees.taken.history = roomy trees.growable (search rules) (search rules) in
